@@ -4,7 +4,7 @@ use Rattle.std.specs.Int.{w32, w64, from_le_bytes}
 use Rattle.std.proofs.lemmas.Bool.{le-ltb, ne_eqb}
 use Rattle.std.proofs.lemmas.List.{take_at, drop_at, length-append, length-drop, drop-drop, drop_all, take-append-le, drop-append-le}
 use Rattle.adb_block.specs.Container.{IsHead, IsShortHead, IsLongHead, IsPadding, IsBlock, MayFollow, HasBlockBefore}
-use Rattle.adb_block.specs.Piece.{Piece, kind_number, may_be_next_kind, least_payload_len, padding_of}
+use Rattle.adb_block.specs.BlockWithoutOffset.{BlockWithoutOffset, kind_number, may_be_next_kind, least_payload_len, padding_of}
 use Rattle.adb_block.specs.Header.{word_at, eight_byte_number_at}
 use Rattle.adb_block.specs.Framing.{HeadFields, block_head_fields, kind_of_number, ended, block, next_block_result_by_kind_order, next_block_result_at_offset}
 use Rattle.adb_block.specs.declared.block.BlockKind.{BlockKind}
@@ -98,10 +98,10 @@ skip_again head payload pad rest h len e f p =
     one ∙ ap (λ (x : List ℕ). drop (padding_of (h + len)) (drop len x)) two ∙ ap (drop (padding_of (h + len))) three ∙ rest_again (h + len) pad rest p
 
 -- so many bytes does a block take with its padding
-abbrev pub size_of : (b : Piece) (bytes rest : List ℕ) → IsBlock b bytes rest → ℕ
+abbrev pub size_of : (b : BlockWithoutOffset) (bytes rest : List ℕ) → IsBlock b bytes rest → ℕ
 size_of b bytes rest is = header_len is.is_head + length b.payload + padding_of (header_len is.is_head + length b.payload)
 
-pub step_again : (last : Option BlockKind) (at : ℕ) (bytes : List ℕ) (b : Piece) (rest : List ℕ) → MayFollow last b → IsBlock b bytes rest → (size : ℕ) × (next_block_result_at_offset last at bytes ≡ block b size) × (drop size bytes ≡ rest)
+pub step_again : (last : Option BlockKind) (at : ℕ) (bytes : List ℕ) (b : BlockWithoutOffset) (rest : List ℕ) → MayFollow last b → IsBlock b bytes rest → (size : ℕ) × (next_block_result_at_offset last at bytes ≡ block b size) × (drop size bytes ≡ rest)
 step_again last at bytes b rest m is =
     let len = length b.payload in
     let h : ℕ = header_len is.is_head in
@@ -117,7 +117,7 @@ step_again last at bytes b rest m is =
     let skipped = skip_again is.head b.payload is.pad rest h len head_len refl pad in
     let piece_is : record { kind = b.kind; payload = take len (drop h (is.head ++ more)) } ≡ b = ap (λ (x : List ℕ). record { kind = b.kind; payload = x }) payload in (
       h + len + padding_of (h + len),
-      ap (next_block_result_at_offset last at) is.parts ∙ stepped ∙ passed ∙ ap (λ (p : Piece). block p (h + len + padding_of (h + len))) piece_is,
+      ap (next_block_result_at_offset last at) is.parts ∙ stepped ∙ passed ∙ ap (λ (p : BlockWithoutOffset). block p (h + len + padding_of (h + len))) piece_is,
       ap (drop (h + len + padding_of (h + len))) is.parts ∙ skipped,
     )
   where

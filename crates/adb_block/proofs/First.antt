@@ -4,13 +4,13 @@ use Rattle.std.proofs.lemmas.Bool.{cases_lt, ltb-true, eqb-true, or_cases}
 use Rattle.std.proofs.lemmas.List.{length-drop, drop_all, nil_from_length}
 use Rattle.base_core.specs.declared.Cause.{Cause}
 use Rattle.base_core.specs.declared.Cause.TheVariants.{Truncated, BlockOrder}
-use Rattle.adb_block.specs.Piece.{Piece, may_be_next_kind, least_payload_len}
+use Rattle.adb_block.specs.BlockWithoutOffset.{BlockWithoutOffset, may_be_next_kind, least_payload_len}
 use Rattle.adb_block.specs.Container.{IsBlock, MayFollow}
 use Rattle.adb_block.specs.Header.{schema_of_header}
-use Rattle.adb_block.specs.Framing.{HeadFields, block_head_fields, kind_of_number, NextBlockResult, ended, failed, block, next_block_result_by_size, next_block_result_by_kind_order, next_block_result_by_header, next_block_result_at_file_end, next_block_result_at_offset}
-use Rattle.adb_block.specs.FirstFraming.{BeginWithBlocks, last_kind, IsWrongSize, HaveBlockFault, IsFirstFramingFault}
-use Rattle.adb_block.specs.ReaderPosition.{first_block_position_of_schema_and_file}
-use Rattle.adb_block.specs.Reading.{block_stream_after_result, bounded_block_stream_from_offset, block_stream_from}
+use Rattle.adb_block.specs.Framing.{HeadFields, block_head_fields, kind_of_number, NextBlockResult, ended, failed, block, next_block_result_by_raw_size, next_block_result_by_kind_order, next_block_result_by_header, next_block_result_at_file_end, next_block_result_at_offset}
+use Rattle.adb_block.specs.FirstFraming.{BeginWithBlocks, last_kind, IsWrongSize, HaveBlockFault, IsFirstBlockFramingFault}
+use Rattle.adb_block.specs.PositionBetweenBlocks.{first_block_position_of_schema_and_file}
+use Rattle.adb_block.specs.Reading.{block_stream_with_rest_by_padded_size, bounded_block_stream_from_offset, block_stream_from}
 use Rattle.adb_block.specs.AllBlocks.{with_block, blocks_of_stream, blocks_from_position, blocks_of}
 use Rattle.adb_block.specs.declared.block.BlockKind.{BlockKind}
 use Rattle.adb_block.proofs.Choices.{chosen}
@@ -20,7 +20,7 @@ use Rattle.adb_block.proofs.WholeFiles.{header_sound, whole_from}
 
 -- ---- one block
 
-sized_failed : (at : ℕ) (bytes : List ℕ) (h : HeadFields) (k : BlockKind) (c : Cause) → next_block_result_by_size at bytes h k ≡ failed c → IsWrongSize h k bytes × (c ≡ Truncated at)
+sized_failed : (at : ℕ) (bytes : List ℕ) (h : HeadFields) (k : BlockKind) (c : Cause) → next_block_result_by_raw_size at bytes h k ≡ failed c → IsWrongSize h k bytes × (c ≡ Truncated at)
 sized_failed at bytes h k c e =
     elim (chosen (ltb h.raw h.len || ltb (length bytes) h.raw) _ _ _ e) [
       | inl x ↦
@@ -74,18 +74,18 @@ step_failed last at bytes c e =
 
 -- blocks, and after them the fault
 record Fails (total : ℕ) (last : Option BlockKind) (bytes : List ℕ) (c : Cause) : Type 0 where
-  pub blocks : List Piece
+  pub blocks : List BlockWithoutOffset
   pub rest : List ℕ
   pub before : BeginWithBlocks last bytes blocks rest
   pub at : ℕ
   pub located : at + length rest ≡ total
   pub fault : HaveBlockFault (last_kind last blocks) at rest c
 
-with_err : (b : Piece) (r : Result (List Piece) Cause) (c : Cause) → with_block b r ≡ Err c → r ≡ Err c
+with_err : (b : BlockWithoutOffset) (r : Result (List BlockWithoutOffset) Cause) (c : Cause) → with_block b r ≡ Err c → r ≡ Err c
 with_err b (Ok bs) c e = absurd cc
 with_err b (Err d) c e = e
 
-fails_behind : (total : ℕ) (last : Option BlockKind) (bytes : List ℕ) (c : Cause) (b : Piece) (behind : List ℕ) → MayFollow last b → IsBlock b bytes behind → Fails total (Some b.kind) behind c → Fails total last bytes c
+fails_behind : (total : ℕ) (last : Option BlockKind) (bytes : List ℕ) (c : Cause) (b : BlockWithoutOffset) (behind : List ℕ) → MayFollow last b → IsBlock b bytes behind → Fails total (Some b.kind) behind c → Fails total last bytes c
 fails_behind total last bytes c b behind may is f =
     record { blocks = b ∷ f.blocks; rest = f.rest; before = (behind, may, is, f.before); at = f.at; located = f.located; fault = f.fault }
 
@@ -110,7 +110,7 @@ after_fails n total kind at size bytes c ih enough sum e =
     ]
 
 stepped_fails : (n total : ℕ) (last : Option BlockKind) (at : ℕ) (bytes : List ℕ) (c : Cause) → FailsLater n total c → length bytes < suc n → at + length bytes ≡ total → (s : NextBlockResult) → next_block_result_at_offset last at bytes ≡ s
-    → blocks_of_stream (block_stream_after_result at (λ b size. bounded_block_stream_from_offset n (Some b.kind) (at + size) (drop size bytes)) s) ≡ Err c → Fails total last bytes c
+    → blocks_of_stream (block_stream_with_rest_by_padded_size at (λ b size. bounded_block_stream_from_offset n (Some b.kind) (at + size) (drop size bytes)) s) ≡ Err c → Fails total last bytes c
 stepped_fails n total last at bytes c ih enough sum ended is e = absurd cc
 stepped_fails n total last at bytes c ih enough sum (failed d) is e =
     let same : d ≡ c = cc in
@@ -133,7 +133,7 @@ rest_fails : (schema : ℕ) (file : List ℕ) (c : Cause) → 8 ≤ length file 
 unfolding blocks_from_position block_stream_from
 rest_fails schema file c long e = reading_fails (suc (length (drop 8 file))) (length file) None 8 (drop 8 file) c (omega arith) (omega (arith, length-drop 8 file)) e
 
-pub first_told : (file : List ℕ) (schema : ℕ) (c : Cause) → schema_of_header file ≡ Ok schema → blocks_of file ≡ Err c → IsFirstFramingFault file c
+pub first_told : (file : List ℕ) (schema : ℕ) (c : Cause) → schema_of_header file ≡ Ok schema → blocks_of file ≡ Err c → IsFirstBlockFramingFault file c
 first_told file schema c h e =
     let header = header_sound file schema h in
     let f = rest_fails schema file c header.whole (sym (whole_from file schema h) ∙ e) in

@@ -3,10 +3,10 @@ use Rattle.std.proofs.Common.{◌≡◌, ℕ, List, [], ◌∷◌, ◌++◌, tak
 use Rattle.std.specs.Prelude.{codes, slice_set}
 use Rattle.base_core.specs.declared.Cause.TheVariants.{NotAdb, Compressed, Truncated, BlockOrder}
 use Rattle.adb_block.specs.Container.{IsContainerWithBlocks}
-use Rattle.adb_block.specs.Piece.{Piece}
+use Rattle.adb_block.specs.BlockWithoutOffset.{BlockWithoutOffset}
 use Rattle.adb_block.specs.Header.{schema_of_header}
 use Rattle.adb_block.specs.Framing.{block_head_fields, next_block_result_at_offset}
-use Rattle.adb_block.specs.ReaderPosition.{first_block_position_of_schema_and_file}
+use Rattle.adb_block.specs.PositionBetweenBlocks.{first_block_position_of_schema_and_file}
 use Rattle.adb_block.specs.Reader.{reader_after_block, next_offset}
 use Rattle.adb_block.specs.Reading.{fault, more, bounded_block_stream_from_offset, block_stream_from}
 use Rattle.adb_block.specs.AllBlocks.{blocks_from_position, blocks_of}
@@ -29,13 +29,13 @@ signature = 8 ∷ 0 ∷ 0 ∷ 64 ∷ 1 ∷ 2 ∷ 3 ∷ 4 ∷ []
 abbrev contents : List ℕ
 contents = 5 ∷ 0 ∷ 0 ∷ 128 ∷ 9 ∷ []
 
-abbrev adb : Piece
+abbrev adb : BlockWithoutOffset
 adb = record { kind = Adb; payload = payload }
 
-abbrev signed : Piece
+abbrev signed : BlockWithoutOffset
 signed = record { kind = Signature; payload = 1 ∷ 2 ∷ 3 ∷ 4 ∷ [] }
 
-abbrev content : Piece
+abbrev content : BlockWithoutOffset
 content = record { kind = Contents; payload = 9 ∷ [] }
 
 -- ---- the header of the file

@@ -4,9 +4,9 @@ use Rattle.std.specs.Int.{w32, w64, from_le_bytes}
 use Rattle.std.proofs.lemmas.Bool.{cases_lt, ltb-false, eqb-true, or_parts}
 use Rattle.std.proofs.lemmas.List.{take-append-drop, length-take, length-drop, take-take, drop-drop, drop-take, drop_all, nil_from_length}
 use Rattle.adb_block.specs.Container.{IsHead, IsPadding, IsBlock, MayFollow, HasBlockBefore}
-use Rattle.adb_block.specs.Piece.{Piece, kind_number, may_be_next_kind, least_payload_len, padding_of}
+use Rattle.adb_block.specs.BlockWithoutOffset.{BlockWithoutOffset, kind_number, may_be_next_kind, least_payload_len, padding_of}
 use Rattle.adb_block.specs.Header.{word_at, eight_byte_number_at}
-use Rattle.adb_block.specs.Framing.{HeadFields, fields_of_short_head, fields_of_long_head, block_head_fields, kind_of_number, ended, block, next_block_result_by_size, next_block_result_by_kind_order, next_block_result_by_header, next_block_result_at_file_end, next_block_result_at_offset}
+use Rattle.adb_block.specs.Framing.{HeadFields, fields_of_short_head, fields_of_long_head, block_head_fields, kind_of_number, ended, block, next_block_result_by_raw_size, next_block_result_by_kind_order, next_block_result_by_header, next_block_result_at_file_end, next_block_result_at_offset}
 use Rattle.adb_block.specs.declared.block.BlockKind.{BlockKind}
 use Rattle.adb_block.specs.declared.block.BlockKind.TheVariants.{Adb, Signature, Contents}
 use Rattle.adb_block.proofs.Choices.{chosen}
@@ -87,7 +87,7 @@ kind_is (suc (suc zero)) Contents e = refl
 kind_is (suc (suc (suc n))) k e = absurd cc
 
 -- what the tests leave of a header and the block that they answer
-pub record Passes (last : Option BlockKind) (bytes : List ℕ) (h : HeadFields) (b : Piece) (size : ℕ) : Type 0 where
+pub record Passes (last : Option BlockKind) (bytes : List ℕ) (h : HeadFields) (b : BlockWithoutOffset) (size : ℕ) : Type 0 where
   pub order : may_be_next_kind last b.kind ≡ true
   pub enough : h.len ≤ h.raw
   pub fits : h.raw ≤ length bytes
@@ -95,7 +95,7 @@ pub record Passes (last : Option BlockKind) (bytes : List ℕ) (h : HeadFields) 
   pub payload_is : take (h.raw - h.len) (drop h.len bytes) ≡ b.payload
   pub size_is : h.raw + padding_of h.raw ≡ size
 
-sized_sound : (last : Option BlockKind) (at : ℕ) (bytes : List ℕ) (h : HeadFields) (k : BlockKind) (b : Piece) (size : ℕ) → may_be_next_kind last k ≡ true → next_block_result_by_size at bytes h k ≡ block b size → (k ≡ b.kind) × Passes last bytes h b size
+sized_sound : (last : Option BlockKind) (at : ℕ) (bytes : List ℕ) (h : HeadFields) (k : BlockKind) (b : BlockWithoutOffset) (size : ℕ) → may_be_next_kind last k ≡ true → next_block_result_by_raw_size at bytes h k ≡ block b size → (k ≡ b.kind) × Passes last bytes h b size
 sized_sound last at bytes h k b size o e =
     elim (chosen (ltb h.raw h.len || ltb (length bytes) h.raw) _ _ _ e) [
       | inl x ↦ absurd (let y = x.1 in cc)
@@ -103,7 +103,7 @@ sized_sound last at bytes h k b size o e =
         | inl y ↦ absurd (let z = y.1 in cc)
         | inr y ↦
             let parts = or_parts (ltb h.raw h.len) (ltb (length bytes) h.raw) x.0 in
-            let made : Piece = record { kind = k; payload = take (h.raw - h.len) (drop h.len bytes) } in
+            let made : BlockWithoutOffset = record { kind = k; payload = take (h.raw - h.len) (drop h.len bytes) } in
             let same : block made (h.raw + padding_of h.raw) ≡ block b size = y.1 in
             let b_is : made ≡ b = cc in
             let p : (k ≡ made.kind) × Passes last bytes h made size = (
@@ -117,11 +117,11 @@ sized_sound last at bytes h k b size o e =
                 size_is = cc;
               },
             ) in
-            subst (λ (q : Piece). (k ≡ q.kind) × Passes last bytes h q size) b_is p
+            subst (λ (q : BlockWithoutOffset). (k ≡ q.kind) × Passes last bytes h q size) b_is p
       ]
     ]
 
-ordered_sound : (last : Option BlockKind) (at : ℕ) (bytes : List ℕ) (h : HeadFields) (o : Option BlockKind) (b : Piece) (size : ℕ) → next_block_result_by_kind_order last at bytes h o ≡ block b size → (o ≡ Some b.kind) × Passes last bytes h b size
+ordered_sound : (last : Option BlockKind) (at : ℕ) (bytes : List ℕ) (h : HeadFields) (o : Option BlockKind) (b : BlockWithoutOffset) (size : ℕ) → next_block_result_by_kind_order last at bytes h o ≡ block b size → (o ≡ Some b.kind) × Passes last bytes h b size
 ordered_sound last at bytes h None b size e = absurd cc
 ordered_sound last at bytes h (Some k) b size e =
     elim (chosen (may_be_next_kind last k) _ _ _ e) [
@@ -148,7 +148,7 @@ is_padded bytes size raw e le =
       | inr ge ↦ inl (rw e (omega (arith, length-take (padding_of raw) (drop raw bytes), length-drop raw bytes)))
     ]
 
-passes_block : (last : Option BlockKind) (bytes : List ℕ) (h : HeadFields) (b : Piece) (size : ℕ) → Stands bytes h → h.kind ≡ kind_number b.kind → Passes last bytes h b size → MayFollow last b × IsBlock b bytes (drop size bytes)
+passes_block : (last : Option BlockKind) (bytes : List ℕ) (h : HeadFields) (b : BlockWithoutOffset) (size : ℕ) → Stands bytes h → h.kind ≡ kind_number b.kind → Passes last bytes h b size → MayFollow last b × IsBlock b bytes (drop size bytes)
 passes_block last bytes h b size located kind p =
     let enough = p.enough in
     let fits = p.fits in
@@ -166,17 +166,17 @@ passes_block last bytes h b size located kind p =
       },
     )
 
-headed_sound : (last : Option BlockKind) (at : ℕ) (bytes : List ℕ) (o : Option HeadFields) (b : Piece) (size : ℕ) → block_head_fields bytes ≡ o → next_block_result_by_header last at bytes o ≡ block b size → MayFollow last b × IsBlock b bytes (drop size bytes)
+headed_sound : (last : Option BlockKind) (at : ℕ) (bytes : List ℕ) (o : Option HeadFields) (b : BlockWithoutOffset) (size : ℕ) → block_head_fields bytes ≡ o → next_block_result_by_header last at bytes o ≡ block b size → MayFollow last b × IsBlock b bytes (drop size bytes)
 headed_sound last at bytes None b size i e = absurd cc
 headed_sound last at bytes (Some h) b size i e =
     let s = ordered_sound last at bytes h (kind_of_number h.kind) b size e in
     passes_block last bytes h b size (head_sound bytes h i) (kind_is h.kind b.kind s.0) s.1
 
-at_end_no_block : (last : Option BlockKind) (at : ℕ) (b : Piece) (size : ℕ) → next_block_result_at_file_end last at ≡ block b size → ⊥
+at_end_no_block : (last : Option BlockKind) (at : ℕ) (b : BlockWithoutOffset) (size : ℕ) → next_block_result_at_file_end last at ≡ block b size → ⊥
 at_end_no_block None at b size e = cc
 at_end_no_block (Some k) at b size e = cc
 
-pub step_sound : (last : Option BlockKind) (at : ℕ) (bytes : List ℕ) (b : Piece) (size : ℕ) → next_block_result_at_offset last at bytes ≡ block b size → MayFollow last b × IsBlock b bytes (drop size bytes)
+pub step_sound : (last : Option BlockKind) (at : ℕ) (bytes : List ℕ) (b : BlockWithoutOffset) (size : ℕ) → next_block_result_at_offset last at bytes ≡ block b size → MayFollow last b × IsBlock b bytes (drop size bytes)
 unfolding next_block_result_at_offset
 step_sound last at bytes b size e =
     elim (chosen (eqb (length bytes) 0) _ _ _ e) [
@@ -186,7 +186,7 @@ step_sound last at bytes b size e =
 
 -- ---- the end
 
-sized_not_ended : (at : ℕ) (bytes : List ℕ) (h : HeadFields) (k : BlockKind) → next_block_result_by_size at bytes h k ≡ ended → ⊥
+sized_not_ended : (at : ℕ) (bytes : List ℕ) (h : HeadFields) (k : BlockKind) → next_block_result_by_raw_size at bytes h k ≡ ended → ⊥
 sized_not_ended at bytes h k e =
     elim (chosen (ltb h.raw h.len || ltb (length bytes) h.raw) _ _ _ e) [
       | inl x ↦ (let y = x.1 in cc)

@@ -8,9 +8,9 @@ use Rattle.std.proofs.lemmas.Slice.Eq.{bytes_eq-Decides}
 use Rattle.base_core.specs.declared.Cause.{Cause}
 use Rattle.base_core.specs.declared.Cause.TheVariants.{NotAdb, Compressed, Truncated}
 use Rattle.adb_block.specs.Container.{IsContainerWithBlocks, SpellsBlocks}
-use Rattle.adb_block.specs.Piece.{Piece}
-use Rattle.adb_block.specs.Header.{word_at, is_compressed_file_mark, schema_of_header}
-use Rattle.adb_block.specs.ReaderPosition.{first_block_position_of_schema_and_file}
+use Rattle.adb_block.specs.BlockWithoutOffset.{BlockWithoutOffset}
+use Rattle.adb_block.specs.Header.{word_at, is_four_byte_mark_of_compressed_file, schema_of_header}
+use Rattle.adb_block.specs.PositionBetweenBlocks.{first_block_position_of_schema_and_file}
 use Rattle.adb_block.specs.Reading.{block_stream_from}
 use Rattle.adb_block.specs.AllBlocks.{blocks_from_position, blocks_after_header, blocks_of}
 use Rattle.adb_block.proofs.Choices.{passed}
@@ -28,7 +28,7 @@ pub header_sound : (file : List ℕ) (schema : ℕ) → schema_of_header file �
 unfolding schema_of_header
 header_sound file schema e =
     let a = passed (ltb (length file) 4) (Truncated 0) _ schema e in
-    let b = passed (is_compressed_file_mark (take 4 file)) Compressed _ schema a.1 in
+    let b = passed (is_four_byte_mark_of_compressed_file (take 4 file)) Compressed _ schema a.1 in
     let c = passed (not (bytes_eq (take 4 file) (codes "ADB."))) NotAdb _ schema b.1 in
     let d = passed (ltb (length file) 8) (Truncated 0) _ schema c.1 in
     let is = d.1 in
@@ -52,11 +52,11 @@ parts file = sym (ap (λ r. take 4 file ++ r) (ap (λ r. take 4 (drop 4 file) ++
 
 -- ---- all blocks
 
-blocks_by : (file : List ℕ) (r : Result ℕ Cause) (schema : ℕ) (bs : List Piece) → r ≡ Ok schema → blocks_after_header file r ≡ Ok bs → blocks_from_position (first_block_position_of_schema_and_file schema file) ≡ Ok bs
+blocks_by : (file : List ℕ) (r : Result ℕ Cause) (schema : ℕ) (bs : List BlockWithoutOffset) → r ≡ Ok schema → blocks_after_header file r ≡ Ok bs → blocks_from_position (first_block_position_of_schema_and_file schema file) ≡ Ok bs
 blocks_by file (Ok found) schema bs e is = let same : found ≡ schema = cc in rw (← same) is
 blocks_by file (Err c) schema bs e is = absurd cc
 
-pub read_is_spelled : (file : List ℕ) (schema : ℕ) (bs : List Piece) → schema_of_header file ≡ Ok schema → blocks_of file ≡ Ok bs → IsContainerWithBlocks file schema bs
+pub read_is_spelled : (file : List ℕ) (schema : ℕ) (bs : List BlockWithoutOffset) → schema_of_header file ≡ Ok schema → blocks_of file ≡ Ok bs → IsContainerWithBlocks file schema bs
 unfolding blocks_of blocks_from_position block_stream_from
 read_is_spelled file schema bs e is =
     let h = header_sound file schema e in
@@ -80,7 +80,7 @@ text_header word body schema four is = record {
 text_body : (word body : List ℕ) → length word ≡ 4 → drop 8 (codes "ADB." ++ (word ++ body)) ≡ body
 text_body word body four = drop_at word body 4 four
 
-pub spelled_is_read : (file : List ℕ) (schema : ℕ) (bs : List Piece) → IsContainerWithBlocks file schema bs → (schema_of_header file ≡ Ok schema) × (blocks_of file ≡ Ok bs)
+pub spelled_is_read : (file : List ℕ) (schema : ℕ) (bs : List BlockWithoutOffset) → IsContainerWithBlocks file schema bs → (schema_of_header file ≡ Ok schema) × (blocks_of file ≡ Ok bs)
 unfolding blocks_of blocks_from_position block_stream_from
 spelled_is_read file schema bs s =
     let text : List ℕ = codes "ADB." ++ (s.word ++ s.body) in
@@ -90,7 +90,7 @@ spelled_is_read file schema bs s =
     let read = pieces_again bs (suc (length (drop 8 file))) None 8 (drop 8 file) spelled (omega arith) in
     (header, ap (blocks_after_header file) header ∙ read)
 
-pub one_reading : (file : List ℕ) (schema other : ℕ) (bs others : List Piece) → IsContainerWithBlocks file schema bs → IsContainerWithBlocks file other others → (schema ≡ other) × (bs ≡ others)
+pub one_reading : (file : List ℕ) (schema other : ℕ) (bs others : List BlockWithoutOffset) → IsContainerWithBlocks file schema bs → IsContainerWithBlocks file other others → (schema ≡ other) × (bs ≡ others)
 one_reading file schema other bs others s t =
     let a = spelled_is_read file schema bs s in
     let b = spelled_is_read file other others t in

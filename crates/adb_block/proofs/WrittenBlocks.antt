@@ -7,7 +7,7 @@ use Rattle.std.proofs.lemmas.List.{length-replicate}
 use Rattle.std.proofs.lemmas.List.Concat.{flat_map-cons}
 use Rattle.std.proofs.lemmas.Nat.{from_le_bytes-to_le_bytes_4, from_le_bytes-to_le_bytes_8}
 use Rattle.adb_block.specs.Container.{IsHead, SpellsBlocks, IsContainerWithBlocks, CanBlocksBeWrittenAfter}
-use Rattle.adb_block.specs.Piece.{Piece, kind_number, padding_of}
+use Rattle.adb_block.specs.BlockWithoutOffset.{BlockWithoutOffset, kind_number, padding_of}
 use Rattle.adb_block.specs.Written.{head_bytes, block_bytes, container}
 use Rattle.adb_block.specs.declared.block.BlockKind.{BlockKind}
 use Rattle.adb_block.specs.declared.block.BlockKind.TheVariants.{Adb, Signature, Contents}
@@ -30,7 +30,7 @@ head_bytes_is_head kind len lt =
           rw t (inr (record { size = refl; word = from_le_bytes-to_le_bytes_4 (3 * 2 ^ 30 + kind_number kind) (omega arith); raw = from_le_bytes-to_le_bytes_8 (16 + len) (omega arith) }))
     ]
 
-pub written_blocks : (last : Option BlockKind) (bs : List Piece) → CanBlocksBeWrittenAfter last bs → SpellsBlocks last (flat_map block_bytes bs) bs
+pub written_blocks : (last : Option BlockKind) (bs : List BlockWithoutOffset) → CanBlocksBeWrittenAfter last bs → SpellsBlocks last (flat_map block_bytes bs) bs
 written_blocks last [] m = (refl, m)
 written_blocks last (b ∷ bs) m =
     let head : List ℕ = head_bytes b.kind (length b.payload) in
@@ -48,6 +48,6 @@ written_blocks last (b ∷ bs) m =
       written_blocks (Some b.kind) bs m.2,
     )
 
-pub container_spells : (schema : ℕ) (pieces : List Piece) → schema < 2 ^ 32 → CanBlocksBeWrittenAfter None pieces → IsContainerWithBlocks (container schema pieces) schema pieces
+pub container_spells : (schema : ℕ) (pieces : List BlockWithoutOffset) → schema < 2 ^ 32 → CanBlocksBeWrittenAfter None pieces → IsContainerWithBlocks (container schema pieces) schema pieces
 container_spells schema pieces lt m =
     record { word = to_le_bytes w32 schema; body = flat_map block_bytes pieces; parts = refl; four = refl; is_schema = from_le_bytes-to_le_bytes_4 schema lt; blocks = written_blocks None pieces m }

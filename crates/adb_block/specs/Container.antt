@@ -3,7 +3,7 @@
 use Rattle.std.specs.Prelude.{◌≡◌, ℕ, ◌+◌, ◌*◌, ◌^◌, ◌<◌, ◌≤◌, ◌⊎◌, true, codes, List, [], ◌∷◌, ◌++◌, length, take, drop, Option, Some, None}
 use Rattle.std.specs.Int.{w32, w64, from_le_bytes}
 use Rattle.adb_block.specs.declared.block.BlockKind.{BlockKind}
-use Rattle.adb_block.specs.Piece.{Piece, may_be_next_kind, kind_number, least_payload_len, padding_of}
+use Rattle.adb_block.specs.BlockWithoutOffset.{BlockWithoutOffset, may_be_next_kind, kind_number, least_payload_len, padding_of}
 
 -- a header of four bytes: the kind in the top two bits, below it the raw size, which counts the
 -- header's 4 bytes and the `len` of the payload
@@ -36,7 +36,7 @@ IsPadding size pad rest =
     (length pad ≡ padding_of size) ⊎ ((length pad < padding_of size) × (rest ≡ []))
 
 -- `bytes` are the header, the payload and the padding of the block `b`, followed by `rest`
-pub record IsBlock (b : Piece) (bytes rest : List ℕ) : Type 0 where
+pub record IsBlock (b : BlockWithoutOffset) (bytes rest : List ℕ) : Type 0 where
   -- the bytes of the header
   pub head : List ℕ
   -- the padding
@@ -50,7 +50,7 @@ pub record IsBlock (b : Piece) (bytes rest : List ℕ) : Type 0 where
 
 -- the block `b` may follow a block of the kind `last` (None: `b` is the first), and its payload has at least the bytes
 -- that its kind needs
-pub record MayFollow (last : Option BlockKind) (b : Piece) : Type 0 where
+pub record MayFollow (last : Option BlockKind) (b : BlockWithoutOffset) : Type 0 where
   -- the kind of `b` is allowed here
   pub order : may_be_next_kind last b.kind ≡ true
   -- the payload of `b` has at least the bytes that its kind needs
@@ -63,14 +63,14 @@ HasBlockBefore (Some kind) = Unit {0}
 
 -- `bytes`, which are the rest of a file after a block of the kind `last` (None: before the first), are exactly these
 -- blocks
-abbrev pub SpellsBlocks : Option BlockKind → List ℕ → List Piece → Type 0
+abbrev pub SpellsBlocks : Option BlockKind → List ℕ → List BlockWithoutOffset → Type 0
 SpellsBlocks last bytes [] = (bytes ≡ []) × HasBlockBefore last
 SpellsBlocks last bytes (b ∷ bs) =
     (rest : List ℕ) × MayFollow last b × IsBlock b bytes rest × SpellsBlocks (Some b.kind) rest bs
 
 -- a file is a container of this schema with these blocks: `ADB.`, the four bytes of the schema, and
 -- the blocks
-pub record IsContainerWithBlocks (file : List ℕ) (schema : ℕ) (pieces : List Piece) : Type 0 where
+pub record IsContainerWithBlocks (file : List ℕ) (schema : ℕ) (pieces : List BlockWithoutOffset) : Type 0 where
   -- the four bytes of the schema
   pub word : List ℕ
   -- the bytes of the blocks
@@ -86,7 +86,7 @@ pub record IsContainerWithBlocks (file : List ℕ) (schema : ℕ) (pieces : List
 
 -- these blocks, which are all further blocks of a file, may be written in this order after a block of the kind `last`
 -- (None: before the first). The size of each payload, with the 16 bytes of the longest header, fits in 64 bits
-abbrev pub CanBlocksBeWrittenAfter : Option BlockKind → List Piece → Type 0
+abbrev pub CanBlocksBeWrittenAfter : Option BlockKind → List BlockWithoutOffset → Type 0
 CanBlocksBeWrittenAfter last [] = HasBlockBefore last
 CanBlocksBeWrittenAfter last (b ∷ bs) =
     MayFollow last b × (length b.payload + 16 < 2 ^ 64) × CanBlocksBeWrittenAfter (Some b.kind) bs

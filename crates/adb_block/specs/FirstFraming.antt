@@ -4,20 +4,20 @@
 use Rattle.std.specs.Prelude.{◌≡◌, ℕ, ◌+◌, ◌<◌, ◌⊎◌, false, true, List, [], ◌∷◌, length, drop, Option, Some, None}
 use Rattle.base_core.specs.declared.Cause.{Cause}
 use Rattle.base_core.specs.declared.Cause.TheVariants.{Truncated, BlockOrder}
-use Rattle.adb_block.specs.Piece.{Piece, may_be_next_kind, least_payload_len}
+use Rattle.adb_block.specs.BlockWithoutOffset.{BlockWithoutOffset, may_be_next_kind, least_payload_len}
 use Rattle.adb_block.specs.Container.{IsBlock, MayFollow}
 use Rattle.adb_block.specs.Framing.{HeadFields, block_head_fields, kind_of_number}
 use Rattle.adb_block.specs.declared.block.BlockKind.{BlockKind}
 
 -- `bytes`, after a block of the kind `last` (None: before the first), are these blocks followed by `rest`
-abbrev pub BeginWithBlocks : Option BlockKind → List ℕ → List Piece → List ℕ → Type 0
+abbrev pub BeginWithBlocks : Option BlockKind → List ℕ → List BlockWithoutOffset → List ℕ → Type 0
 BeginWithBlocks last bytes [] rest = bytes ≡ rest
 BeginWithBlocks last bytes (b ∷ bs) rest =
     (behind : List ℕ) × MayFollow last b × IsBlock b bytes behind
     × BeginWithBlocks (Some b.kind) behind bs rest
 
 -- the kind of the last of these blocks, or `last` if there are none
-abbrev pub last_kind : Option BlockKind → List Piece → Option BlockKind
+abbrev pub last_kind : Option BlockKind → List BlockWithoutOffset → Option BlockKind
 last_kind last [] = last
 last_kind last (b ∷ bs) = last_kind (Some b.kind) bs
 
@@ -78,9 +78,9 @@ HaveBlockFault last at bytes c =
 -- ---- the whole file
 
 -- `c` is the first fault in the blocks of a file: some blocks pass their tests, and the block after them has this fault
-pub record IsFirstFramingFault (file : List ℕ) (c : Cause) : Type 0 where
+pub record IsFirstBlockFramingFault (file : List ℕ) (c : Cause) : Type 0 where
   -- the blocks that pass their tests
-  pub blocks : List Piece
+  pub blocks : List BlockWithoutOffset
   -- the bytes after them
   pub rest : List ℕ
   -- after the file's header of 8 bytes the file begins with these blocks

@@ -3,7 +3,7 @@
 -- this crate); the fields of a header are defined in `docs/formats.md`, "Container" ("A block is a header").
 use Rattle.std.specs.Prelude.{◌≡◌, ◌≤◌, ℕ, ◌+◌, ◌/◌, ◌^◌, ◌==◌, nat_lt, if◌then◌else◌, List, length, take, drop, Option, Some, None, Result, Ok, Err}
 use Rattle.base_core.specs.declared.Cause.{Cause}
-use Rattle.adb_block.specs.Piece.{Piece, padding_of}
+use Rattle.adb_block.specs.BlockWithoutOffset.{BlockWithoutOffset, padding_of}
 use Rattle.adb_block.specs.Header.{word_at}
 use Rattle.adb_block.specs.Framing.{HeadFields, NextBlockResult, ended, failed, block}
 use Rattle.adb_block.specs.declared.block.BlockHead.{BlockHead}
@@ -31,7 +31,7 @@ abbrev pub raw_size : Frame → ℕ
 raw_size frame = frame.head_len + frame.payload_len
 
 -- the block with this frame at the front of these bytes
-abbrev pub framed_piece : Frame → List ℕ → Piece
+abbrev pub framed_piece : Frame → List ℕ → BlockWithoutOffset
 framed_piece frame bytes =
     record { kind = frame.kind; payload = take frame.payload_len (drop frame.head_len bytes) }
 
@@ -57,7 +57,7 @@ abbrev pub fields_of : BlockHead → HeadFields
 fields_of head = record { kind = head.kind; len = head.len; raw = head.raw }
 
 -- the kind and the payload of a block that the program has read
-abbrev pub piece_in : ReadBlock → Piece
+abbrev pub piece_in : ReadBlock → BlockWithoutOffset
 piece_in b = record { kind = b.kind; payload = b.payload.now }
 
 -- the result of the program is that of the tests: the end, a block and the distance to the next block, or the first

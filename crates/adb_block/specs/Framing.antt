@@ -4,7 +4,7 @@
 use Rattle.std.specs.Prelude.{ℕ, zero, suc, ◌+◌, ◌-◌, ◌/◌, ◌%◌, ◌^◌, ◌||◌, ◌==◌, nat_lt, if◌then◌else◌, List, length, take, drop, Option, Some, None}
 use Rattle.base_core.specs.declared.Cause.{Cause}
 use Rattle.base_core.specs.declared.Cause.TheVariants.{Truncated, BlockOrder}
-use Rattle.adb_block.specs.Piece.{Piece, may_be_next_kind, least_payload_len, padding_of}
+use Rattle.adb_block.specs.BlockWithoutOffset.{BlockWithoutOffset, may_be_next_kind, least_payload_len, padding_of}
 use Rattle.adb_block.specs.Header.{word_at, eight_byte_number_at}
 use Rattle.adb_block.specs.declared.block.BlockKind.{BlockKind}
 use Rattle.adb_block.specs.declared.block.BlockKind.TheVariants.{Adb, Signature, Contents}
@@ -50,12 +50,12 @@ kind_of_number (suc (suc (suc n))) = None
 pub data NextBlockResult : Type 0 where
   ended : NextBlockResult
   failed : Cause → NextBlockResult
-  block : Piece → ℕ → NextBlockResult
+  block : BlockWithoutOffset → ℕ → NextBlockResult
 
 -- the result for a block at the offset `at` whose header has an allowed kind: first the raw size is tested, then the
 -- length of the payload. `bytes` are the bytes of the file from the offset on
-abbrev pub next_block_result_by_size : ℕ → List ℕ → HeadFields → BlockKind → NextBlockResult
-next_block_result_by_size at bytes head kind =
+abbrev pub next_block_result_by_raw_size : ℕ → List ℕ → HeadFields → BlockKind → NextBlockResult
+next_block_result_by_raw_size at bytes head kind =
     if nat_lt head.raw head.len || nat_lt (length bytes) head.raw then failed (Truncated at)
     else if nat_lt (head.raw - head.len) (least_payload_len kind) then failed (Truncated at)
     else block (record { kind = kind; payload = take (head.raw - head.len) (drop head.len bytes) })
@@ -67,7 +67,7 @@ abbrev pub next_block_result_by_kind_order : Option BlockKind → ℕ → List �
     → NextBlockResult
 next_block_result_by_kind_order last at bytes head None = failed (BlockOrder at)
 next_block_result_by_kind_order last at bytes head (Some kind) =
-    if may_be_next_kind last kind then next_block_result_by_size at bytes head kind else failed
+    if may_be_next_kind last kind then next_block_result_by_raw_size at bytes head kind else failed
     (BlockOrder at)
 
 -- the result if bytes are left: a fault if they begin with no complete header, else the result of the tests of the

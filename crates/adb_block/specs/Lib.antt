@@ -1,10 +1,10 @@
 -- The definitions of `adb_block`. The head of each file names the section with its rule.
 
 -- cited by the contract of `apk`
-pub mod Piece
+pub mod BlockWithoutOffset
 pub mod Header
 pub mod Framing
-pub mod ReaderPosition
+pub mod PositionBetweenBlocks
 pub mod Reading
 pub mod Written
 -- used by inner contracts and proofs only

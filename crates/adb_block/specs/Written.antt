@@ -4,7 +4,7 @@
 use Rattle.std.specs.Prelude.{ℕ, ◌+◌, ◌*◌, ◌^◌, codes, List, ◌++◌, length, replicate, nat_lt, if◌then◌else◌}
 use Rattle.std.specs.List.{flat_map}
 use Rattle.std.specs.Int.{w32, w64, to_le_bytes}
-use Rattle.adb_block.specs.Piece.{Piece, kind_number, padding_of}
+use Rattle.adb_block.specs.BlockWithoutOffset.{BlockWithoutOffset, kind_number, padding_of}
 use Rattle.adb_block.specs.declared.block.BlockKind.{BlockKind}
 
 -- a header of four bytes for a payload of `len` bytes: the kind in the top two bits, and below it the raw size, which
@@ -25,11 +25,11 @@ head_bytes kind len =
     if nat_lt (4 + len) (2 ^ 30) then short_head_bytes kind len else long_head_bytes kind len
 
 -- a written block: its header, its payload, and padding of zeros
-abbrev pub block_bytes : Piece → List ℕ
+abbrev pub block_bytes : BlockWithoutOffset → List ℕ
 block_bytes b =
     let head = head_bytes b.kind (length b.payload) in
     head ++ (b.payload ++ replicate (padding_of (length head + length b.payload)) 0)
 
 -- the bytes of a container of this schema and these blocks
-abbrev pub container : ℕ → List Piece → List ℕ
+abbrev pub container : ℕ → List BlockWithoutOffset → List ℕ
 container schema pieces = codes "ADB." ++ (to_le_bytes w32 schema ++ flat_map block_bytes pieces)

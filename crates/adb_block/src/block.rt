@@ -8,7 +8,7 @@
 ghost use Rattle.std.specs.Prelude.{◌≡◌, ◌≤◌, ◌<◌, ◌+◌, ◌-◌, ◌^◌, ◌⊎◌, ℕ, List, Option, None, true, IfOk, IfSome, IsSome, length, take};
 ghost use Rattle.std.specs.Option.{option_map};
 ghost use Rattle.adb_block.specs.Container.{IsHead};
-ghost use Rattle.adb_block.specs.Piece.{may_be_next_kind, least_payload_len, padding_of, kind_number};
+ghost use Rattle.adb_block.specs.BlockWithoutOffset.{may_be_next_kind, least_payload_len, padding_of, kind_number};
 ghost use Rattle.adb_block.specs.Framing.{HeadFields, block_head_fields, kind_of_number, next_block_result_by_kind_order, next_block_result_at_offset};
 ghost use Rattle.adb_block.specs.Frames.{IsHeadPrefix, IsFrameOrEndOfBlockResult, IsFrameOfBlockResult, IsReadBlock, fields_of, head_len, raw_size};
 ghost use Rattle.adb_block.specs.Written.{head_bytes};

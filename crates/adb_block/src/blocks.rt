@@ -4,21 +4,21 @@
 
 ghost use Rattle.std.specs.Prelude.{◌≡◌, ◌↔◌, [], drop, IfOk, IfErr, IfSome, IfNone, IsNone, OnErr, ◌<◌, ◌^◌, ℕ, List};
 ghost use Rattle.adb_block.specs.Header.{schema_of_header};
-ghost use Rattle.adb_block.specs.ReaderPosition.{first_block_position_of_schema_and_file};
+ghost use Rattle.adb_block.specs.PositionBetweenBlocks.{first_block_position_of_schema_and_file};
 ghost use Rattle.adb_block.specs.Reader.{next_offset};
 ghost use Rattle.adb_block.specs.Reading.{block_stream_from};
 ghost use Rattle.adb_block.specs.AllBlocks.{blocks_of, blocks_from_position};
 ghost use Rattle.base_core.specs.declared.Cause.{Cause};
 ghost use Rattle.adb_block.specs.Container.{IsContainerWithBlocks, CanBlocksBeWrittenAfter};
-ghost use Rattle.adb_block.specs.FirstFraming.{IsFirstFramingFault};
-ghost use Rattle.adb_block.specs.Piece.{Piece};
+ghost use Rattle.adb_block.specs.FirstFraming.{IsFirstBlockFramingFault};
+ghost use Rattle.adb_block.specs.BlockWithoutOffset.{BlockWithoutOffset};
 ghost use Rattle.adb_block.specs.Written.{container};
 
 use crate::block::{Block, BlockKind, block_at, word_at};
 use base_core::Cause;
 use std::marker::Model;
 
-/// The blocks of a file, from the front. Contracts see the position of the reader: `ReaderPosition`
+/// The blocks of a file, from the front. Contracts see the position of the reader: `PositionBetweenBlocks`
 /// of `specs/`.
 #[derive(Drop)]
 pub struct Blocks<'a> {
@@ -34,10 +34,10 @@ pub struct Blocks<'a> {
 
 impl<'a> Model for Blocks<'a> {
     ghost use Rattle.std.specs.Prelude.{◌≤◌, ◌+◌, length, drop};
-    ghost use Rattle.adb_block.specs.ReaderPosition.{ReaderPosition};
+    ghost use Rattle.adb_block.specs.PositionBetweenBlocks.{PositionBetweenBlocks};
 
     // Contracts see a reader as its position in the file.
-    ghost Value = { ReaderPosition };
+    ghost Value = { PositionBetweenBlocks };
 
     ghost view = { λ b.
         record { schema = b.schema; last = b.last; at = b.at; left = drop b.at b.bytes.now } };
@@ -179,7 +179,7 @@ pub(crate) fn read_header(file: &[u8]) -> Result<u32, Cause>
 /// A law: if the reader finds no fault in a file, the file is a container, by the grammar, of the
 /// schema and the blocks that are read. The padding after the last block may be absent.
 pub fn what_is_read_is_spelled()
-    ensures { (file : List ℕ) (schema : ℕ) (pieces : List Piece)
+    ensures { (file : List ℕ) (schema : ℕ) (pieces : List BlockWithoutOffset)
         → schema_of_header file ≡ Ok schema → blocks_of file ≡ Ok pieces
         → IsContainerWithBlocks file schema pieces }
 {}
@@ -187,7 +187,7 @@ pub fn what_is_read_is_spelled()
 /// A law: if a file is a container, by the grammar, of a schema and blocks, the reader finds
 /// exactly this schema and these blocks, and no fault.
 pub fn what_is_spelled_is_read()
-    ensures { (file : List ℕ) (schema : ℕ) (pieces : List Piece)
+    ensures { (file : List ℕ) (schema : ℕ) (pieces : List BlockWithoutOffset)
         → IsContainerWithBlocks file schema pieces → (schema_of_header file ≡ Ok schema)
         × (blocks_of file ≡ Ok pieces) }
 {}
@@ -197,12 +197,12 @@ pub fn what_is_spelled_is_read()
 /// small or exceeds the file.
 pub fn the_first_fault_of_framing_is_reported()
     ensures { (file : List ℕ) (schema : ℕ) (c : Cause)
-        → schema_of_header file ≡ Ok schema → blocks_of file ≡ Err c → IsFirstFramingFault file c }
+        → schema_of_header file ≡ Ok schema → blocks_of file ≡ Err c → IsFirstBlockFramingFault file c }
 {}
 
 /// A law: a file is a container of at most one schema and one list of blocks.
 pub fn a_container_has_one_reading()
-    ensures { (file : List ℕ) (schema other : ℕ) (pieces others : List Piece)
+    ensures { (file : List ℕ) (schema other : ℕ) (pieces others : List BlockWithoutOffset)
         → IsContainerWithBlocks file schema pieces → IsContainerWithBlocks file other others
         → (schema ≡ other) × (pieces ≡ others) }
 {}
@@ -210,7 +210,7 @@ pub fn a_container_has_one_reading()
 /// A law: the bytes that are written for a schema and blocks in an allowed order are a container,
 /// by the grammar, of this schema and these blocks.
 pub fn what_is_written_is_spelled()
-    ensures { (schema : ℕ) (pieces : List Piece)
+    ensures { (schema : ℕ) (pieces : List BlockWithoutOffset)
         → schema < 2 ^ 32 → CanBlocksBeWrittenAfter None pieces
         → IsContainerWithBlocks (container schema pieces) schema pieces }
 {}

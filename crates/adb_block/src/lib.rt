@@ -5,9 +5,9 @@
 //! test; `block_head` returns the header of a block to write. The contracts cite these modules of
 //! `specs/`:
 //!
-//! - `Piece`: a block, and the kinds;
+//! - `BlockWithoutOffset`: a block, and the kinds;
 //! - `Header` and `Framing`: the tests in their order;
-//! - `ReaderPosition`: the position of a reader;
+//! - `PositionBetweenBlocks`: the position of a reader;
 //! - `Reading` and `AllBlocks`: all that is read from a position;
 //! - `Reader`: the result of a call;
 //! - `Written`: how headers, blocks and containers are written;

@@ -5,7 +5,7 @@ use Rattle.std.proofs.lemmas.Bool.Decides.{eqb_tells}
 use Rattle.adb_view.specs.Plain.{Plain, null, int, blob, Plains, none, more, Shape, number, text, hash, array, object, Fields, no_fields, field, blob_or_null, object_or_null, trimmed_object_or_null}
 use Rattle.adb_view.specs.Shaped.{HasShape, HaveShapes}
 use Rattle.adb_view.specs.Schema.{shape_of, shapes_of, table}
-use Rattle.adb_view.specs.Values.{nth, entries_in, entry_in, int_in, text_in}
+use Rattle.adb_view.specs.Values.{nth, entries_in, entry_at_index, int_in, text_in}
 use Rattle.adb_view.specs.declared.tables.Which.TheVariants as Tables
 use Rattle.adb_view.specs.declared.tables.Kind.TheVariants as Kinds
 use Rattle.adb_copy.specs.Zeros.{int_or_null, without_zeros, all_without_zeros, with_value_set_at_index, info_without_zeros_with_id_and_file_size}
@@ -52,7 +52,7 @@ object_written n fs v h =
 
 -- ---- a dependency
 
-pub dep_written : (v : Plain) (name version : List ℕ) (matching : ℕ) → HasShape (shape_of (Kinds.Obj Tables.Dep)) v → name ≡ text_in (entry_in v 0) → version ≡ text_in (entry_in v 1) → matching ≡ int_in (entry_in v 2)
+pub dep_written : (v : Plain) (name version : List ℕ) (matching : ℕ) → HasShape (shape_of (Kinds.Obj Tables.Dep)) v → name ≡ text_in (entry_at_index v 0) → version ≡ text_in (entry_at_index v 1) → matching ≡ int_in (entry_at_index v 2)
     → without_zeros v ≡ trimmed_object_or_null (more (blob_or_null name) (more (blob_or_null version) (more (int_or_null matching) none)))
 unfolding shape_of
 dep_written v name version matching h e0 e1 e2 =
@@ -144,11 +144,11 @@ info_fields id len t0 t1 t3 t4 t5 t6 t7 t8 t9 n10 n11 n13 l14 l15 l16 l17 l18 n1
 -- they are those of the entry
 pub info_written : (info : Plain) (id : List ℕ) (len : ℕ) → HasShape (shape_of (Kinds.Obj Tables.PkgInfo)) info
     → (t0 t1 t3 t4 t5 t6 t7 t8 t9 : List ℕ) (n10 n11 n13 : ℕ) (l14 l15 l16 l17 l18 : Plain) (n19 : ℕ) (l20 : Plain) (n21 : ℕ)
-    → t0 ≡ text_in (entry_in info 0) → t1 ≡ text_in (entry_in info 1) → t3 ≡ text_in (entry_in info 3) → t4 ≡ text_in (entry_in info 4)
-    → t5 ≡ text_in (entry_in info 5) → t6 ≡ text_in (entry_in info 6) → t7 ≡ text_in (entry_in info 7) → t8 ≡ text_in (entry_in info 8) → t9 ≡ text_in (entry_in info 9)
-    → n10 ≡ int_in (entry_in info 10) → n11 ≡ int_in (entry_in info 11) → n13 ≡ int_in (entry_in info 13)
-    → l14 ≡ entry_in info 14 → l15 ≡ entry_in info 15 → l16 ≡ entry_in info 16 → l17 ≡ entry_in info 17 → l18 ≡ entry_in info 18
-    → n19 ≡ int_in (entry_in info 19) → l20 ≡ entry_in info 20 → n21 ≡ int_in (entry_in info 21)
+    → t0 ≡ text_in (entry_at_index info 0) → t1 ≡ text_in (entry_at_index info 1) → t3 ≡ text_in (entry_at_index info 3) → t4 ≡ text_in (entry_at_index info 4)
+    → t5 ≡ text_in (entry_at_index info 5) → t6 ≡ text_in (entry_at_index info 6) → t7 ≡ text_in (entry_at_index info 7) → t8 ≡ text_in (entry_at_index info 8) → t9 ≡ text_in (entry_at_index info 9)
+    → n10 ≡ int_in (entry_at_index info 10) → n11 ≡ int_in (entry_at_index info 11) → n13 ≡ int_in (entry_at_index info 13)
+    → l14 ≡ entry_at_index info 14 → l15 ≡ entry_at_index info 15 → l16 ≡ entry_at_index info 16 → l17 ≡ entry_at_index info 17 → l18 ≡ entry_at_index info 18
+    → n19 ≡ int_in (entry_at_index info 19) → l20 ≡ entry_at_index info 20 → n21 ≡ int_in (entry_at_index info 21)
     → info_without_zeros_with_id_and_file_size info id len ≡ trimmed_object_or_null (info_fields id len t0 t1 t3 t4 t5 t6 t7 t8 t9 n10 n11 n13 l14 l15 l16 l17 l18 n19 l20 n21)
 unfolding shape_of
 info_written info id len h t0 t1 t3 t4 t5 t6 t7 t8 t9 n10 n11 n13 l14 l15 l16 l17 l18 n19 l20 n21 e0 e1 e3 e4 e5 e6 e7 e8 e9 e10 e11 e13 e14 e15 e16 e17 e18 e19 e20 e21 =

@@ -3,7 +3,7 @@
 //! (its fields in their order) and table 1 (those of a dependency).
 ghost use Rattle.std.specs.Prelude.{◌≡◌, true, Some, OnOk};
 ghost use Rattle.adb_fields.specs.Fields.{are_all_sound, array_at};
-ghost use Rattle.adb_view.specs.Values.{entry_in, is_sound, kind_at, value_at};
+ghost use Rattle.adb_view.specs.Values.{entry_at_index, is_sound, kind_at, value_at};
 ghost use Rattle.adb_view.specs.declared.tables.Kind.TheVariants as Kinds;
 ghost use Rattle.adb_view.specs.declared.tables.Which.TheVariants as Tables;
 ghost use Rattle.adb_values.specs.Drafts.{draft_with, draft_with_all};
@@ -18,10 +18,10 @@ use crate::known_texts::KnownTexts;
 use adb_fields::{hash_field, int_field, objects_field, texts_field};
 use adb_values::Draft;
 use adb_view::field_indexes::{
-    DEP_MATCH, DEP_NAME, DEP_VERSION, INFO_ARCH, INFO_BUILD_TIME, INFO_DEPENDS, INFO_DESCRIPTION,
-    INFO_INSTALL_IF, INFO_INSTALLED_SIZE, INFO_LAYER, INFO_LICENSE, INFO_MAINTAINER, INFO_NAME,
-    INFO_ORIGIN, INFO_PROVIDER_PRIORITY, INFO_PROVIDES, INFO_RECOMMENDS, INFO_REPLACES,
-    INFO_REPO_COMMIT, INFO_TAGS, INFO_UNUSED, INFO_URL, INFO_VERSION,
+    DEP_MATCH_INDEX, DEP_NAME_INDEX, DEP_VERSION_INDEX, INFO_ARCH_INDEX, INFO_BUILD_TIME_INDEX, INFO_DEPENDS_INDEX, INFO_DESCRIPTION_INDEX,
+    INFO_INSTALL_IF_INDEX, INFO_INSTALLED_SIZE_INDEX, INFO_LAYER_INDEX, INFO_LICENSE_INDEX, INFO_MAINTAINER_INDEX, INFO_NAME_INDEX,
+    INFO_ORIGIN_INDEX, INFO_PROVIDER_PRIORITY_INDEX, INFO_PROVIDES_INDEX, INFO_RECOMMENDS_INDEX, INFO_REPLACES_INDEX,
+    INFO_REPO_COMMIT_INDEX, INFO_TAGS_INDEX, INFO_UNUSED_INDEX, INFO_URL_INDEX, INFO_VERSION_INDEX,
 };
 use adb_view::{Adb, Arr, Val, Which, entry_word, values_have_their_shape};
 use std::alloc::AllocError;
@@ -55,26 +55,26 @@ pub fn write_info(
     write_ints(
         draft,
         &[
-            int_field(adb, Which::PkgInfo, info, INFO_BUILD_TIME),
-            int_field(adb, Which::PkgInfo, info, INFO_INSTALLED_SIZE),
+            int_field(adb, Which::PkgInfo, info, INFO_BUILD_TIME_INDEX),
+            int_field(adb, Which::PkgInfo, info, INFO_INSTALLED_SIZE_INDEX),
             // The field `file-size`.
             len,
-            int_field(adb, Which::PkgInfo, info, INFO_PROVIDER_PRIORITY),
+            int_field(adb, Which::PkgInfo, info, INFO_PROVIDER_PRIORITY_INDEX),
         ],
     )?;
-    write_deps(draft, adb, known, info, INFO_DEPENDS)?;
-    write_deps(draft, adb, known, info, INFO_PROVIDES)?;
-    write_deps(draft, adb, known, info, INFO_REPLACES)?;
-    write_deps(draft, adb, known, info, INFO_INSTALL_IF)?;
-    write_deps(draft, adb, known, info, INFO_RECOMMENDS)?;
-    write_int(draft, int_field(adb, Which::PkgInfo, info, INFO_LAYER))?;
+    write_deps(draft, adb, known, info, INFO_DEPENDS_INDEX)?;
+    write_deps(draft, adb, known, info, INFO_PROVIDES_INDEX)?;
+    write_deps(draft, adb, known, info, INFO_REPLACES_INDEX)?;
+    write_deps(draft, adb, known, info, INFO_INSTALL_IF_INDEX)?;
+    write_deps(draft, adb, known, info, INFO_RECOMMENDS_INDEX)?;
+    write_int(draft, int_field(adb, Which::PkgInfo, info, INFO_LAYER_INDEX))?;
     write_text_list(
         draft,
         adb,
         known,
-        texts_field(adb, Which::PkgInfo, info, INFO_TAGS),
+        texts_field(adb, Which::PkgInfo, info, INFO_TAGS_INDEX),
     )?;
-    write_int(draft, int_field(adb, Which::PkgInfo, info, INFO_UNUSED))?;
+    write_int(draft, int_field(adb, Which::PkgInfo, info, INFO_UNUSED_INDEX))?;
     draft.close_object()
 }
 
@@ -98,16 +98,16 @@ fn write_info_texts(
     ensures known { OnOk result (AreRememberedBlobsOfDraft
         (payload_of adb.entry) draft.new known.new) }
 {
-    known.write_field(draft, adb, Which::PkgInfo, info, INFO_NAME)?;
-    known.write_field(draft, adb, Which::PkgInfo, info, INFO_VERSION)?;
+    known.write_field(draft, adb, Which::PkgInfo, info, INFO_NAME_INDEX)?;
+    known.write_field(draft, adb, Which::PkgInfo, info, INFO_VERSION_INDEX)?;
     draft.blob(id)?;
-    known.write_field(draft, adb, Which::PkgInfo, info, INFO_DESCRIPTION)?;
-    known.write_field(draft, adb, Which::PkgInfo, info, INFO_ARCH)?;
-    known.write_field(draft, adb, Which::PkgInfo, info, INFO_LICENSE)?;
-    known.write_field(draft, adb, Which::PkgInfo, info, INFO_ORIGIN)?;
-    known.write_field(draft, adb, Which::PkgInfo, info, INFO_MAINTAINER)?;
-    known.write_field(draft, adb, Which::PkgInfo, info, INFO_URL)?;
-    draft.blob(hash_field(adb, Which::PkgInfo, info, INFO_REPO_COMMIT))
+    known.write_field(draft, adb, Which::PkgInfo, info, INFO_DESCRIPTION_INDEX)?;
+    known.write_field(draft, adb, Which::PkgInfo, info, INFO_ARCH_INDEX)?;
+    known.write_field(draft, adb, Which::PkgInfo, info, INFO_LICENSE_INDEX)?;
+    known.write_field(draft, adb, Which::PkgInfo, info, INFO_ORIGIN_INDEX)?;
+    known.write_field(draft, adb, Which::PkgInfo, info, INFO_MAINTAINER_INDEX)?;
+    known.write_field(draft, adb, Which::PkgInfo, info, INFO_URL_INDEX)?;
+    draft.blob(hash_field(adb, Which::PkgInfo, info, INFO_REPO_COMMIT_INDEX))
 }
 
 /// Writes integers one after another; 0 is NULL.
@@ -176,7 +176,7 @@ fn write_deps(
     // Each text that `known` remembers is a blob of the draft, with the remembered word.
     requires known { AreRememberedBlobsOfDraft (payload_of adb) draft.old known.old }
     // On Ok, the draft gets the array, in which each integer 0 is NULL.
-    ensures deps { OnOk result (draft.new ≡ draft_with (without_zeros (entry_in
+    ensures deps { OnOk result (draft.new ≡ draft_with (without_zeros (entry_at_index
         (value_at (payload_of adb.entry) (Kinds.Obj Tables.PkgInfo) info) field)) draft.old) }
     // On Ok, each text that `known` remembers is a blob of the new draft, with that word.
     ensures known { OnOk result (AreRememberedBlobsOfDraft
@@ -236,8 +236,8 @@ fn write_dep(
     // A law for the proof: a value has the shape of its table. The call does nothing at run time.
     values_have_their_shape();
     draft.open_list()?;
-    known.write_field(draft, adb, Which::Dep, dep, DEP_NAME)?;
-    known.write_field(draft, adb, Which::Dep, dep, DEP_VERSION)?;
-    write_int(draft, int_field(adb, Which::Dep, dep, DEP_MATCH))?;
+    known.write_field(draft, adb, Which::Dep, dep, DEP_NAME_INDEX)?;
+    known.write_field(draft, adb, Which::Dep, dep, DEP_VERSION_INDEX)?;
+    write_int(draft, int_field(adb, Which::Dep, dep, DEP_MATCH_INDEX))?;
     draft.close_object()
 }

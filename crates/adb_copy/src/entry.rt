@@ -15,10 +15,10 @@ use crate::known_texts::KnownTexts;
 use adb_fields::{field_word, hash_field, int_field, texts_field};
 use adb_values::Draft;
 use adb_view::field_indexes::{
-    ACL_GROUP, ACL_MODE, ACL_USER, ACL_XATTRS, FILE_ACL, FILE_HASHES, FILE_MTIME, FILE_NAME,
-    FILE_SIZE, FILE_TARGET, FILE_UNUSED, SCRIPTS_POST_DEINSTALL, SCRIPTS_POST_INSTALL,
-    SCRIPTS_POST_UPGRADE, SCRIPTS_PRE_DEINSTALL, SCRIPTS_PRE_INSTALL, SCRIPTS_PRE_UPGRADE,
-    SCRIPTS_TRIGGER,
+    ACL_GROUP_INDEX, ACL_MODE_INDEX, ACL_USER_INDEX, ACL_XATTRS_INDEX, FILE_ACL_INDEX, FILE_HASHES_INDEX, FILE_MTIME_INDEX, FILE_NAME_INDEX,
+    FILE_SIZE_INDEX, FILE_TARGET_INDEX, FILE_UNUSED_INDEX, SCRIPTS_POST_DEINSTALL_INDEX, SCRIPTS_POST_INSTALL_INDEX,
+    SCRIPTS_POST_UPGRADE_INDEX, SCRIPTS_PRE_DEINSTALL_INDEX, SCRIPTS_PRE_INSTALL_INDEX, SCRIPTS_PRE_UPGRADE_INDEX,
+    SCRIPTS_TRIGGER_INDEX,
 };
 use adb_view::{Adb, Val, Which, values_have_their_shape};
 use std::alloc::AllocError;
@@ -45,14 +45,14 @@ pub fn write_acl(
     // A law for the proof: a value has the shape of its table. The call does nothing at run time.
     values_have_their_shape();
     draft.open_list()?;
-    write_int(draft, int_field(adb, Which::Acl, acl, ACL_MODE))?;
-    known.write_field(draft, adb, Which::Acl, acl, ACL_USER)?;
-    known.write_field(draft, adb, Which::Acl, acl, ACL_GROUP)?;
+    write_int(draft, int_field(adb, Which::Acl, acl, ACL_MODE_INDEX))?;
+    known.write_field(draft, adb, Which::Acl, acl, ACL_USER_INDEX)?;
+    known.write_field(draft, adb, Which::Acl, acl, ACL_GROUP_INDEX)?;
     write_text_list(
         draft,
         adb,
         known,
-        texts_field(adb, Which::Acl, acl, ACL_XATTRS),
+        texts_field(adb, Which::Acl, acl, ACL_XATTRS_INDEX),
     )?;
     draft.close_object()
 }
@@ -79,18 +79,18 @@ pub fn write_file(
     // A law for the proof: a value has the shape of its table. The call does nothing at run time.
     values_have_their_shape();
     draft.open_list()?;
-    known.write_field(draft, adb, Which::File, file, FILE_NAME)?;
+    known.write_field(draft, adb, Which::File, file, FILE_NAME_INDEX)?;
     write_acl(
         draft,
         adb,
         known,
-        field_word(adb, Which::File, file, FILE_ACL),
+        field_word(adb, Which::File, file, FILE_ACL_INDEX),
     )?;
-    write_int(draft, int_field(adb, Which::File, file, FILE_SIZE))?;
-    write_int(draft, int_field(adb, Which::File, file, FILE_MTIME))?;
-    draft.blob(hash_field(adb, Which::File, file, FILE_HASHES))?;
-    known.write_field(draft, adb, Which::File, file, FILE_TARGET)?;
-    write_int(draft, int_field(adb, Which::File, file, FILE_UNUSED))?;
+    write_int(draft, int_field(adb, Which::File, file, FILE_SIZE_INDEX))?;
+    write_int(draft, int_field(adb, Which::File, file, FILE_MTIME_INDEX))?;
+    draft.blob(hash_field(adb, Which::File, file, FILE_HASHES_INDEX))?;
+    known.write_field(draft, adb, Which::File, file, FILE_TARGET_INDEX)?;
+    write_int(draft, int_field(adb, Which::File, file, FILE_UNUSED_INDEX))?;
     draft.close_object()
 }
 
@@ -116,12 +116,12 @@ pub fn write_scripts(
     // A law for the proof: a value has the shape of its table. The call does nothing at run time.
     values_have_their_shape();
     draft.open_list()?;
-    known.write_field(draft, adb, Which::Scripts, scripts, SCRIPTS_TRIGGER)?;
-    known.write_field(draft, adb, Which::Scripts, scripts, SCRIPTS_PRE_INSTALL)?;
-    known.write_field(draft, adb, Which::Scripts, scripts, SCRIPTS_POST_INSTALL)?;
-    known.write_field(draft, adb, Which::Scripts, scripts, SCRIPTS_PRE_DEINSTALL)?;
-    known.write_field(draft, adb, Which::Scripts, scripts, SCRIPTS_POST_DEINSTALL)?;
-    known.write_field(draft, adb, Which::Scripts, scripts, SCRIPTS_PRE_UPGRADE)?;
-    known.write_field(draft, adb, Which::Scripts, scripts, SCRIPTS_POST_UPGRADE)?;
+    known.write_field(draft, adb, Which::Scripts, scripts, SCRIPTS_TRIGGER_INDEX)?;
+    known.write_field(draft, adb, Which::Scripts, scripts, SCRIPTS_PRE_INSTALL_INDEX)?;
+    known.write_field(draft, adb, Which::Scripts, scripts, SCRIPTS_POST_INSTALL_INDEX)?;
+    known.write_field(draft, adb, Which::Scripts, scripts, SCRIPTS_PRE_DEINSTALL_INDEX)?;
+    known.write_field(draft, adb, Which::Scripts, scripts, SCRIPTS_POST_DEINSTALL_INDEX)?;
+    known.write_field(draft, adb, Which::Scripts, scripts, SCRIPTS_PRE_UPGRADE_INDEX)?;
+    known.write_field(draft, adb, Which::Scripts, scripts, SCRIPTS_POST_UPGRADE_INDEX)?;
     draft.close_object()
 }

@@ -7,7 +7,7 @@
 ghost use Rattle.std.specs.Prelude.{◌≡◌, ℕ, List, true, Some, All, IfOk, IfSome, OnOk};
 ghost use Rattle.adb_view.specs.Adb.{payload_of};
 ghost use Rattle.adb_view.specs.Plain.{blob_or_null};
-ghost use Rattle.adb_view.specs.Values.{entry_in, is_sound, kind_at, text_in, value_at};
+ghost use Rattle.adb_view.specs.Values.{entry_at_index, is_sound, kind_at, text_in, value_at};
 ghost use Rattle.adb_view.specs.declared.tables.Kind.TheVariants as Kinds;
 ghost use Rattle.adb_values.specs.Drafts.{DraftState, draft_with};
 
@@ -97,7 +97,7 @@ impl KnownTexts {
         // Each text that `self` remembers is a blob of the draft, with the remembered word.
         requires known { AreRememberedBlobsOfDraft (payload_of adb) draft.old self.old }
         // On Ok, the draft gets the text of the field, or NULL if it is empty.
-        ensures text { OnOk result (draft.new ≡ draft_with (blob_or_null (text_in (entry_in
+        ensures text { OnOk result (draft.new ≡ draft_with (blob_or_null (text_in (entry_at_index
             (value_at (payload_of adb.entry) (Kinds.Obj which) object) field))) draft.old) }
         // On Ok, each text that `self` remembers is a blob of the new draft, with that word.
         ensures known { OnOk result (AreRememberedBlobsOfDraft

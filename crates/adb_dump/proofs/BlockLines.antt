@@ -4,7 +4,7 @@ use Rattle.std.specs.Prelude.{◌&&◌, is_some, codes}
 use Rattle.std.specs.Fmt.{decimal}
 use Rattle.hex.specs.Hex.{encode_lower}
 use Rattle.adb_view.specs.Plain.{Plain, null, int, blob, arr, obj, Plains, none, more, Shape, number, text, hash, array, object, Fields, no_fields, field, prepend_plain_unless_last_null, without_last_nulls, blob_or_null, array_or_null, trimmed_object_or_null, null_plain_if_null_word, option_of_ok_value, plains_of_all_words, plain_of, plains_of}
-use Rattle.adb_view.specs.Readers.{run_entries_of_word, ARRAY, OBJECT}
+use Rattle.adb_view.specs.Readers.{run_entries_of_kind_in_payload_at_word, ARRAY, OBJECT}
 use Rattle.base_core.specs.declared.cause.Cause.{Cause}
 use Rattle.adb_schema.specs.adb_fields.Fields.{values_at}
 use Rattle.adb_schema.proofs.adb_fields.FieldReads.{then_more_is}
@@ -154,11 +154,11 @@ plain_line p number w v e some = record { first = _; others = []; is = refl }
 plain_line p text w v e some = record { first = _; others = []; is = refl }
 plain_line p hash w v e some = record { first = _; others = []; is = refl }
 plain_line p (array s) w v e some =
-    let (ws, is) = found_some w (λ ws. option_map array_or_null (plains_of_all_words (plain_of p s) ws)) (run_entries_of_word ARRAY p w) v e some in
+    let (ws, is) = found_some w (λ ws. option_map array_or_null (plains_of_all_words (plain_of p s) ws)) (run_entries_of_kind_in_payload_at_word ARRAY p w) v e some in
     let (vs, each, made) = some_map array_or_null (plains_of_all_words (plain_of p s) ws) v is in
     entries_line (block_lines s) (plain_of p s) (plain_line p s) ws vs v each made some
 plain_line p (object n fs) w v e some =
-    let (ws, is) = found_some w (λ ws. option_map trimmed_object_or_null (plains_of p fs ws)) (run_entries_of_word OBJECT p w) v e some in
+    let (ws, is) = found_some w (λ ws. option_map trimmed_object_or_null (plains_of p fs ws)) (run_entries_of_kind_in_payload_at_word OBJECT p w) v e some in
     let (vs, all, made) = some_map trimmed_object_or_null (plains_of p fs ws) v is in
     let lines : fields_lines fs (entries_in v) ≡ fields_lines fs vs = ap (λ (x : Plain). fields_lines fs (entries_in x)) (sym made) ∙ object_value_lines fs vs in
     rw lines (fields_line p fs ws vs all (sym (obj_null vs) ∙ ap is_null made ∙ some))

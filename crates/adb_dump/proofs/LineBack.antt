@@ -11,8 +11,8 @@ use Rattle.std.proofs.lemmas.Str.Parse.{digit_at}
 use Rattle.hex.specs.Hex.{encode_with, encode_lower, lower_digits}
 use Rattle.base_core.proofs.AtName.{own_name}
 use Rattle.adb_view.specs.Plain.{Plain, int, blob}
-use Rattle.adb_dump.specs.Dump.{is_printable, begins_with_byte, needs_no_quotes, quoted_form_of_byte, bare_or_quoted_text, int_line, text_line, hash_line}
-use Rattle.adb_dump.specs.ReadBack.{hex_digit_value_unchecked, quoted_text_read_with_recursion_bound, bytes_of_hex_digits_unchecked, blob_unless_empty, int_of_line_unchecked, text_of_line_unchecked, hash_of_line_unchecked, value_if_printed_as_line}
+use Rattle.adb_dump.specs.Dump.{is_printable, begins_with_byte, needs_no_quotes, quoted_form_of_byte, bare_or_quoted_text, int_or_null_line, text_or_null_line, hash_or_null_line}
+use Rattle.adb_dump.specs.ReadBack.{hex_digit_value_unchecked, quoted_text_read_with_recursion_bound, bytes_of_hex_digits_unchecked, blob_unless_empty, int_of_line_of_unchecked_form, text_of_line_of_unchecked_form, hash_of_line_of_unchecked_form, value_if_printed_as_line}
 
 abbrev pub AreBytes : List ℕ → Type 0
 AreBytes b = AllByRecursion (λ c. c < 256) b
@@ -22,10 +22,10 @@ value_if_printed_as_line-same form v = rw own_name refl
 
 -- ---- numbers
 
-pub int_back : (n : ℕ) → n < 2 ^ 64 → value_if_printed_as_line int_line (decimal n) (int_of_line_unchecked (decimal n)) ≡ Ok (int n)
+pub int_back : (n : ℕ) → n < 2 ^ 64 → value_if_printed_as_line int_or_null_line (decimal n) (int_of_line_of_unchecked_form (decimal n)) ≡ Ok (int n)
 int_back n lt =
     let t : ltb n (2 ^ 64) ≡ true = lt-ltb _ _ lt in
-    ap (λ (k : ℕ). value_if_printed_as_line int_line (decimal n) (cond (ltb k (2 ^ 64)) (Some (int k)) None)) (decimal_is_IsNumeral n lt).1 ∙ rw t (value_if_printed_as_line-same int_line (int n))
+    ap (λ (k : ℕ). value_if_printed_as_line int_or_null_line (decimal n) (cond (ltb k (2 ^ 64)) (Some (int k)) None)) (decimal_is_IsNumeral n lt).1 ∙ rw t (value_if_printed_as_line-same int_or_null_line (int n))
 
 -- ---- hexadecimal digits
 
@@ -74,8 +74,8 @@ made_blob-is : (b : List ℕ) → b ≢ [] → blob_unless_empty b ≡ Some (blo
 made_blob-is [] ne = absurd (ne refl)
 made_blob-is (c ∷ cs) ne = refl
 
-pub hash_back : (b : List ℕ) → AreBytes b → b ≢ [] → value_if_printed_as_line hash_line (encode_lower b) (hash_of_line_unchecked (encode_lower b)) ≡ Ok (blob b)
-hash_back b fits ne = ap (λ (x : List ℕ). value_if_printed_as_line hash_line (encode_lower b) (blob_unless_empty x)) (bytes_of_hex_digits_unchecked-pairs b fits) ∙ ap (value_if_printed_as_line hash_line (encode_lower b)) (made_blob-is b ne) ∙ value_if_printed_as_line-same hash_line (blob b)
+pub hash_back : (b : List ℕ) → AreBytes b → b ≢ [] → value_if_printed_as_line hash_or_null_line (encode_lower b) (hash_of_line_of_unchecked_form (encode_lower b)) ≡ Ok (blob b)
+hash_back b fits ne = ap (λ (x : List ℕ). value_if_printed_as_line hash_or_null_line (encode_lower b) (blob_unless_empty x)) (bytes_of_hex_digits_unchecked-pairs b fits) ∙ ap (value_if_printed_as_line hash_or_null_line (encode_lower b)) (made_blob-is b ne) ∙ value_if_printed_as_line-same hash_or_null_line (blob b)
 
 -- ---- texts
 
@@ -122,10 +122,10 @@ unquoted-all (c ∷ cs) (suc n) fits lt =
     let regroup : flat_map quoted_form_of_byte (c ∷ cs) ++ 34 ∷ [] ≡ quoted_form_of_byte c ++ (flat_map quoted_form_of_byte cs ++ 34 ∷ []) = ap (λ (x : List ℕ). x ++ 34 ∷ []) (flat_map-cons quoted_form_of_byte c cs) ∙ append_assoc (quoted_form_of_byte c) (flat_map quoted_form_of_byte cs) (34 ∷ []) in
     ap (quoted_text_read_with_recursion_bound (suc n)) regroup ∙ unquoted-escaped n c (flat_map quoted_form_of_byte cs ++ 34 ∷ []) fits.0 ∙ ap (option_map (λ b. c ∷ b)) (unquoted-all cs n fits.1 (omega arith))
 
-pub text_back : (b : List ℕ) → AreBytes b → b ≢ [] → value_if_printed_as_line text_line (bare_or_quoted_text b) (text_of_line_unchecked (bare_or_quoted_text b)) ≡ Ok (blob b)
-text_back b fits ne = ap (value_if_printed_as_line text_line (bare_or_quoted_text b)) (go (needs_no_quotes b) refl) ∙ value_if_printed_as_line-same text_line (blob b)
+pub text_back : (b : List ℕ) → AreBytes b → b ≢ [] → value_if_printed_as_line text_or_null_line (bare_or_quoted_text b) (text_of_line_of_unchecked_form (bare_or_quoted_text b)) ≡ Ok (blob b)
+text_back b fits ne = ap (value_if_printed_as_line text_or_null_line (bare_or_quoted_text b)) (go (needs_no_quotes b) refl) ∙ value_if_printed_as_line-same text_or_null_line (blob b)
   where
-    go : (t : Bool) → needs_no_quotes b ≡ t → text_of_line_unchecked (cond t b (34 ∷ (flat_map quoted_form_of_byte b ++ 34 ∷ []))) ≡ Some (blob b)
+    go : (t : Bool) → needs_no_quotes b ≡ t → text_of_line_of_unchecked_form (cond t b (34 ∷ (flat_map quoted_form_of_byte b ++ 34 ∷ []))) ≡ Some (blob b)
     go true e =
         let four = and_parts _ _ e in
         let three = and_parts _ _ four.0 in

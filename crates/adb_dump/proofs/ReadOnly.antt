@@ -7,10 +7,10 @@ use Rattle.std.proofs.lemmas.List.{length-append}
 use Rattle.adb_view.specs.Plain.{Plain, null, int, blob, arr, obj, Plains, none, more, prepend_plain_unless_last_null, without_last_nulls, Shape, number, text, hash, array, object, Fields, no_fields, field, IsNormal, AreNormal}
 use Rattle.adb_view.specs.Shaped.{Each, HasShape, HaveShapes}
 use Rattle.adb_view.proofs.FoundShapes.{shape_null}
-use Rattle.adb_dump.specs.Dump.{Line, begins_with_byte, int_line, text_line, hash_line, indent, lines_with_dash_before_first, entry_lines_or_null_line, array_lines, named_line, name_line_above_indented_lines, field_lines_unless_null, block_lines, named_lines, fields_lines}
+use Rattle.adb_dump.specs.Dump.{Line, begins_with_byte, int_or_null_line, text_or_null_line, hash_or_null_line, indent, lines_with_dash_before_first, entry_lines_or_null_line, array_lines, named_line, name_line_above_indented_lines, field_lines_unless_null, block_lines, named_lines, fields_lines}
 use Rattle.base_core.specs.Lists.{and_then}
 use Rattle.base_core.proofs.AtName.{is_name}
-use Rattle.adb_dump.specs.ReadBack.{ResultOrBadLine, mapped_or_bad_line_shifted_by, strip_prefix, end_block_or_add_line, block_and_lines_after, quoted_text_read_with_recursion_bound, bytes_of_hex_digits_unchecked, blob_unless_empty, int_of_line_unchecked, text_of_line_unchecked, hash_of_line_unchecked, value_if_printed_as_line, single_line_value, entry_read, entries_from_dash_line, entries_read_with_recursion_bound, array_unless_empty, object_unless_empty, fields_read_with_value_on_line, fields_read_with_value_below, fields_read_by_name_match, block_read, named_read, fields_read}
+use Rattle.adb_dump.specs.ReadBack.{ResultOrBadLine, mapped_or_bad_line_shifted_by, strip_prefix, end_block_or_add_line, block_and_lines_after, quoted_text_read_with_recursion_bound, bytes_of_hex_digits_unchecked, blob_unless_empty, int_of_line_of_unchecked_form, text_of_line_of_unchecked_form, hash_of_line_of_unchecked_form, value_if_printed_as_line, single_line_value, entry_read, entries_from_dash_line, entries_read_with_recursion_bound, array_or_bad_line_if_empty, object_or_bad_line_if_empty, fields_read_with_value_on_line, fields_read_with_value_below, fields_read_by_name_match, block_read, named_read, fields_read}
 use Rattle.adb_dump.proofs.Booleans.{chosen}
 
 bind_ok : {A B : Type 0} (r : ResultOrBadLine A) (f : A → ResultOrBadLine B) (y : B) → and_then r f ≡ Ok y → (x : A) × (r ≡ Ok x) × (f x ≡ Ok y)
@@ -64,7 +64,7 @@ blob_fits : (s : Shape) (b : List ℕ) (v : Plain) → ((x : List ℕ) → HasSh
 unfolding IsNormal
 blob_fits s b v h (e, ne) = (λ f. cc, subst IsNormal (sym e) ne, subst (HasShape s) (sym e) (h b))
 
-int_fits : (l : Line) (v : Plain) → int_of_line_unchecked l ≡ Some v → Fits1 number v
+int_fits : (l : Line) (v : Plain) → int_of_line_of_unchecked_form l ≡ Some v → Fits1 number v
 unfolding IsNormal HasShape
 int_fits l v e =
     elim (chosen (ltb (digits_value 10 l) (2 ^ 64)) _ _ _ e) [
@@ -72,7 +72,7 @@ int_fits l v e =
       | inr x ↦ absurd (let f = x.1 in cc)
     ]
 
-text_fits : (l : Line) (v : Plain) → text_of_line_unchecked l ≡ Some v → Fits1 text v
+text_fits : (l : Line) (v : Plain) → text_of_line_of_unchecked_form l ≡ Some v → Fits1 text v
 unfolding HasShape
 text_fits l v e =
     elim (chosen (begins_with_byte 34 l) _ _ _ e) [
@@ -84,7 +84,7 @@ text_fits l v e =
     some_then f (Some x) y e = (x, refl, e)
     some_then f None y e = absurd cc
 
-hash_fits : (l : Line) (v : Plain) → hash_of_line_unchecked l ≡ Some v → Fits1 hash v
+hash_fits : (l : Line) (v : Plain) → hash_of_line_of_unchecked_form l ≡ Some v → Fits1 hash v
 unfolding HasShape
 hash_fits l v e = blob_fits hash (bytes_of_hex_digits_unchecked l) v (λ y. tt) (made_blob_some (bytes_of_hex_digits_unchecked l) v e)
 
@@ -172,18 +172,18 @@ one_only form read s h ls v e =
     let (some, line) = if_form_ok form l (read l) v ok in
     (ap (λ (x : Line). x ∷ []) line ∙ sym is, h l v some)
 
-arr_read_ok : (vs : Plains) (v : Plain) → array_unless_empty vs ≡ Ok v → (v ≡ arr vs) × (vs ≢ none)
+arr_read_ok : (vs : Plains) (v : Plain) → array_or_bad_line_if_empty vs ≡ Ok v → (v ≡ arr vs) × (vs ≢ none)
 arr_read_ok none v e = absurd cc
 arr_read_ok (more u us) v e = (cc, λ f. cc)
 
-obj_read_ok : (vs : Plains) (v : Plain) → object_unless_empty vs ≡ Ok v → (v ≡ obj vs) × (vs ≢ none)
+obj_read_ok : (vs : Plains) (v : Plain) → object_or_bad_line_if_empty vs ≡ Ok v → (v ≡ obj vs) × (vs ≢ none)
 obj_read_ok none v e = absurd cc
 obj_read_ok (more u us) v e = (cc, λ f. cc)
 
 array_only : (s : Shape) → BlockOnly s → BlockOnly (array s)
 unfolding block_read block_lines IsNormal HasShape
 array_only s h ls v e =
-    let (vs, some, made) = bind_ok (entries_read_with_recursion_bound (block_read s) (length ls) ls) array_unless_empty v e in
+    let (vs, some, made) = bind_ok (entries_read_with_recursion_bound (block_read s) (length ls) ls) array_or_bad_line_if_empty v e in
     let (is, ne) = arr_read_ok vs v made in
     let (lines, fit) = entries_only (block_lines s) (block_read s) (EntryFits s) (entry_only s h) (length ls) ls vs (omega arith) some in
     let (normal, shapes) = each_split s vs fit in
@@ -199,7 +199,7 @@ pub record FieldsOnly (fs : Fields) (ls : List Line) (vs : Plains) : Type 0 wher
 object_only : (which : ℕ) (fs : Fields) → ((ls : List Line) (vs : Plains) → fields_read fs ls ≡ Ok vs → FieldsOnly fs ls vs) → BlockOnly (object which fs)
 unfolding block_read block_lines IsNormal HasShape
 object_only which fs h ls v e =
-    let (vs, some, made) = bind_ok (fields_read fs ls) object_unless_empty v e in
+    let (vs, some, made) = bind_ok (fields_read fs ls) object_or_bad_line_if_empty v e in
     let (is, ne) = obj_read_ok vs v made in
     let r = h ls vs some in
     subst (λ (u : Plain). (block_lines (object which fs) u ≡ ls) × Fits1 (object which fs) u) (sym is) (r.lines, (λ f. cc, (ne, r.trim, r.normal), r.shapes))
@@ -252,9 +252,9 @@ below_only s fs name h k [] ls vs e =
 
 named_only : (s : Shape) (fs : Fields) (name : List ℕ) → BlockOnly s → (rest : Line) (ls : List Line) (vs : Plains) → named_read s (fields_read fs) ls rest ≡ Ok vs → NamedOnly s fs name rest ls vs
 unfolding named_read named_lines
-named_only number fs name h rest ls vs e = line_only number fs name int_line int_of_line_unchecked int_fits (λ v. refl) rest ls vs (strip_prefix (32 ∷ []) rest) refl e
-named_only text fs name h rest ls vs e = line_only text fs name text_line text_of_line_unchecked text_fits (λ v. refl) rest ls vs (strip_prefix (32 ∷ []) rest) refl e
-named_only hash fs name h rest ls vs e = line_only hash fs name hash_line hash_of_line_unchecked hash_fits (λ v. refl) rest ls vs (strip_prefix (32 ∷ []) rest) refl e
+named_only number fs name h rest ls vs e = line_only number fs name int_or_null_line int_of_line_of_unchecked_form int_fits (λ v. refl) rest ls vs (strip_prefix (32 ∷ []) rest) refl e
+named_only text fs name h rest ls vs e = line_only text fs name text_or_null_line text_of_line_of_unchecked_form text_fits (λ v. refl) rest ls vs (strip_prefix (32 ∷ []) rest) refl e
+named_only hash fs name h rest ls vs e = line_only hash fs name hash_or_null_line hash_of_line_of_unchecked_form hash_fits (λ v. refl) rest ls vs (strip_prefix (32 ∷ []) rest) refl e
 named_only (array s) fs name h rest ls vs e = below_only (array s) fs name h (λ v. refl) rest ls vs e
 named_only (object which gs) fs name h rest ls vs e = below_only (object which gs) fs name h (λ v. refl) rest ls vs e
 
@@ -297,9 +297,9 @@ mutual
   unfolding fields_read fields_lines block_read block_lines IsNormal HasShape
 
   pub block_only : (s : Shape) → BlockOnly s
-  block_only number = λ ls v e. one_only int_line int_of_line_unchecked number int_fits ls v e
-  block_only text = λ ls v e. one_only text_line text_of_line_unchecked text text_fits ls v e
-  block_only hash = λ ls v e. one_only hash_line hash_of_line_unchecked hash hash_fits ls v e
+  block_only number = λ ls v e. one_only int_or_null_line int_of_line_of_unchecked_form number int_fits ls v e
+  block_only text = λ ls v e. one_only text_or_null_line text_of_line_of_unchecked_form text text_fits ls v e
+  block_only hash = λ ls v e. one_only hash_or_null_line hash_of_line_of_unchecked_form hash hash_fits ls v e
   block_only (array s) = array_only s (block_only s)
   block_only (object which fs) = object_only which fs (fields_only fs)
 

@@ -11,7 +11,7 @@ use Rattle.std.proofs.lemmas.Str.Parse.{digit_at}
 use Rattle.hex.specs.Hex.{encode_with, encode_lower}
 use Rattle.adb_view.specs.Plain.{Plain, null, int, blob, arr, obj, Plains, none, more, Shape, number, text, hash, array, object, Fields, no_fields, field, IsNormal, AreNormal}
 use Rattle.adb_view.specs.Values.{entries_in}
-use Rattle.adb_dump.specs.Dump.{Line, is_printable, needs_no_quotes, quoted_form_of_byte, bare_or_quoted_text, int_line, text_line, hash_line, indent, lines_with_dash_before_first, entry_lines_or_null_line, array_lines, named_line, name_line_above_indented_lines, field_lines_unless_null, block_lines, named_lines, fields_lines, dump_text_of_lines}
+use Rattle.adb_dump.specs.Dump.{Line, is_printable, needs_no_quotes, quoted_form_of_byte, bare_or_quoted_text, int_or_null_line, text_or_null_line, hash_or_null_line, indent, lines_with_dash_before_first, entry_lines_or_null_line, array_lines, named_line, name_line_above_indented_lines, field_lines_unless_null, block_lines, named_lines, fields_lines, dump_text_of_lines}
 use Rattle.adb_dump.specs.ReadBack.{lines_of_text_if_all_ended, add_char}
 use Rattle.adb_dump.proofs.LineBack.{digit_not_end}
 use Rattle.adb_dump.proofs.Booleans.{chosen}
@@ -93,7 +93,7 @@ digits_end (d ∷ ds) h = let r = digit_at (d ∷ ds) 0 h (first ds) in and_from
     first : (ds : List ℕ) → 0 < suc (length ds)
     first ds = omega arith
 
-int_end : (v : Plain) → IsNormal v → no_end (int_line v) ≡ true
+int_end : (v : Plain) → IsNormal v → no_end (int_or_null_line v) ≡ true
 unfolding IsNormal
 int_end null n = refl
 int_end (int k) n = digits_end (decimal k) (decimal_is_IsNumeral k n).0.1
@@ -101,14 +101,14 @@ int_end (blob b) n = refl
 int_end (arr vs) n = refl
 int_end (obj vs) n = refl
 
-text_line_end : (v : Plain) → no_end (text_line v) ≡ true
+text_line_end : (v : Plain) → no_end (text_or_null_line v) ≡ true
 text_line_end null = refl
 text_line_end (int k) = refl
 text_line_end (blob b) = text_end b
 text_line_end (arr vs) = refl
 text_line_end (obj vs) = refl
 
-hash_line_end : (v : Plain) → no_end (hash_line v) ≡ true
+hash_line_end : (v : Plain) → no_end (hash_or_null_line v) ≡ true
 hash_line_end null = refl
 hash_line_end (int k) = refl
 hash_line_end (blob b) = hash_end b
@@ -157,9 +157,9 @@ below_end name ls n h = and_from _ _ (append_chars name (58 ∷ []) (name_end na
 
 named_end : (name : List ℕ) (s : Shape) (v : Plain) → is_name name ≡ true → IsNormal v → are_lines (block_lines s v) ≡ true → are_lines (named_lines s name v) ≡ true
 unfolding named_lines
-named_end name number v n a h = on_line_end name (int_line v) n (int_end v a)
-named_end name text v n a h = on_line_end name (text_line v) n (text_line_end v)
-named_end name hash v n a h = on_line_end name (hash_line v) n (hash_line_end v)
+named_end name number v n a h = on_line_end name (int_or_null_line v) n (int_end v a)
+named_end name text v n a h = on_line_end name (text_or_null_line v) n (text_line_end v)
+named_end name hash v n a h = on_line_end name (hash_or_null_line v) n (hash_line_end v)
 named_end name (array s) v n a h = below_end name (array_lines (block_lines s) (entries_in v)) n h
 named_end name (object which fs) v n a h = below_end name (fields_lines fs (entries_in v)) n h
 
@@ -171,9 +171,9 @@ mutual
   unfolding block_lines is_named
 
   pub block_end : (s : Shape) → is_named s ≡ true → (v : Plain) → IsNormal v → are_lines (block_lines s v) ≡ true
-  block_end number n v a = one_line (int_line v) (int_end v a)
-  block_end text n v a = one_line (text_line v) (text_line_end v)
-  block_end hash n v a = one_line (hash_line v) (hash_line_end v)
+  block_end number n v a = one_line (int_or_null_line v) (int_end v a)
+  block_end text n v a = one_line (text_or_null_line v) (text_line_end v)
+  block_end hash n v a = one_line (hash_or_null_line v) (hash_line_end v)
   block_end (array s) n v a = entries_lines (block_lines s) (block_end s n) (entries_in v) (items_normal v a)
   block_end (object which fs) n v a = fields_end fs n (entries_in v) (items_normal v a)
 

@@ -7,10 +7,10 @@ use Rattle.std.proofs.lemmas.List.{length-append}
 use Rattle.adb_view.specs.Plain.{Plain, null, int, blob, arr, obj, Plains, none, more, without_last_nulls, Shape, number, text, hash, array, object, Fields, no_fields, field, IsNormal, AreNormal}
 use Rattle.adb_view.specs.Shaped.{Each, HasShape, HaveShapes}
 use Rattle.adb_view.proofs.Normal.{trimmed-more}
-use Rattle.adb_dump.specs.Dump.{Line, int_line, text_line, hash_line, bare_or_quoted_text, indent, lines_with_dash_before_first, entry_lines_or_null_line, array_lines, block_lines, named_lines, fields_lines}
+use Rattle.adb_dump.specs.Dump.{Line, int_or_null_line, text_or_null_line, hash_or_null_line, bare_or_quoted_text, indent, lines_with_dash_before_first, entry_lines_or_null_line, array_lines, block_lines, named_lines, fields_lines}
 use Rattle.base_core.specs.Lists.{and_then}
 use Rattle.base_core.proofs.AtName.{own_name, other_name as differs}
-use Rattle.adb_dump.specs.ReadBack.{ResultOrBadLine, mapped_or_bad_line_shifted_by, strip_prefix, block_and_lines_after, entry_read, entries_read_with_recursion_bound, array_unless_empty, object_unless_empty, fields_read_with_value_below, block_read, named_read, fields_read}
+use Rattle.adb_dump.specs.ReadBack.{ResultOrBadLine, mapped_or_bad_line_shifted_by, strip_prefix, block_and_lines_after, entry_read, entries_read_with_recursion_bound, array_or_bad_line_if_empty, object_or_bad_line_if_empty, fields_read_with_value_below, block_read, named_read, fields_read}
 use Rattle.adb_dump.specs.Values.{IsOfBytes, AreOfBytes}
 use Rattle.adb_dump.proofs.LineBack.{AreBytes, int_back, text_back, hash_back, int_not_null, text_not_null, hash_not_null}
 
@@ -146,9 +146,9 @@ FirstNamed-more name s fs (l ∷ ls) h = record { name = h.name; rest = h.rest; 
 
 named_first : (s : Shape) (name : List ℕ) (v : Plain) (fs : Fields) (more_lines : List Line) → FirstNamed (field name s fs) (named_lines s name v ++ more_lines)
 unfolding named_lines
-named_first number name v fs ls = record { name = name; rest = 32 ∷ int_line v; is = refl; among = inl refl }
-named_first text name v fs ls = record { name = name; rest = 32 ∷ text_line v; is = refl; among = inl refl }
-named_first hash name v fs ls = record { name = name; rest = 32 ∷ hash_line v; is = refl; among = inl refl }
+named_first number name v fs ls = record { name = name; rest = 32 ∷ int_or_null_line v; is = refl; among = inl refl }
+named_first text name v fs ls = record { name = name; rest = 32 ∷ text_or_null_line v; is = refl; among = inl refl }
+named_first hash name v fs ls = record { name = name; rest = 32 ∷ hash_or_null_line v; is = refl; among = inl refl }
 named_first (array s) name v fs ls = record { name = name; rest = []; is = refl; among = inl refl }
 named_first (object which gs) name v fs ls = record { name = name; rest = []; is = refl; among = inl refl }
 
@@ -232,25 +232,25 @@ record NamedBack (s : Shape) (name : List ℕ) (v : Plain) (g : List Line → Re
 named_back : (s : Shape) (name : List ℕ) (v : Plain) (g : List Line → ResultOrBadLine Plains) (ls : List Line) → BlockBack s v → IsFresh ls → NamedBack s name v g ls
 unfolding named_lines named_read
 named_back number name v g ls b fresh = record {
-  first = name ++ (58 ∷ 32 ∷ int_line v);
+  first = name ++ (58 ∷ 32 ∷ int_or_null_line v);
   after = ls;
-  rest = 32 ∷ int_line v;
+  rest = 32 ∷ int_or_null_line v;
   lines = refl;
   is = refl;
   back = λ vs h. ap (λ (r : ResultOrBadLine Plain). and_then r (λ u. mapped_or_bad_line_shifted_by 1 (more u) (g ls))) b.back ∙ ap (mapped_or_bad_line_shifted_by 1 (more v)) h;
 }
 named_back text name v g ls b fresh = record {
-  first = name ++ (58 ∷ 32 ∷ text_line v);
+  first = name ++ (58 ∷ 32 ∷ text_or_null_line v);
   after = ls;
-  rest = 32 ∷ text_line v;
+  rest = 32 ∷ text_or_null_line v;
   lines = refl;
   is = refl;
   back = λ vs h. ap (λ (r : ResultOrBadLine Plain). and_then r (λ u. mapped_or_bad_line_shifted_by 1 (more u) (g ls))) b.back ∙ ap (mapped_or_bad_line_shifted_by 1 (more v)) h;
 }
 named_back hash name v g ls b fresh = record {
-  first = name ++ (58 ∷ 32 ∷ hash_line v);
+  first = name ++ (58 ∷ 32 ∷ hash_or_null_line v);
   after = ls;
-  rest = 32 ∷ hash_line v;
+  rest = 32 ∷ hash_or_null_line v;
   lines = refl;
   is = refl;
   back = λ vs h. ap (λ (r : ResultOrBadLine Plain). and_then r (λ u. mapped_or_bad_line_shifted_by 1 (more u) (g ls))) b.back ∙ ap (mapped_or_bad_line_shifted_by 1 (more v)) h;
@@ -305,7 +305,7 @@ text_block_back b fits ne = record { first = bare_or_quoted_text b; others = [];
 
 hash_block_back : (b : List ℕ) → AreBytes b → b ≢ [] → BlockBack hash (blob b)
 unfolding block_lines block_read
-hash_block_back b fits ne = record { first = hash_line (blob b); others = []; lines = refl; not_null = hash_not_null b ne; back = hash_back b fits ne }
+hash_block_back b fits ne = record { first = hash_or_null_line (blob b); others = []; lines = refl; not_null = hash_not_null b ne; back = hash_back b fits ne }
 
 array_back : (s : Shape) (vs : Plains) → vs ≢ none → Each (EntryBack (block_lines s) (block_read s)) vs → BlockBack (array s) (arr vs)
 unfolding block_lines block_read
@@ -317,7 +317,7 @@ array_back s (more v vs) ne h =
       others = indent e.others ++ array_lines (block_lines s) vs;
       lines = ap (λ (ls : List Line). lines_with_dash_before_first ls ++ array_lines (block_lines s) vs) e.lines;
       not_null = refl;
-      back = ap (λ (r : ResultOrBadLine Plains). and_then r array_unless_empty) (entries_back (block_lines s) (block_read s) (length (array_lines (block_lines s) (more v vs))) (more v vs) h (omega arith));
+      back = ap (λ (r : ResultOrBadLine Plains). and_then r array_or_bad_line_if_empty) (entries_back (block_lines s) (block_read s) (length (array_lines (block_lines s) (more v vs))) (more v vs) h (omega arith));
     }
 
 -- an object has a line
@@ -350,9 +350,9 @@ has_line (field name (object which gs) fs) (more (blob b) vs) t ne h e = h.0
 has_line (field name (object which gs) fs) (more (arr us) vs) t ne h e = h.0
 has_line (field name (object which gs) fs) (more (obj us) vs) t ne h e = cc
 
-object_unless_empty-is : (vs : Plains) → vs ≢ none → object_unless_empty vs ≡ Ok (obj vs)
-object_unless_empty-is none ne = absurd (ne refl)
-object_unless_empty-is (more v vs) ne = refl
+object_or_bad_line_if_empty-is : (vs : Plains) → vs ≢ none → object_or_bad_line_if_empty vs ≡ Ok (obj vs)
+object_or_bad_line_if_empty-is none ne = absurd (ne refl)
+object_or_bad_line_if_empty-is (more v vs) ne = refl
 
 object_back : (which : ℕ) (fs : Fields) (vs : Plains) → vs ≢ none → fields_lines fs vs ≢ [] → fields_read fs (fields_lines fs vs) ≡ Ok vs → BlockBack (object which fs) (obj vs)
 unfolding block_lines block_read
@@ -360,7 +360,7 @@ object_back which fs vs ne some h = go (fields_lines fs vs) refl (fields_first f
   where
     go : (ls : List Line) → fields_lines fs vs ≡ ls → FirstNamed fs ls → BlockBack (object which fs) (obj vs)
     go [] e f = absurd (some e)
-    go (l ∷ ls) e f = record { first = l; others = ls; lines = e; not_null = rw f.is (colon_not_null f.name f.rest); back = ap (λ (r : ResultOrBadLine Plains). and_then r object_unless_empty) h ∙ object_unless_empty-is vs ne }
+    go (l ∷ ls) e f = record { first = l; others = ls; lines = e; not_null = rw f.is (colon_not_null f.name f.rest); back = ap (λ (r : ResultOrBadLine Plains). and_then r object_or_bad_line_if_empty) h ∙ object_or_bad_line_if_empty-is vs ne }
 
 -- a field, whether it is Null or not
 one_more : (name : List ℕ) (s : Shape) (fs : Fields) (v : Plain) (vs : Plains) → Names name s fs → (without_last_nulls vs ≡ vs) × ((vs ≡ none) → v ≢ null) → (vs ≢ none → HaveShapes fs vs → fields_lines fs vs ≢ []) → HaveShapes fs vs

@@ -6,7 +6,7 @@ use Rattle.std.specs.List.{AllByRecursion}
 use Rattle.std.proofs.lemmas.List.Elements.{All-head, All-tail, All-take, All-drop}
 use Rattle.adb_view.specs.Bytes.{number_at, bytes_at_with_len}
 use Rattle.adb_view.specs.Plain.{Plain, null, int, blob, arr, obj, Plains, none, more, Shape, number, text, hash, array, object, Fields, no_fields, field, blob_or_null, array_or_null, object_or_null, prepend_plain_unless_last_null, without_last_nulls, trimmed_object_or_null, option_of_ok_value, plains_if_first_and_rest, plains_of_all_words, plain_of, plains_of}
-use Rattle.adb_view.specs.Readers.{length_prefixed_bytes_at, or_outside_cause, int_of, blob_of, run_entries_of_word, kind_of_word, low_28_bits, ARRAY, OBJECT}
+use Rattle.adb_view.specs.Readers.{length_prefixed_bytes_at, or_outside_cause, int_of, blob_of, run_entries_of_kind_in_payload_at_word, kind_number_of_word, low_28_bits, ARRAY, OBJECT}
 use Rattle.adb_view.proofs.FoundShapes.{null_plain_if_null_word-all, mapped, run_found}
 use Rattle.base_core.specs.declared.cause.Cause.{Cause}
 use Rattle.adb_dump.specs.Values.{IsOfBytes, AreOfBytes}
@@ -51,9 +51,9 @@ blob_bytes : (p : List ℕ) (w : ℕ) → All (λ c. c < 256) p → OkBytes (blo
 unfolding blob_of
 blob_bytes p w h =
     chosen_bytes (eqb w 0) _ _ tt
-    (chosen_bytes (eqb (kind_of_word w) 8) _ _ (inside_bytes w _ (counted_bytes w8 p (low_28_bits w) h))
-    (chosen_bytes (eqb (kind_of_word w) 9) _ _ (inside_bytes w _ (counted_bytes w16 p (low_28_bits w) h))
-    (chosen_bytes (eqb (kind_of_word w) 10) _ _ (inside_bytes w _ (counted_bytes w32 p (low_28_bits w) h)) tt)))
+    (chosen_bytes (eqb (kind_number_of_word w) 8) _ _ (inside_bytes w _ (counted_bytes w8 p (low_28_bits w) h))
+    (chosen_bytes (eqb (kind_number_of_word w) 9) _ _ (inside_bytes w _ (counted_bytes w16 p (low_28_bits w) h))
+    (chosen_bytes (eqb (kind_number_of_word w) 10) _ _ (inside_bytes w _ (counted_bytes w32 p (low_28_bits w) h)) tt)))
 
 int_is_bytes : (r : Result ℕ Cause) → IfSome (option_of_ok_value (λ n. Some (int n)) r) IsOfBytes
 unfolding IsOfBytes
@@ -116,9 +116,9 @@ mutual
   plain_bytes p h text w = null_plain_if_null_word-all IsOfBytes w _ null_bytes (blob_is_bytes (blob_of p w) (blob_bytes p w h))
   plain_bytes p h hash w = null_plain_if_null_word-all IsOfBytes w _ null_bytes (blob_is_bytes (blob_of p w) (blob_bytes p w h))
   plain_bytes p h (array s) w =
-      null_plain_if_null_word-all IsOfBytes w _ null_bytes (run_found IsOfBytes (λ ws. option_map array_or_null (plains_of_all_words (plain_of p s) ws)) (λ ws. mapped IsOfBytes AreOfBytes array_or_null arr_bytes (plains_of_all_words (plain_of p s) ws) (each_bytes (plain_of p s) (plain_bytes p h s) ws)) (run_entries_of_word ARRAY p w))
+      null_plain_if_null_word-all IsOfBytes w _ null_bytes (run_found IsOfBytes (λ ws. option_map array_or_null (plains_of_all_words (plain_of p s) ws)) (λ ws. mapped IsOfBytes AreOfBytes array_or_null arr_bytes (plains_of_all_words (plain_of p s) ws) (each_bytes (plain_of p s) (plain_bytes p h s) ws)) (run_entries_of_kind_in_payload_at_word ARRAY p w))
   plain_bytes p h (object n fs) w =
-      null_plain_if_null_word-all IsOfBytes w _ null_bytes (run_found IsOfBytes (λ ws. option_map trimmed_object_or_null (plains_of p fs ws)) (λ ws. mapped IsOfBytes AreOfBytes trimmed_object_or_null obj_bytes (plains_of p fs ws) (plains_bytes p h fs ws)) (run_entries_of_word OBJECT p w))
+      null_plain_if_null_word-all IsOfBytes w _ null_bytes (run_found IsOfBytes (λ ws. option_map trimmed_object_or_null (plains_of p fs ws)) (λ ws. mapped IsOfBytes AreOfBytes trimmed_object_or_null obj_bytes (plains_of p fs ws) (plains_bytes p h fs ws)) (run_entries_of_kind_in_payload_at_word OBJECT p w))
 
   pub plains_bytes : (p : List ℕ) → All (λ c. c < 256) p → (fs : Fields) (ws : List ℕ) → IfSome (plains_of p fs ws) AreOfBytes
   plains_bytes p h no_fields ws = tt

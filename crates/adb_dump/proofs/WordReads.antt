@@ -3,7 +3,7 @@ use Rattle.std.proofs.Common.{◌≡◌, ℕ, Bool, true, false, cond, eqb, List
 use Rattle.std.specs.Prelude.{is_some, unwrap_or}
 use Rattle.adb_schema.proofs.adb_fields.FieldReads.{null_or_not}
 use Rattle.adb_view.specs.Plain.{Plain, null, int, Plains, none, Fields, no_fields, field, blob_or_null, trimmed_object_or_null, null_plain_if_null_word, option_of_ok_value, plain_of, plains_of}
-use Rattle.adb_view.specs.Readers.{int_of, blob_of, run_entries_of_word, OBJECT}
+use Rattle.adb_view.specs.Readers.{int_of, blob_of, run_entries_of_kind_in_payload_at_word, OBJECT}
 use Rattle.adb_view.specs.Schema.{table, shape_of, shapes_of}
 use Rattle.adb_view.specs.Shapes.{object_shape}
 use Rattle.adb_view.specs.Values.{int_in, is_sound, text_in, value_at}
@@ -57,18 +57,18 @@ some-map : (f : Plains → Plain) (o : Option Plains) → is_some (option_map f 
 some-map f (Some vs) = refl
 some-map f None = refl
 
-object_plain : (p : List ℕ) (which : Which) (w : ℕ) (ws : List ℕ) → run_entries_of_word OBJECT p w ≡ Ok ws → plain_of p (shape_of (Obj which)) w ≡ option_map trimmed_object_or_null (plains_of p (shapes_of (table which)) ws)
-unfolding plain_of run_entries_of_word
-object_plain p which w ws e = ap (λ s. plain_of p s w) (object_shape which) ∙ found_is w (λ ws. option_map trimmed_object_or_null (plains_of p (shapes_of (table which)) ws)) (run_entries_of_word OBJECT p) ws [] refl (no_words (shapes_of (table which))) e
+object_plain : (p : List ℕ) (which : Which) (w : ℕ) (ws : List ℕ) → run_entries_of_kind_in_payload_at_word OBJECT p w ≡ Ok ws → plain_of p (shape_of (Obj which)) w ≡ option_map trimmed_object_or_null (plains_of p (shapes_of (table which)) ws)
+unfolding plain_of run_entries_of_kind_in_payload_at_word
+object_plain p which w ws e = ap (λ s. plain_of p s w) (object_shape which) ∙ found_is w (λ ws. option_map trimmed_object_or_null (plains_of p (shapes_of (table which)) ws)) (run_entries_of_kind_in_payload_at_word OBJECT p) ws [] refl (no_words (shapes_of (table which))) e
   where
     no_words : (fs : Fields) → option_map trimmed_object_or_null (plains_of p fs []) ≡ Some null
     no_words no_fields = refl
     no_words (field name s fs) = refl
 
-pub object_value_is : (p : List ℕ) (which : Which) (w : ℕ) (ws : List ℕ) → run_entries_of_word OBJECT p w ≡ Ok ws → value_at p (Obj which) w ≡ trimmed_object_or_null (fields_at p (table which) ws)
+pub object_value_is : (p : List ℕ) (which : Which) (w : ℕ) (ws : List ℕ) → run_entries_of_kind_in_payload_at_word OBJECT p w ≡ Ok ws → value_at p (Obj which) w ≡ trimmed_object_or_null (fields_at p (table which) ws)
 unfolding value_at fields_at
 object_value_is p which w ws e = ap (λ o. unwrap_or o null) (object_plain p which w ws e) ∙ unwrap-obj (plains_of p (shapes_of (table which)) ws)
 
-pub object_sound : (p : List ℕ) (which : Which) (w : ℕ) (ws : List ℕ) → run_entries_of_word OBJECT p w ≡ Ok ws → is_sound p (Obj which) w ≡ true → fields_sound p (table which) ws ≡ true
+pub object_sound : (p : List ℕ) (which : Which) (w : ℕ) (ws : List ℕ) → run_entries_of_kind_in_payload_at_word OBJECT p w ≡ Ok ws → is_sound p (Obj which) w ≡ true → fields_sound p (table which) ws ≡ true
 unfolding is_sound fields_sound
 object_sound p which w ws e h = sym (some-map trimmed_object_or_null (plains_of p (shapes_of (table which)) ws)) ∙ ap is_some (sym (object_plain p which w ws e)) ∙ h

@@ -5,7 +5,7 @@ use Rattle.std.specs.Fmt.{decimal}
 use Rattle.adb_view.specs.Plain.{null, int, blob, arr, obj, none, more}
 use Rattle.adb_view.specs.Schema.{shape_of}
 use Rattle.adb_view.specs.declared.tables.Which.TheVariants.{Package, Index, Idb, Intent}
-use Rattle.adb_dump.specs.Dump.{block_lines, named_lines, fields_lines, bare_or_quoted_text, value_lines, dump_text}
+use Rattle.adb_dump.specs.Dump.{block_lines, named_lines, fields_lines, bare_or_quoted_text, object_lines_by_table, dump_text}
 use Rattle.hex.specs.Hex.{encode_with}
 
 package_of_two_texts : dump_text Package (obj (more (obj (more (blob (codes "a")) (more (blob (codes "1")) none))) none)) ≡ codes "#%SCHEMA: 676b6370\ninfo:\n  name: a\n  version: 1\n"
@@ -20,12 +20,12 @@ index_without_a_value : dump_text Index null ≡ codes "#%SCHEMA: 78646e69\n"
 unfolding block_lines named_lines fields_lines shape_of encode_with
 index_without_a_value = refl
 
-nulls_in_a_list : value_lines Intent (obj (more (arr (more null (more null none))) none)) ≡ codes "removals:" ∷ codes "  - null" ∷ codes "  - null" ∷ []
+nulls_in_a_list : object_lines_by_table Intent (obj (more (arr (more null (more null none))) none)) ≡ codes "removals:" ∷ codes "  - null" ∷ codes "  - null" ∷ []
 unfolding block_lines named_lines fields_lines shape_of
 nulls_in_a_list = refl
 
 -- a folder whose name is Null, with rights and a file, in a package of a database
-deep : value_lines Idb (obj (more (arr (more (obj (more null (more (arr (more (obj (more null (more (obj (more (int 493) none)) (more (arr (more (obj (more (blob (codes "f")) (more null (more (int 0) none)))) none)) none)))) none)) none))) none)) none)) ≡
+deep : object_lines_by_table Idb (obj (more (arr (more (obj (more null (more (arr (more (obj (more null (more (obj (more (int 493) none)) (more (arr (more (obj (more (blob (codes "f")) (more null (more (int 0) none)))) none)) none)))) none)) none))) none)) none)) ≡
     codes "packages:" ∷ codes "  - paths:" ∷ codes "      - acl:" ∷ (codes "          mode: " ++ decimal 493) ∷ codes "        files:" ∷ codes "          - name: f" ∷ (codes "            size: " ++ decimal 0) ∷ []
 unfolding block_lines named_lines fields_lines shape_of
 deep = refl

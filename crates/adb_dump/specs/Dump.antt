@@ -8,7 +8,7 @@ use Rattle.hex.specs.Hex.{encode_lower}
 use Rattle.adb_view.specs.Plain.{Plain, null, int, blob, Plains, none, more, Shape, number, text, hash, array, object, Fields, no_fields, field}
 use Rattle.adb_view.specs.Schema.{shape_of}
 use Rattle.adb_view.specs.Values.{entries_in}
-use Rattle.adb_schema.specs.Soundness.{schema_word}
+use Rattle.adb_schema.specs.Soundness.{header_schema_if_root_table}
 use Rattle.adb_view.specs.declared.tables.Which.{Which}
 use Rattle.adb_view.specs.declared.tables.Kind.TheVariants.{Obj}
 
@@ -59,19 +59,19 @@ abbrev pub bare_or_quoted_text : List ℕ → Line
 bare_or_quoted_text b = if needs_no_quotes b then b else quoted_text b
 
 -- the line of an integer, in decimal; `null` if there is no value
-abbrev pub int_line : Plain → Line
-int_line (int n) = decimal n
-int_line v = codes "null"
+abbrev pub int_or_null_line : Plain → Line
+int_or_null_line (int n) = decimal n
+int_or_null_line v = codes "null"
 
 -- the line of a text; `null` if there is no value
-abbrev pub text_line : Plain → Line
-text_line (blob b) = bare_or_quoted_text b
-text_line v = codes "null"
+abbrev pub text_or_null_line : Plain → Line
+text_or_null_line (blob b) = bare_or_quoted_text b
+text_or_null_line v = codes "null"
 
 -- the line of a hash, two digits for each byte; `null` if there is no value
-abbrev pub hash_line : Plain → Line
-hash_line (blob b) = encode_lower b
-hash_line v = codes "null"
+abbrev pub hash_or_null_line : Plain → Line
+hash_or_null_line (blob b) = encode_lower b
+hash_or_null_line v = codes "null"
 
 -- ---- lines of lists
 
@@ -113,17 +113,17 @@ field_lines_unless_null v ls = ls
 unfoldable mutual
   -- the lines of a value that is not Null
   pub block_lines : Shape → Plain → List Line
-  block_lines number v = int_line v ∷ []
-  block_lines text v = text_line v ∷ []
-  block_lines hash v = hash_line v ∷ []
+  block_lines number v = int_or_null_line v ∷ []
+  block_lines text v = text_or_null_line v ∷ []
+  block_lines hash v = hash_or_null_line v ∷ []
   block_lines (array s) v = array_lines (block_lines s) (entries_in v)
   block_lines (object schema fs) v = fields_lines fs (entries_in v)
 
   -- the lines of a field, by its shape, its name and its value, which is not Null
   pub named_lines : Shape → List ℕ → Plain → List Line
-  named_lines number name v = named_line name (int_line v)
-  named_lines text name v = named_line name (text_line v)
-  named_lines hash name v = named_line name (hash_line v)
+  named_lines number name v = named_line name (int_or_null_line v)
+  named_lines text name v = named_line name (text_or_null_line v)
+  named_lines hash name v = named_line name (hash_or_null_line v)
   named_lines (array s) name v =
       name_line_above_indented_lines name (array_lines (block_lines s) (entries_in v))
   named_lines (object schema fs) name v =
@@ -140,18 +140,18 @@ unfoldable mutual
 
 -- the first line of a text: the schema of its root, in eight hexadecimal digits; only the four
 -- roots have one
-abbrev pub schema_line : Option ℕ → Line
-schema_line (Some word) = codes "#%SCHEMA: " ++ encode_lower (to_be_bytes w32 word)
-schema_line None = []
+abbrev pub schema_line_or_empty_line : Option ℕ → Line
+schema_line_or_empty_line (Some word) = codes "#%SCHEMA: " ++ encode_lower (to_be_bytes w32 word)
+schema_line_or_empty_line None = []
 
 -- the lines of a value of this table, without the first line: each of its fields
-abbrev pub value_lines : Which → Plain → List Line
-value_lines which v = block_lines (shape_of (Obj which)) v
+abbrev pub object_lines_by_table : Which → Plain → List Line
+object_lines_by_table which v = block_lines (shape_of (Obj which)) v
 
 -- the lines of a whole dump: that of the schema, and those of the root; a table that is no root has an
 -- empty first line
 abbrev pub dump_lines : Which → Plain → List Line
-dump_lines which v = schema_line (schema_word which) ∷ value_lines which v
+dump_lines which v = schema_line_or_empty_line (header_schema_if_root_table which) ∷ object_lines_by_table which v
 
 -- the bytes of a text: each line with its line end
 abbrev pub dump_text_of_lines : List Line → List ℕ

@@ -9,7 +9,7 @@ use Rattle.adb_view.specs.Plain.{Plain, null, int, blob, arr, obj, Plains, none,
 use Rattle.adb_view.specs.Schema.{shape_of}
 use Rattle.adb_view.specs.declared.tables.Which.{Which}
 use Rattle.adb_view.specs.declared.tables.Kind.TheVariants.{Obj}
-use Rattle.adb_dump.specs.Dump.{Line, begins_with_byte, int_line, text_line, hash_line}
+use Rattle.adb_dump.specs.Dump.{Line, begins_with_byte, int_or_null_line, text_or_null_line, hash_or_null_line}
 
 -- the result of reading lines, or the number of the first line that is not allowed
 abbrev pub ResultOrBadLine : Type 0 → Type 0
@@ -95,20 +95,20 @@ blob_unless_empty [] = None
 blob_unless_empty (c ∷ cs) = Some (blob (c ∷ cs))
 
 -- the value of a number below 2^64 in decimal digits; *value_if_printed_as_line* tests that the line has nothing else
-abbrev pub int_of_line_unchecked : Line → Option Plain
-int_of_line_unchecked l =
+abbrev pub int_of_line_of_unchecked_form : Line → Option Plain
+int_of_line_of_unchecked_form l =
     if nat_lt (digits_value 10 l) (2 ^ 64) then Some (int (digits_value 10 l)) else None
 
 -- the value of a text, between quotes or as it is; *value_if_printed_as_line* tests which form it must have
-abbrev pub text_of_line_unchecked : Line → Option Plain
-text_of_line_unchecked l =
+abbrev pub text_of_line_of_unchecked_form : Line → Option Plain
+text_of_line_of_unchecked_form l =
     if begins_with_byte 0x22 l then option_and_then blob_unless_empty
     (quoted_text_read_with_recursion_bound (length l) (drop 1 l))
     else blob_unless_empty l
 
 -- the value of a hash, by its hexadecimal digits; *value_if_printed_as_line* tests that the line has nothing else
-abbrev pub hash_of_line_unchecked : Line → Option Plain
-hash_of_line_unchecked l = blob_unless_empty (bytes_of_hex_digits_unchecked l)
+abbrev pub hash_of_line_of_unchecked_form : Line → Option Plain
+hash_of_line_of_unchecked_form l = blob_unless_empty (bytes_of_hex_digits_unchecked l)
 
 -- the value that was read from a line, if it is printed as exactly this line (`form`); else the line
 -- is bad
@@ -152,14 +152,14 @@ entries_read_with_recursion_bound f (suc n) (l ∷ ls) =
     (strip_prefix (codes "- ") l)
 
 -- the array of these entries; an array without an entry has no lines, so it cannot be read
-abbrev pub array_unless_empty : Plains → ResultOrBadLine Plain
-array_unless_empty none = Err 0
-array_unless_empty (more v vs) = Ok (arr (more v vs))
+abbrev pub array_or_bad_line_if_empty : Plains → ResultOrBadLine Plain
+array_or_bad_line_if_empty none = Err 0
+array_or_bad_line_if_empty (more v vs) = Ok (arr (more v vs))
 
 -- the object of these fields; an object without a field has no lines, so it cannot be read
-abbrev pub object_unless_empty : Plains → ResultOrBadLine Plain
-object_unless_empty none = Err 0
-object_unless_empty (more v vs) = Ok (obj (more v vs))
+abbrev pub object_or_bad_line_if_empty : Plains → ResultOrBadLine Plain
+object_or_bad_line_if_empty none = Err 0
+object_or_bad_line_if_empty (more v vs) = Ok (obj (more v vs))
 
 -- a field whose value follows `name:` on its line, and then the other fields: `f` reads the value, `g`
 -- the other fields
@@ -191,14 +191,14 @@ unfoldable mutual
   -- the value of the shape that has exactly these lines; or the number of the first bad line
   pub block_read : Shape → List Line → ResultOrBadLine Plain
   block_read number ls =
-      single_line_value (λ l. value_if_printed_as_line int_line l (int_of_line_unchecked l)) ls
+      single_line_value (λ l. value_if_printed_as_line int_or_null_line l (int_of_line_of_unchecked_form l)) ls
   block_read text ls =
-      single_line_value (λ l. value_if_printed_as_line text_line l (text_of_line_unchecked l)) ls
+      single_line_value (λ l. value_if_printed_as_line text_or_null_line l (text_of_line_of_unchecked_form l)) ls
   block_read hash ls =
-      single_line_value (λ l. value_if_printed_as_line hash_line l (hash_of_line_unchecked l)) ls
+      single_line_value (λ l. value_if_printed_as_line hash_or_null_line l (hash_of_line_of_unchecked_form l)) ls
   block_read (array s) ls =
-      and_then (entries_read_with_recursion_bound (block_read s) (length ls) ls) array_unless_empty
-  block_read (object schema fs) ls = and_then (fields_read fs ls) object_unless_empty
+      and_then (entries_read_with_recursion_bound (block_read s) (length ls) ls) array_or_bad_line_if_empty
+  block_read (object schema fs) ls = and_then (fields_read fs ls) object_or_bad_line_if_empty
 
   -- The value of a field, followed by the other fields. `l` is the rest of the line after `name:`, `ls`
   -- has the lines below it, and `g` reads the other fields. The entries of an array or an object are in
@@ -207,22 +207,22 @@ unfoldable mutual
       Shape → (List Line → ResultOrBadLine Plains) → List Line → Line → ResultOrBadLine Plains
   named_read number g ls l =
       fields_read_with_value_on_line
-      (λ l. value_if_printed_as_line int_line l (int_of_line_unchecked l)) g ls
+      (λ l. value_if_printed_as_line int_or_null_line l (int_of_line_of_unchecked_form l)) g ls
       (strip_prefix (codes " ") l)
   named_read text g ls l =
       fields_read_with_value_on_line
-      (λ l. value_if_printed_as_line text_line l (text_of_line_unchecked l)) g ls
+      (λ l. value_if_printed_as_line text_or_null_line l (text_of_line_of_unchecked_form l)) g ls
       (strip_prefix (codes " ") l)
   named_read hash g ls l =
       fields_read_with_value_on_line
-      (λ l. value_if_printed_as_line hash_line l (hash_of_line_unchecked l)) g ls
+      (λ l. value_if_printed_as_line hash_or_null_line l (hash_of_line_of_unchecked_form l)) g ls
       (strip_prefix (codes " ") l)
   named_read (array s) g ls l = fields_read_with_value_below
       (λ ls. and_then (entries_read_with_recursion_bound (block_read s)
-      (length ls) ls) array_unless_empty) g
+      (length ls) ls) array_or_bad_line_if_empty) g
       (block_and_lines_after ls) l
   named_read (object schema fs) g ls l =
-      fields_read_with_value_below (λ ls. and_then (fields_read fs ls) object_unless_empty) g
+      fields_read_with_value_below (λ ls. and_then (fields_read fs ls) object_or_bad_line_if_empty) g
       (block_and_lines_after ls) l
 
   -- the fields of an object by its lines, in the order of its table. A field is Null if the next line does not have
@@ -238,9 +238,9 @@ unfoldable mutual
 
 -- the value of a table by the lines of a dump text after its first line, or the number of a bad line; without lines
 -- the value is Null
-abbrev pub value_of_lines_after_first : Which → List Line → ResultOrBadLine Plain
-value_of_lines_after_first which [] = Ok null
-value_of_lines_after_first which (l ∷ ls) = block_read (shape_of (Obj which)) (l ∷ ls)
+abbrev pub value_of_lines_below_schema_line : Which → List Line → ResultOrBadLine Plain
+value_of_lines_below_schema_line which [] = Ok null
+value_of_lines_below_schema_line which (l ∷ ls) = block_read (shape_of (Obj which)) (l ∷ ls)
 
 -- ---- the lines of a text, in which the last one has its line end
 

@@ -5,8 +5,8 @@
 
 ghost use Rattle.std.specs.Prelude.{◌≡◌, ◌++◌, true, codes, is_some, length, IfOk, OnOk, ◌<◌, ◌≤◌, ◌+◌, false};
 ghost use Rattle.adb_view.specs.ShapedPayload.{adb_of, shaped_value, table_of};
-ghost use Rattle.adb_schema.specs.Soundness.{schema_word};
-ghost use Rattle.adb_dump.specs.Dump.{dump_text, schema_line, block_lines, array_lines, fields_lines, named_lines, entry_lines_or_null_line, field_lines_unless_null};
+ghost use Rattle.adb_schema.specs.Soundness.{header_schema_if_root_table};
+ghost use Rattle.adb_dump.specs.Dump.{dump_text, schema_line_or_empty_line, block_lines, array_lines, fields_lines, named_lines, entry_lines_or_null_line, field_lines_unless_null};
 ghost use Rattle.adb_view.specs.Adb.{payload_of};
 ghost use Rattle.adb_view.specs.Entries.{array_entries};
 ghost use Rattle.adb_schema.specs.adb_fields.Fields.{are_all_sound, values_at};
@@ -26,7 +26,7 @@ use crate::text_out::{BlobOut, Count, Out, Room};
 use crate::words::{field_words, is_null};
 use adb_schema::{
     Field, FieldName, Kind, Shaped, Which, fields_of, hash_word, int_word, objects_word,
-    schema_word, text_word, texts_word,
+    header_schema_if_root_table, text_word, texts_word,
 };
 use adb_view::{Adb, Arr, Val, entry_word};
 use base_core::Text;
@@ -38,7 +38,7 @@ use std::alloc::{AllocError, Global};
 /// first, and its memory is allocated once.
 pub fn dump(alloc: Global, shaped: &Shaped<'_>) -> Result<Text, AllocError>
     // The table is one of the four that a container may have at its root.
-    requires { is_some (schema_word (table_of shaped.now)) ≡ true }
+    requires { is_some (header_schema_if_root_table (table_of shaped.now)) ≡ true }
     // On Ok, the text is the dump text of the value at the root.
     ensures { IfOk result
         (λ text. text ≡ dump_text (table_of shaped.now) (shaped_value shaped.now)) }
@@ -58,7 +58,7 @@ const MOST_TEXT_PER_PAYLOAD_BYTE: usize = 4;
 /// payload, and there is memory for that.
 fn short_dump(alloc: Global, shaped: &Shaped<'_>) -> Result<Text, AllocError>
     // The table is one of the four that a container may have at its root.
-    requires { is_some (schema_word (table_of shaped.now)) ≡ true }
+    requires { is_some (header_schema_if_root_table (table_of shaped.now)) ≡ true }
     // On Ok, the text is the dump text of the value at the root.
     ensures { IfOk result
         (λ text. text ≡ dump_text (table_of shaped.now) (shaped_value shaped.now)) }
@@ -77,7 +77,7 @@ fn short_dump(alloc: Global, shaped: &Shaped<'_>) -> Result<Text, AllocError>
 /// The text of a payload, whose bytes are counted first.
 fn counted_dump(alloc: Global, shaped: &Shaped<'_>) -> Result<Text, AllocError>
     // The table is one of the four that a container may have at its root.
-    requires { is_some (schema_word (table_of shaped.now)) ≡ true }
+    requires { is_some (header_schema_if_root_table (table_of shaped.now)) ≡ true }
     // On Ok, the text is the dump text of the value at the root.
     ensures { IfOk result
         (λ text. text ≡ dump_text (table_of shaped.now) (shaped_value shaped.now)) }
@@ -94,7 +94,7 @@ fn counted_dump(alloc: Global, shaped: &Shaped<'_>) -> Result<Text, AllocError>
 /// How many bytes the text of a payload has.
 fn dump_len(alloc: Global, shaped: &Shaped<'_>) -> Result<usize, AllocError>
     // The table is one of the four that a container may have at its root.
-    requires { is_some (schema_word (table_of shaped.now)) ≡ true }
+    requires { is_some (header_schema_if_root_table (table_of shaped.now)) ≡ true }
     // On Ok, the result is the length of the dump text.
     ensures { IfOk result
         (λ len. len ≡ length (dump_text (table_of shaped.now) (shaped_value shaped.now))) }
@@ -108,7 +108,7 @@ fn dump_len(alloc: Global, shaped: &Shaped<'_>) -> Result<usize, AllocError>
 /// root.
 fn write_dump<O: BlobOut>(out: &mut O, shaped: &Shaped<'_>) -> Result<(), AllocError>
     // The table is one of the four that a container may have at its root.
-    requires { is_some (schema_word (table_of shaped.now)) ≡ true }
+    requires { is_some (header_schema_if_root_table (table_of shaped.now)) ≡ true }
     // On Ok, exactly the dump text is written.
     ensures { OnOk result (Puts (O.holds (payload_of (adb_of shaped.now))) out.old out.new
         (dump_text (table_of shaped.now) (shaped_value shaped.now))) }
@@ -128,12 +128,12 @@ fn write_dump<O: BlobOut>(out: &mut O, shaped: &Shaped<'_>) -> Result<(), AllocE
 /// Writes the first line of a text, with the schema of its root.
 fn write_schema<O: Out>(out: &mut O, which: Which) -> Result<(), AllocError>
     // The table is one of the four that a container may have at its root.
-    requires { is_some (schema_word which) ≡ true }
+    requires { is_some (header_schema_if_root_table which) ≡ true }
     // On Ok, exactly the line of the schema is written, with its line end.
     ensures { OnOk result (PutsForAnyPayload O.holds out.old out.new
-        (schema_line (schema_word which) ++ codes "\n")) }
+        (schema_line_or_empty_line (header_schema_if_root_table which) ++ codes "\n")) }
 {
-    match schema_word(which) {
+    match header_schema_if_root_table(which) {
         Some(word) => {
             out.put(b"#%SCHEMA: ")?;
             write_hex(out, &word.to_be_bytes())?;

@@ -7,8 +7,8 @@ ghost use Rattle.adb_view.specs.Plain.{Plain, IsNormal, plain_of};
 ghost use Rattle.adb_view.specs.Schema.{shape_of};
 ghost use Rattle.adb_view.specs.declared.tables.Which.{Which};
 ghost use Rattle.adb_view.specs.declared.tables.Kind.TheVariants as Kinds;
-ghost use Rattle.adb_dump.specs.Dump.{Line, dump_lines, dump_text, dump_text_of_lines, value_lines};
-ghost use Rattle.adb_dump.specs.ReadBack.{lines_of_text_if_all_ended, value_of_lines_after_first};
+ghost use Rattle.adb_dump.specs.Dump.{Line, dump_lines, dump_text, dump_text_of_lines, object_lines_by_table};
+ghost use Rattle.adb_dump.specs.ReadBack.{lines_of_text_if_all_ended, value_of_lines_below_schema_line};
 ghost use Rattle.adb_dump.specs.Values.{IsOfBytes, IsNormalValueOfTable};
 
 use adb_view::{values_are_normal, values_have_their_shape};
@@ -23,15 +23,15 @@ pub fn values_of_one_text_are_equal()
 /// A law: the lines of each normal value of a table are read back as this value.
 pub fn lines_of_values_are_read_back()
     ensures { (which : Which) (v : Plain) → IsNormalValueOfTable which v → IsOfBytes v
-        → value_of_lines_after_first which (value_lines which v) ≡ Ok v }
+        → value_of_lines_below_schema_line which (object_lines_by_table which v) ≡ Ok v }
 {}
 
 /// A law: if lines are read as a value of a table, this value is a normal one of the table, and the
 /// lines are those of this value.
 pub fn only_lines_of_values_are_read()
-    ensures { (which : Which) (ls : List Line) (v : Plain) → value_of_lines_after_first which ls
+    ensures { (which : Which) (ls : List Line) (v : Plain) → value_of_lines_below_schema_line which ls
         ≡ Ok v
-        → (value_lines which v ≡ ls) × IsNormalValueOfTable which v }
+        → (object_lines_by_table which v ≡ ls) × IsNormalValueOfTable which v }
 {}
 
 /// A law: the text of a normal value is split into exactly its lines, and the lines that a text is

@@ -4,10 +4,10 @@ use Rattle.std.specs.Prelude.{is_some, slice_get}
 use Rattle.std.specs.Result.{result_ok}
 use Rattle.std.proofs.lemmas.Bool.{eqb-true}
 use Rattle.adb_view.specs.Plain.{Plain, null, int, Plains, none, more, without_last_nulls, Shape, number, text, hash, array, object, blob_or_null, object_or_null, trimmed_object_or_null, array_or_null, null_plain_if_null_word, option_of_ok_value, plains_if_first_and_rest, plains_of_all_words, plain_of, plains_of}
-use Rattle.adb_view.specs.Readers.{int_of, blob_of, run_entries_of_word, ARRAY, OBJECT}
+use Rattle.adb_view.specs.Readers.{int_of, blob_of, run_entries_of_kind_in_payload_at_word, ARRAY, OBJECT}
 use Rattle.adb_view.specs.Schema.{table, shape_of, shapes_of, table_number}
 use Rattle.adb_fields.specs.Fields.{AreFieldsOf, are_all_sound, values_at, array_at}
-use Rattle.adb_view.specs.Values.{is_sound, value_at, kind_at, nth, count_of, entries_in, entry_in, int_in, text_in}
+use Rattle.adb_view.specs.Values.{is_sound, value_at, kind_at, nth, count_of, entries_in, entry_at_index, int_in, text_in}
 use Rattle.adb_view.proofs.ValueEntries.{entries_arr, nth_trimmed, text_blob}
 use Rattle.adb_view.specs.Shapes.{object_shape, objects_shape, texts_shape, int_shape, text_shape, hash_shape}
 use Rattle.base_core.specs.declared.cause.Cause.{Cause}
@@ -15,7 +15,7 @@ use Rattle.adb_view.specs.declared.tables.Which.{Which}
 use Rattle.adb_view.specs.declared.tables.Kind.{Kind}
 use Rattle.adb_view.specs.declared.tables.Kind.TheVariants.{Int, Text, Hash, Obj, TextArr, ObjArr}
 use Rattle.adb_view.specs.declared.tables.Field.{Field}
-use Rattle.adb_view.proofs.Found.{run_entries_of_word-null, int_of-null, blob_of-null}
+use Rattle.adb_view.proofs.Found.{run_entries_of_kind_in_payload_at_word-null, int_of-null, blob_of-null}
 
 -- what was read, whatever it is shown as
 pub read_ok : {A : Type 0} (r : Result A Cause) (x : A) → result_ok r ≡ Some x → r ≡ Ok x
@@ -87,9 +87,9 @@ hash_read_of p w h = blob_shape_value p w _ (ap (λ s. plain_of p s w) (sym hash
 
 -- ---- fields
 
-entry_in-object_or_null : (vs : Plains) (i : ℕ) → entry_in (object_or_null vs) i ≡ nth vs i
-entry_in-object_or_null none i = refl
-entry_in-object_or_null (more v vs) i = refl
+entry_at_index-object_or_null : (vs : Plains) (i : ℕ) → entry_at_index (object_or_null vs) i ≡ nth vs i
+entry_at_index-object_or_null none i = refl
+entry_at_index-object_or_null (more v vs) i = refl
 
 null_plain : (p : List ℕ) (s : Shape) → plain_of p s 0 ≡ Some null
 unfolding plain_of
@@ -122,8 +122,8 @@ some_map f None y e = absurd cc
 
 -- what a sound object's run has
 pub record ObjectRead (p : List ℕ) (which : Which) (w : ℕ) (ws : List ℕ) : Type 0 where
-  pub run : run_entries_of_word OBJECT p w ≡ Ok ws
-  pub fields : (i : ℕ) (d : Field) → i < length (table which) → plain_of p (shape_of (get_or (table which) i d).kind) (get_or ws i 0) ≡ Some (entry_in (value_at p (Obj which) w) i)
+  pub run : run_entries_of_kind_in_payload_at_word OBJECT p w ≡ Ok ws
+  pub fields : (i : ℕ) (d : Field) → i < length (table which) → plain_of p (shape_of (get_or (table which) i d).kind) (get_or ws i 0) ≡ Some (entry_at_index (value_at p (Obj which) w) i)
 
 object_value : (p : List ℕ) (which : Which) (w : ℕ) (v : Plain) → plain_of p (object (table_number which) (shapes_of (table which))) w ≡ Some v → value_at p (Obj which) w ≡ v → (ws : List ℕ) × ObjectRead p which w ws
 unfolding plain_of
@@ -132,17 +132,17 @@ object_value p which w v e at =
       | inl z ↦
           let null_is : plain_of p (object (table_number which) (shapes_of (table which))) w ≡ Some null = rw z refl in
           let same : v ≡ null = cc in
-          ([], record { run = rw z (run_entries_of_word-null OBJECT p); fields = λ i d lt. rw (at, same) (null_plain p (shape_of (get_or (table which) i d).kind)) })
+          ([], record { run = rw z (run_entries_of_kind_in_payload_at_word-null OBJECT p); fields = λ i d lt. rw (at, same) (null_plain p (shape_of (get_or (table which) i d).kind)) })
       | inr t ↦
-          let g : null_plain_if_null_word w (option_of_ok_value (λ ws. option_map trimmed_object_or_null (plains_of p (shapes_of (table which)) ws)) (run_entries_of_word OBJECT p w)) ≡ option_of_ok_value (λ ws. option_map trimmed_object_or_null (plains_of p (shapes_of (table which)) ws)) (run_entries_of_word OBJECT p w) = rw t refl in
-          let (ws, ok, is) = found_is (λ ws. option_map trimmed_object_or_null (plains_of p (shapes_of (table which)) ws)) (run_entries_of_word OBJECT p w) v (sym g ∙ e) in
+          let g : null_plain_if_null_word w (option_of_ok_value (λ ws. option_map trimmed_object_or_null (plains_of p (shapes_of (table which)) ws)) (run_entries_of_kind_in_payload_at_word OBJECT p w)) ≡ option_of_ok_value (λ ws. option_map trimmed_object_or_null (plains_of p (shapes_of (table which)) ws)) (run_entries_of_kind_in_payload_at_word OBJECT p w) = rw t refl in
+          let (ws, ok, is) = found_is (λ ws. option_map trimmed_object_or_null (plains_of p (shapes_of (table which)) ws)) (run_entries_of_kind_in_payload_at_word OBJECT p w) v (sym g ∙ e) in
           let (vs, some, made) = some_map trimmed_object_or_null (plains_of p (shapes_of (table which)) ws) v is in (
             ws,
             record {
               run = ok;
               fields = λ i d lt.
                   let one = fields_value p (table which) ws vs i d some lt in
-                  let two : nth vs i ≡ entry_in (value_at p (Obj which) w) i = sym (ap (λ u. entry_in u i) (at ∙ sym made) ∙ entry_in-object_or_null (without_last_nulls vs) i ∙ nth_trimmed vs i) in
+                  let two : nth vs i ≡ entry_at_index (value_at p (Obj which) w) i = sym (ap (λ u. entry_at_index u i) (at ∙ sym made) ∙ entry_at_index-object_or_null (without_last_nulls vs) i ∙ nth_trimmed vs i) in
                   one ∙ ap Some two;
             },
           )
@@ -152,13 +152,13 @@ pub object_read_of : (p : List ℕ) (which : Which) (w : ℕ) → is_sound p (Ob
 object_read_of p which w h = object_value p which w (value_at p (Obj which) w) (ap (λ s. plain_of p s w) (sym (object_shape which)) ∙ value_is p (Obj which) w h) refl
 
 -- so the field is sound, and its value is the field of the value
-pub field_is : (p : List ℕ) (which : Which) (w : ℕ) (ws : List ℕ) (i : ℕ) (d : Field) → is_sound p (Obj which) w ≡ true → run_entries_of_word OBJECT p w ≡ Ok ws → i < length (table which)
-    → (is_sound p (get_or (table which) i d).kind (get_or ws i 0) ≡ true) × (value_at p (get_or (table which) i d).kind (get_or ws i 0) ≡ entry_in (value_at p (Obj which) w) i)
+pub field_is : (p : List ℕ) (which : Which) (w : ℕ) (ws : List ℕ) (i : ℕ) (d : Field) → is_sound p (Obj which) w ≡ true → run_entries_of_kind_in_payload_at_word OBJECT p w ≡ Ok ws → i < length (table which)
+    → (is_sound p (get_or (table which) i d).kind (get_or ws i 0) ≡ true) × (value_at p (get_or (table which) i d).kind (get_or ws i 0) ≡ entry_at_index (value_at p (Obj which) w) i)
 unfolding is_sound value_at
 field_is p which w ws i d h run lt =
     let (us, r) = object_read_of p which w h in
     let same : us ≡ ws = cc (r.run, run) in
-    let is : plain_of p (shape_of (get_or (table which) i d).kind) (get_or ws i 0) ≡ Some (entry_in (value_at p (Obj which) w) i) = subst (λ (xs : List ℕ). plain_of p (shape_of (get_or (table which) i d).kind) (get_or xs i 0) ≡ Some (entry_in (value_at p (Obj which) w) i)) same (r.fields i d lt) in
+    let is : plain_of p (shape_of (get_or (table which) i d).kind) (get_or ws i 0) ≡ Some (entry_at_index (value_at p (Obj which) w) i) = subst (λ (xs : List ℕ). plain_of p (shape_of (get_or (table which) i d).kind) (get_or xs i 0) ≡ Some (entry_at_index (value_at p (Obj which) w) i)) same (r.fields i d lt) in
     (rw is refl, rw is refl)
 
 -- the same where the kind is known
@@ -169,19 +169,19 @@ kind_found (f ∷ fs) (suc i) k e = let (d, lt, is) = kind_found fs i k e in (d,
 
 pub record FieldRead (p : List ℕ) (which : Which) (w : ℕ) (i : ℕ) (k : Kind) (word : ℕ) : Type 0 where
   pub sound : is_sound p k word ≡ true
-  pub value : value_at p k word ≡ entry_in (value_at p (Obj which) w) i
+  pub value : value_at p k word ≡ entry_at_index (value_at p (Obj which) w) i
 
-pub field_read : (p : List ℕ) (which : Which) (w : ℕ) (ws : List ℕ) (i : ℕ) (k : Kind) → is_sound p (Obj which) w ≡ true → run_entries_of_word OBJECT p w ≡ Ok ws → kind_at which i ≡ Some k → FieldRead p which w i k (get_or ws i 0)
+pub field_read : (p : List ℕ) (which : Which) (w : ℕ) (ws : List ℕ) (i : ℕ) (k : Kind) → is_sound p (Obj which) w ≡ true → run_entries_of_kind_in_payload_at_word OBJECT p w ≡ Ok ws → kind_at which i ≡ Some k → FieldRead p which w i k (get_or ws i 0)
 field_read p which w ws i k h run e =
     let (d, lt, is) = kind_found (table which) i k e in
     let r = field_is p which w ws i d h run lt in
     subst (λ (x : Kind). FieldRead p which w i x (get_or ws i 0)) is (record { sound = r.0; value = r.1 })
 
-pub fields_read : (p : List ℕ) (which : Which) (w : ℕ) (ws : List ℕ) → is_sound p (Obj which) w ≡ true → run_entries_of_word OBJECT p w ≡ Ok ws → AreFieldsOf p which w ws
+pub fields_read : (p : List ℕ) (which : Which) (w : ℕ) (ws : List ℕ) → is_sound p (Obj which) w ≡ true → run_entries_of_kind_in_payload_at_word OBJECT p w ≡ Ok ws → AreFieldsOf p which w ws
 fields_read p which w ws h run i k e = let r = field_read p which w ws i k h run e in (r.sound, r.value)
 
 -- a sound object has a run
-pub object_runs : (p : List ℕ) (which : Which) (w : ℕ) → is_sound p (Obj which) w ≡ true → result_ok (run_entries_of_word OBJECT p w) ≡ None → ⊥
+pub object_runs : (p : List ℕ) (which : Which) (w : ℕ) → is_sound p (Obj which) w ≡ true → result_ok (run_entries_of_kind_in_payload_at_word OBJECT p w) ≡ None → ⊥
 object_runs p which w h e = let (ws, r) = object_read_of p which w h in let run = ap result_ok r.run in cc
 
 pub text_reads : (p : List ℕ) (w : ℕ) → is_sound p Text w ≡ true → result_ok (blob_of p w) ≡ None → ⊥
@@ -195,17 +195,17 @@ hash_reads p w h e = let r = ap result_ok (hash_read_of p w h) in cc
 
 -- ---- arrays
 
-array_shape_value : (p : List ℕ) (s : Shape) (w : ℕ) (v : Plain) → plain_of p (array s) w ≡ Some v → (ws : List ℕ) × (vs : Plains) × (run_entries_of_word ARRAY p w ≡ Ok ws) × (plains_of_all_words (plain_of p s) ws ≡ Some vs) × (array_or_null vs ≡ v)
+array_shape_value : (p : List ℕ) (s : Shape) (w : ℕ) (v : Plain) → plain_of p (array s) w ≡ Some v → (ws : List ℕ) × (vs : Plains) × (run_entries_of_kind_in_payload_at_word ARRAY p w ≡ Ok ws) × (plains_of_all_words (plain_of p s) ws ≡ Some vs) × (array_or_null vs ≡ v)
 unfolding plain_of
 array_shape_value p s w v e =
     elim (null_or_not w) [
       | inl z ↦
           let null_is : plain_of p (array s) w ≡ Some null = rw z refl in
           let same : null ≡ v = cc in
-          ([], none, rw z (run_entries_of_word-null ARRAY p), refl, same)
+          ([], none, rw z (run_entries_of_kind_in_payload_at_word-null ARRAY p), refl, same)
       | inr t ↦
-          let g : null_plain_if_null_word w (option_of_ok_value (λ ws. option_map array_or_null (plains_of_all_words (plain_of p s) ws)) (run_entries_of_word ARRAY p w)) ≡ option_of_ok_value (λ ws. option_map array_or_null (plains_of_all_words (plain_of p s) ws)) (run_entries_of_word ARRAY p w) = rw t refl in
-          let (ws, ok, is) = found_is (λ ws. option_map array_or_null (plains_of_all_words (plain_of p s) ws)) (run_entries_of_word ARRAY p w) v (sym g ∙ e) in
+          let g : null_plain_if_null_word w (option_of_ok_value (λ ws. option_map array_or_null (plains_of_all_words (plain_of p s) ws)) (run_entries_of_kind_in_payload_at_word ARRAY p w)) ≡ option_of_ok_value (λ ws. option_map array_or_null (plains_of_all_words (plain_of p s) ws)) (run_entries_of_kind_in_payload_at_word ARRAY p w) = rw t refl in
+          let (ws, ok, is) = found_is (λ ws. option_map array_or_null (plains_of_all_words (plain_of p s) ws)) (run_entries_of_kind_in_payload_at_word ARRAY p w) v (sym g ∙ e) in
           let (vs, some, made) = some_map array_or_null (plains_of_all_words (plain_of p s) ws) v is in
           (ws, vs, ok, some, made)
     ]
@@ -215,34 +215,34 @@ pub record ArrayRead (p : List ℕ) (k inner : Kind) (w : ℕ) (ws : List ℕ) :
   pub sound : are_all_sound p inner ws ≡ true
   pub value : array_at p inner ws ≡ value_at p k w
 
-array_read_of : (p : List ℕ) (k inner : Kind) (w : ℕ) → shape_of k ≡ array (shape_of inner) → is_sound p k w ≡ true → (ws : List ℕ) × (run_entries_of_word ARRAY p w ≡ Ok ws) × ArrayRead p k inner w ws
+array_read_of : (p : List ℕ) (k inner : Kind) (w : ℕ) → shape_of k ≡ array (shape_of inner) → is_sound p k w ≡ true → (ws : List ℕ) × (run_entries_of_kind_in_payload_at_word ARRAY p w ≡ Ok ws) × ArrayRead p k inner w ws
 unfolding are_all_sound values_at
 array_read_of p k inner w is h =
     let (ws, vs, run, each, made) = array_shape_value p (shape_of inner) w (value_at p k w) (ap (λ s. plain_of p s w) (sym is) ∙ value_is p k w h) in
     (ws, run, record { sound = rw each refl; value = rw each made })
 
-array_read : (p : List ℕ) (k inner : Kind) (w : ℕ) (ws : List ℕ) → shape_of k ≡ array (shape_of inner) → is_sound p k w ≡ true → run_entries_of_word ARRAY p w ≡ Ok ws → ArrayRead p k inner w ws
+array_read : (p : List ℕ) (k inner : Kind) (w : ℕ) (ws : List ℕ) → shape_of k ≡ array (shape_of inner) → is_sound p k w ≡ true → run_entries_of_kind_in_payload_at_word ARRAY p w ≡ Ok ws → ArrayRead p k inner w ws
 array_read p k inner w ws is h run =
     let (us, ok, r) = array_read_of p k inner w is h in
     let same : us ≡ ws = cc (ok, run) in
     subst (λ (xs : List ℕ). ArrayRead p k inner w xs) same r
 
-pub texts_sound : (p : List ℕ) (w : ℕ) (ws : List ℕ) → is_sound p TextArr w ≡ true → run_entries_of_word ARRAY p w ≡ Ok ws → are_all_sound p Text ws ≡ true
+pub texts_sound : (p : List ℕ) (w : ℕ) (ws : List ℕ) → is_sound p TextArr w ≡ true → run_entries_of_kind_in_payload_at_word ARRAY p w ≡ Ok ws → are_all_sound p Text ws ≡ true
 texts_sound p w ws h run = (array_read p TextArr Text w ws texts_shape h run).sound
 
-pub texts_value : (p : List ℕ) (w : ℕ) (ws : List ℕ) → is_sound p TextArr w ≡ true → run_entries_of_word ARRAY p w ≡ Ok ws → array_at p Text ws ≡ value_at p TextArr w
+pub texts_value : (p : List ℕ) (w : ℕ) (ws : List ℕ) → is_sound p TextArr w ≡ true → run_entries_of_kind_in_payload_at_word ARRAY p w ≡ Ok ws → array_at p Text ws ≡ value_at p TextArr w
 texts_value p w ws h run = (array_read p TextArr Text w ws texts_shape h run).value
 
-pub texts_run : (p : List ℕ) (w : ℕ) → is_sound p TextArr w ≡ true → result_ok (run_entries_of_word ARRAY p w) ≡ None → ⊥
+pub texts_run : (p : List ℕ) (w : ℕ) → is_sound p TextArr w ≡ true → result_ok (run_entries_of_kind_in_payload_at_word ARRAY p w) ≡ None → ⊥
 texts_run p w h e = let (ws, run, r) = array_read_of p TextArr Text w texts_shape h in let read = ap result_ok run in cc
 
-pub objects_sound : (p : List ℕ) (which : Which) (w : ℕ) (ws : List ℕ) → is_sound p (ObjArr which) w ≡ true → run_entries_of_word ARRAY p w ≡ Ok ws → are_all_sound p (Obj which) ws ≡ true
+pub objects_sound : (p : List ℕ) (which : Which) (w : ℕ) (ws : List ℕ) → is_sound p (ObjArr which) w ≡ true → run_entries_of_kind_in_payload_at_word ARRAY p w ≡ Ok ws → are_all_sound p (Obj which) ws ≡ true
 objects_sound p which w ws h run = (array_read p (ObjArr which) (Obj which) w ws (objects_shape which) h run).sound
 
-pub objects_value : (p : List ℕ) (which : Which) (w : ℕ) (ws : List ℕ) → is_sound p (ObjArr which) w ≡ true → run_entries_of_word ARRAY p w ≡ Ok ws → array_at p (Obj which) ws ≡ value_at p (ObjArr which) w
+pub objects_value : (p : List ℕ) (which : Which) (w : ℕ) (ws : List ℕ) → is_sound p (ObjArr which) w ≡ true → run_entries_of_kind_in_payload_at_word ARRAY p w ≡ Ok ws → array_at p (Obj which) ws ≡ value_at p (ObjArr which) w
 objects_value p which w ws h run = (array_read p (ObjArr which) (Obj which) w ws (objects_shape which) h run).value
 
-pub objects_run : (p : List ℕ) (which : Which) (w : ℕ) → is_sound p (ObjArr which) w ≡ true → result_ok (run_entries_of_word ARRAY p w) ≡ None → ⊥
+pub objects_run : (p : List ℕ) (which : Which) (w : ℕ) → is_sound p (ObjArr which) w ≡ true → result_ok (run_entries_of_kind_in_payload_at_word ARRAY p w) ≡ None → ⊥
 objects_run p which w h e = let (ws, run, r) = array_read_of p (ObjArr which) (Obj which) w (objects_shape which) h in let read = ap result_ok run in cc
 
 -- ---- entries
@@ -267,7 +267,7 @@ pub entry_sound : (p : List ℕ) (k : Kind) (ws : List ℕ) (i : ℕ) → are_al
 unfolding is_sound
 entry_sound p k ws i h lt = rw (each_found (plain_of p (shape_of k)) ws (values_at p k ws) i (values_are p k ws h) lt) refl
 
-pub entry_value : (p : List ℕ) (k : Kind) (ws : List ℕ) (i : ℕ) → are_all_sound p k ws ≡ true → i < length ws → value_at p k (get_or ws i 0) ≡ entry_in (array_at p k ws) i
+pub entry_value : (p : List ℕ) (k : Kind) (ws : List ℕ) (i : ℕ) → are_all_sound p k ws ≡ true → i < length ws → value_at p k (get_or ws i 0) ≡ entry_at_index (array_at p k ws) i
 unfolding value_at
 entry_value p k ws i h lt =
     rw (each_found (plain_of p (shape_of k)) ws (values_at p k ws) i (values_are p k ws h) lt) (ap (λ vs. nth vs i) (sym (entries_arr (values_at p k ws))))

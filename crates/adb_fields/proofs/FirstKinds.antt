@@ -10,9 +10,9 @@ use Rattle.adb_fields.specs.FirstPair.{IsLeastPairIfAny}
 use Rattle.adb_fields.specs.FirstPair.{IsPairOfEqualNames}
 use Rattle.adb_fields.specs.FirstPair.{IsIn}
 use Rattle.adb_view.specs.declared.tables.Which.TheVariants as Tables
-use Rattle.adb_view.specs.FieldIndexes.{DIR_NAME, FILE_NAME}
-use Rattle.adb_fields.specs.Repeated.{field_place_in_causes, numbered_from, least_pair_of_repeated_name, least_pair_of_repeated_name_in_one_list, repeated_cause, name_of, folders_in, files_in, fault_of_repeated_folder_or_file_name}
-use Rattle.adb_fields.specs.FirstPair.{IsPairOfRepeatedNameInOneList}
+use Rattle.adb_view.specs.FieldIndexes.{DIR_NAME_INDEX, FILE_NAME_INDEX}
+use Rattle.adb_fields.specs.Repeated.{place_in_causes_of_field_at_index, numbered_from, least_positions_of_name_twice_in_list, least_positions_of_name_twice_in_one_list, repeated_cause, name_of, folders_in, files_in, fault_of_package_repeating_folder_or_file}
+use Rattle.adb_fields.specs.FirstPair.{ArePositionsOfNameTwiceInOneList}
 use Rattle.std.specs.Option.{option_or}
 use Rattle.adb_fields.specs.NamedTexts.{plains_of_array_words}
 use Rattle.adb_view.specs.declared.tables.Kind.{Kind}
@@ -50,28 +50,28 @@ no_first p kind g ws i first all sound past so =
 
 -- ---- one list for each value, and several
 
-pub one_each : (f : Plain → List (List ℕ)) (values : List Plain) → least_pair (map (λ v. least_pair_of_repeated_name (f v)) values) ≡ least_pair_of_repeated_name_in_one_list (map f values)
+pub one_each : (f : Plain → List (List ℕ)) (values : List Plain) → least_pair (map (λ v. least_positions_of_name_twice_in_list (f v)) values) ≡ least_positions_of_name_twice_in_one_list (map f values)
 one_each f [] = refl
-one_each f (v ∷ vs) = ap (lesser_pair (least_pair_of_repeated_name (f v))) (one_each f vs)
+one_each f (v ∷ vs) = ap (lesser_pair (least_positions_of_name_twice_in_list (f v))) (one_each f vs)
 
 least_pair-append : (xs ys : List (Option Pair)) → least_pair (xs ++ ys) ≡ lesser_pair (least_pair xs) (least_pair ys)
 least_pair-append [] ys = refl
 least_pair-append (x ∷ xs) ys = ap (lesser_pair x) (least_pair-append xs ys) ∙ sym (lesser_pair-assoc x (least_pair xs) (least_pair ys))
 
-least_pair_of_repeated_name_in_one_list-append : (xs ys : List (List (List ℕ))) → least_pair_of_repeated_name_in_one_list (xs ++ ys) ≡ lesser_pair (least_pair_of_repeated_name_in_one_list xs) (least_pair_of_repeated_name_in_one_list ys)
-least_pair_of_repeated_name_in_one_list-append [] ys = refl
-least_pair_of_repeated_name_in_one_list-append (x ∷ xs) ys = ap (lesser_pair (least_pair_of_repeated_name x)) (least_pair_of_repeated_name_in_one_list-append xs ys) ∙ sym (lesser_pair-assoc (least_pair_of_repeated_name x) (least_pair_of_repeated_name_in_one_list xs) (least_pair_of_repeated_name_in_one_list ys))
+least_positions_of_name_twice_in_one_list-append : (xs ys : List (List (List ℕ))) → least_positions_of_name_twice_in_one_list (xs ++ ys) ≡ lesser_pair (least_positions_of_name_twice_in_one_list xs) (least_positions_of_name_twice_in_one_list ys)
+least_positions_of_name_twice_in_one_list-append [] ys = refl
+least_positions_of_name_twice_in_one_list-append (x ∷ xs) ys = ap (lesser_pair (least_positions_of_name_twice_in_list x)) (least_positions_of_name_twice_in_one_list-append xs ys) ∙ sym (lesser_pair-assoc (least_positions_of_name_twice_in_list x) (least_positions_of_name_twice_in_one_list xs) (least_positions_of_name_twice_in_one_list ys))
 
-pub several_each : (f : Plain → List (List (List ℕ))) (values : List Plain) → least_pair (map (λ v. least_pair_of_repeated_name_in_one_list (f v)) values) ≡ least_pair_of_repeated_name_in_one_list (flat_map f values)
+pub several_each : (f : Plain → List (List (List ℕ))) (values : List Plain) → least_pair (map (λ v. least_positions_of_name_twice_in_one_list (f v)) values) ≡ least_positions_of_name_twice_in_one_list (flat_map f values)
 several_each f [] = refl
-several_each f (v ∷ vs) = ap (lesser_pair (least_pair_of_repeated_name_in_one_list (f v))) (several_each f vs) ∙ sym (least_pair_of_repeated_name_in_one_list-append (f v) (flat_map f vs))
+several_each f (v ∷ vs) = ap (lesser_pair (least_positions_of_name_twice_in_one_list (f v))) (several_each f vs) ∙ sym (least_positions_of_name_twice_in_one_list-append (f v) (flat_map f vs))
 
 -- of one list alone
-pub alone : (names : List (List ℕ)) → least_pair_of_repeated_name names ≡ least_pair_of_repeated_name_in_one_list (names ∷ [])
-alone names = sym (lesser_pair-none (least_pair_of_repeated_name names))
+pub alone : (names : List (List ℕ)) → least_positions_of_name_twice_in_list names ≡ least_positions_of_name_twice_in_one_list (names ∷ [])
+alone names = sym (lesser_pair-none (least_positions_of_name_twice_in_list names))
 
-pub alone_several : (lists : List (List (List ℕ))) → least_pair_of_repeated_name_in_one_list lists ≡ least_pair_of_repeated_name_in_one_list (lists ++ [])
-alone_several lists = ap least_pair_of_repeated_name_in_one_list (sym (append-nil lists))
+pub alone_several : (lists : List (List (List ℕ))) → least_positions_of_name_twice_in_one_list lists ≡ least_positions_of_name_twice_in_one_list (lists ++ [])
+alone_several lists = ap least_positions_of_name_twice_in_one_list (sym (append-nil lists))
 
 -- ---- names after names
 
@@ -88,21 +88,21 @@ texts_after a b one two m e l h =
 
 -- ---- kind after kind
 
-pub one_package : (pkg : Plain) → option_or (repeated_cause (field_place_in_causes Tables.Dir DIR_NAME) (least_pair_of_repeated_name (map name_of (folders_in pkg)))) (repeated_cause (field_place_in_causes Tables.File FILE_NAME) (least_pair_of_repeated_name_in_one_list (map (λ folder. map name_of (files_in folder)) (folders_in pkg)))) ≡ fault_of_repeated_folder_or_file_name (pkg ∷ [])
-one_package pkg = λ i. option_or (repeated_cause (field_place_in_causes Tables.Dir DIR_NAME) (alone (map name_of (folders_in pkg)) i)) (repeated_cause (field_place_in_causes Tables.File FILE_NAME) (alone_several (map (λ folder. map name_of (files_in folder)) (folders_in pkg)) i))
+pub one_package : (pkg : Plain) → option_or (repeated_cause (place_in_causes_of_field_at_index Tables.Dir DIR_NAME_INDEX) (least_positions_of_name_twice_in_list (map name_of (folders_in pkg)))) (repeated_cause (place_in_causes_of_field_at_index Tables.File FILE_NAME_INDEX) (least_positions_of_name_twice_in_one_list (map (λ folder. map name_of (files_in folder)) (folders_in pkg)))) ≡ fault_of_package_repeating_folder_or_file (pkg ∷ [])
+one_package pkg = λ i. option_or (repeated_cause (place_in_causes_of_field_at_index Tables.Dir DIR_NAME_INDEX) (alone (map name_of (folders_in pkg)) i)) (repeated_cause (place_in_causes_of_field_at_index Tables.File FILE_NAME_INDEX) (alone_several (map (λ folder. map name_of (files_in folder)) (folders_in pkg)) i))
 
 -- ---- what is reported of several lists is the first pair of all
 
-from-here : (names : List (List ℕ)) (others : List (List (List ℕ))) (p : Pair) → Either (IsPairOfEqualNames (numbered_from 1 names)) (IsPairOfRepeatedNameInOneList others) p → IsPairOfRepeatedNameInOneList (names ∷ others) p
+from-here : (names : List (List ℕ)) (others : List (List (List ℕ))) (p : Pair) → Either (IsPairOfEqualNames (numbered_from 1 names)) (ArePositionsOfNameTwiceInOneList others) p → ArePositionsOfNameTwiceInOneList (names ∷ others) p
 from-here names others p (inl k) = record { names = names; names_in = inl refl; is_pair = k }
 from-here names others p (inr k) = record { names = k.names; names_in = inr k.names_in; is_pair = k.is_pair }
 
-here-by : (names : List (List ℕ)) (others : List (List (List ℕ))) (p : Pair) (found : List (List ℕ)) → IsIn found (names ∷ others) → IsPairOfEqualNames (numbered_from 1 found) p → Either (IsPairOfEqualNames (numbered_from 1 names)) (IsPairOfRepeatedNameInOneList others) p
+here-by : (names : List (List ℕ)) (others : List (List (List ℕ))) (p : Pair) (found : List (List ℕ)) → IsIn found (names ∷ others) → IsPairOfEqualNames (numbered_from 1 found) p → Either (IsPairOfEqualNames (numbered_from 1 names)) (ArePositionsOfNameTwiceInOneList others) p
 here-by names others p found (inl e) k = let P : List (List ℕ) → Type 0 = λ l. IsPairOfEqualNames (numbered_from 1 l) p in inl (subst P e k)
 here-by names others p found (inr h) k = inr (record { names = found; names_in = h; is_pair = k })
 
-pub least_pair_of_repeated_name_in_one_list-first : (lists : List (List (List ℕ))) → IsLeastPairIfAny (IsPairOfRepeatedNameInOneList lists) (least_pair_of_repeated_name_in_one_list lists)
-least_pair_of_repeated_name_in_one_list-first [] = λ p k. k.names_in
-least_pair_of_repeated_name_in_one_list-first (names ∷ others) =
-    alike (Either (IsPairOfEqualNames (numbered_from 1 names)) (IsPairOfRepeatedNameInOneList others)) (IsPairOfRepeatedNameInOneList (names ∷ others)) (least_pair_of_repeated_name_in_one_list (names ∷ others)) (from-here names others) (λ p k. here-by names others p k.names k.names_in k.is_pair)
-    (lesser_pair-first (IsPairOfEqualNames (numbered_from 1 names)) (IsPairOfRepeatedNameInOneList others) (least_pair_of_repeated_name names) (least_pair_of_repeated_name_in_one_list others) (least_pair_of_equal_names-first (numbered_from 1 names)) (least_pair_of_repeated_name_in_one_list-first others))
+pub least_positions_of_name_twice_in_one_list-first : (lists : List (List (List ℕ))) → IsLeastPairIfAny (ArePositionsOfNameTwiceInOneList lists) (least_positions_of_name_twice_in_one_list lists)
+least_positions_of_name_twice_in_one_list-first [] = λ p k. k.names_in
+least_positions_of_name_twice_in_one_list-first (names ∷ others) =
+    alike (Either (IsPairOfEqualNames (numbered_from 1 names)) (ArePositionsOfNameTwiceInOneList others)) (ArePositionsOfNameTwiceInOneList (names ∷ others)) (least_positions_of_name_twice_in_one_list (names ∷ others)) (from-here names others) (λ p k. here-by names others p k.names k.names_in k.is_pair)
+    (lesser_pair-first (IsPairOfEqualNames (numbered_from 1 names)) (ArePositionsOfNameTwiceInOneList others) (least_positions_of_name_twice_in_list names) (least_positions_of_name_twice_in_one_list others) (least_pair_of_equal_names-first (numbered_from 1 names)) (least_positions_of_name_twice_in_one_list-first others))

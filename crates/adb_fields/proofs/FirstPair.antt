@@ -4,7 +4,7 @@ use Rattle.std.specs.Prelude.{bytes_eq, ◌&&◌, nat_lt}
 use Rattle.std.specs.List.{flat_map}
 use Rattle.std.specs.List.Sorted.{IsPermutation, IsSortedBy}
 use Rattle.adb_fields.specs.declared.pairs.Pair.{Pair}
-use Rattle.adb_fields.specs.Pairs.{NameWithPosition, is_lesser_pair, lesser_pair, least_pair, pair_if_same_name_and_first_precedes, least_pair_of_equal_names}
+use Rattle.adb_fields.specs.Pairs.{NameWithPosition, is_lesser_pair_by_second_then_first, lesser_pair, least_pair, pair_if_same_name_and_first_precedes, least_pair_of_equal_names}
 use Rattle.adb_fields.specs.FirstPair.{IsLeastPairIfAny}
 use Rattle.adb_fields.specs.FirstPair.{IsLeastPair}
 use Rattle.adb_fields.specs.FirstPair.{IsPairOfEqualNames}
@@ -63,14 +63,14 @@ alike P Q a f g h = covered P Q a f (λ q k. (q, g q k, record { second = omega 
 
 -- ---- the earliest of a list
 
-pub is-before : (p q : Pair) (t : Bool) → is_lesser_pair p q ≡ t → cond t (NotAfter p q) (NotAfter q p)
+pub is-before : (p q : Pair) (t : Bool) → is_lesser_pair_by_second_then_first p q ≡ t → cond t (NotAfter p q) (NotAfter q p)
 is-before p q true h = record { second = grind (arith, ltb-true, eqb-true); first = λ e. grind (arith, ltb-true, eqb-true) }
 is-before p q false h = record { second = grind (arith, ltb-false, eqb-false); first = λ e. grind (arith, ltb-false, eqb-false) }
 
 abbrev pub Either : (Pair → Type 0) → (Pair → Type 0) → Pair → Type 0
 Either P Q p = P p ⊎ Q p
 
-either-by : (P Q : Pair → Type 0) (p q : Pair) (t : Bool) → is_lesser_pair q p ≡ t → IsLeastPair P p → IsLeastPair Q q → IsLeastPair (Either P Q) (cond t q p)
+either-by : (P Q : Pair → Type 0) (p q : Pair) (t : Bool) → is_lesser_pair_by_second_then_first q p ≡ t → IsLeastPair P p → IsLeastPair Q q → IsLeastPair (Either P Q) (cond t q p)
 either-by P Q p q true e h g =
     let n : NotAfter q p = is-before q p true e in
     record {
@@ -94,7 +94,7 @@ pub lesser_pair-first : (P Q : Pair → Type 0) (a b : Option Pair) → IsLeastP
 lesser_pair-first P Q None None h g = λ q k. elim k [ inl k ↦ h q k | inr k ↦ g q k ]
 lesser_pair-first P Q None (Some q) h g = record { is_one = inr g.is_one; second = λ r k. elim k [ inl k ↦ absurd (h r k) | inr k ↦ g.second r k ]; first = λ r k s. elim k [ inl k ↦ absurd (h r k) | inr k ↦ g.first r k s ] }
 lesser_pair-first P Q (Some p) None h g = record { is_one = inl h.is_one; second = λ r k. elim k [ inl k ↦ h.second r k | inr k ↦ absurd (g r k) ]; first = λ r k s. elim k [ inl k ↦ h.first r k s | inr k ↦ absurd (g r k) ] }
-lesser_pair-first P Q (Some p) (Some q) h g = let F = λ (o : Option Pair). IsLeastPairIfAny (Either P Q) o in subst F (sym (cond-some (is_lesser_pair q p) p q)) (either-by P Q p q (is_lesser_pair q p) refl h g)
+lesser_pair-first P Q (Some p) (Some q) h g = let F = λ (o : Option Pair). IsLeastPairIfAny (Either P Q) o in subst F (sym (cond-some (is_lesser_pair_by_second_then_first q p) p q)) (either-by P Q p q (is_lesser_pair_by_second_then_first q p) refl h g)
 
 -- the pair that one place of a list has
 abbrev pub IsThis : Option Pair → Pair → Type 0

@@ -1,7 +1,7 @@
 -- Going over a list of values and adding their names.
 use Rattle.std.proofs.Common.{◌≡◌, ℕ, suc, zero, ◌+◌, ◌<◌, ◌≤◌, true, List, [], ◌∷◌, ◌++◌, map, length, get_or, drop, refl, ap, sym, ◌∙◌, subst, arith, append_assoc, append-nil}
 use Rattle.adb_view.specs.Plain.{Plain, null, Plains, none, more}
-use Rattle.adb_view.specs.Values.{value_at, entry_in, entries_in, count_of, nth}
+use Rattle.adb_view.specs.Values.{value_at, entry_at_index, entries_in, count_of, nth}
 use Rattle.adb_fields.specs.Fields.{are_all_sound, array_at}
 use Rattle.adb_fields.specs.Pairs.{NameWithPosition}
 use Rattle.adb_fields.specs.Repeated.{list_of, numbered_from, names_all_at_position, names_with_list_positions, name_of, paths_of_folder_files, paths_of_package_files}
@@ -147,10 +147,10 @@ no_list p kind f ws i m done all sound past so =
 
 -- ---- the paths of a folder, and of a package
 
-pub under_folder : (n : ℕ) (name : List ℕ) (folder files : Plain) → name ≡ name_of folder → files ≡ entry_in folder 2 → flat_map (λ file. name_with_position (path_of name (name_of file)) n ∷ []) (list_of (entries_in files)) ≡ names_all_at_position n (paths_of_folder_files folder)
+pub under_folder : (n : ℕ) (name : List ℕ) (folder files : Plain) → name ≡ name_of folder → files ≡ entry_at_index folder 2 → flat_map (λ file. name_with_position (path_of name (name_of file)) n ∷ []) (list_of (entries_in files)) ≡ names_all_at_position n (paths_of_folder_files folder)
 under_folder n name folder files e v =
     names_all_at_position-map n (λ file. path_of name (name_of file)) (list_of (entries_in files))
     ∙ (λ i. names_all_at_position n (map (λ file. path_of (e i) (name_of file)) (list_of (entries_in (v i)))))
 
-pub in_package : (n : ℕ) (pkg folders : Plain) → folders ≡ entry_in pkg 1 → flat_map (λ folder. names_all_at_position n (paths_of_folder_files folder)) (list_of (entries_in folders)) ≡ names_all_at_position n (paths_of_package_files pkg)
+pub in_package : (n : ℕ) (pkg folders : Plain) → folders ≡ entry_at_index pkg 1 → flat_map (λ folder. names_all_at_position n (paths_of_folder_files folder)) (list_of (entries_in folders)) ≡ names_all_at_position n (paths_of_package_files pkg)
 in_package n pkg folders v = names_all_at_position-pieces n paths_of_folder_files (list_of (entries_in folders)) ∙ (λ i. names_all_at_position n (flat_map paths_of_folder_files (list_of (entries_in (v i)))))

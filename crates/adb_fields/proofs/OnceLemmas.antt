@@ -6,13 +6,13 @@ use Rattle.base_core.proofs.Causes.{both_none, none_both}
 use Rattle.adb_view.specs.declared.tables.Which.{Which}
 use Rattle.adb_view.specs.declared.tables.Which.TheVariants.{Dep, Acl, PkgInfo, File, Dir, Scripts, Package, Index, Idb, Intent}
 use Rattle.adb_fields.specs.declared.pairs.Pair.{Pair}
-use Rattle.adb_fields.specs.Pairs.{NameWithPosition, is_lesser_pair, lesser_pair}
+use Rattle.adb_fields.specs.Pairs.{NameWithPosition, is_lesser_pair_by_second_then_first, lesser_pair}
 use Rattle.adb_fields.specs.FirstPair.{IsLeastPairIfAny}
 use Rattle.adb_fields.specs.FirstPair.{IsPairOfEqualNames}
 use Rattle.adb_fields.specs.FirstPair.{IsIn}
-use Rattle.adb_view.specs.FieldIndexes.{DIR_NAME, FILE_NAME, IDB_PACKAGES, INTENT_WRITES}
-use Rattle.adb_fields.specs.Repeated.{field_place_in_causes, numbered_from, names_all_at_position, names_with_list_positions, least_pair_of_repeated_name, least_pair_of_repeated_name_in_one_list, least_pair_of_lists_sharing_a_name, entries_at, repeated_folder_in_one_of_packages, repeated_file_in_folder_of_packages, repeated_package_name, pair_of_packages_listing_one_path, repeated_intent_name, repeated_cause, fault_of_repeated_folder_or_file_name, fault_of_packages_sharing_name_or_path, repeated_fault}
-use Rattle.adb_fields.specs.Once.{AreDistinctNames, EachHasDistinctNames, IsInOneOf, ShareNoName, HaveNoRepeatInside, HaveNoRepeatBetween, HasNoRepeatedName}
+use Rattle.adb_view.specs.FieldIndexes.{DIR_NAME_INDEX, FILE_NAME_INDEX, IDB_PACKAGES_INDEX, INTENT_WRITES_INDEX}
+use Rattle.adb_fields.specs.Repeated.{place_in_causes_of_field_at_index, numbered_from, names_all_at_position, names_with_list_positions, least_positions_of_name_twice_in_list, least_positions_of_name_twice_in_one_list, least_pair_of_lists_sharing_a_name, entries_of_field_at_index, positions_of_folder_repeated_in_a_package, positions_of_file_repeated_in_a_folder, positions_of_repeated_package_name, pair_of_packages_listing_one_path, positions_of_repeated_intent_name, repeated_cause, fault_of_package_repeating_folder_or_file, fault_of_two_packages_sharing_name_or_path, repeated_fault}
+use Rattle.adb_fields.specs.Once.{AreDistinctNames, EachHasDistinctNames, IsInOneOf, ShareNoName, HaveNoRepeatInside, HaveNoRepeatBetween, HasNoForbiddenRepeatedName}
 use Rattle.adb_fields.proofs.Members.{in-front, in-behind, in-either, in-map, from-map}
 use Rattle.adb_fields.proofs.FirstPair.{least_pair_of_equal_names-first}
 
@@ -96,11 +96,11 @@ is_none_by : (IsOne : Pair → Type 0) (o : Option Pair) → IsLeastPairIfAny Is
 is_none_by IsOne None first h = refl
 is_none_by IsOne (Some p) first h = absurd (h p first.is_one)
 
-pub twice_none : (names : List (List ℕ)) → least_pair_of_repeated_name names ≡ None → AreDistinctNames names
-twice_none names e = distinct 1 names (none_of (IsPairOfEqualNames (numbered_from 1 names)) (least_pair_of_repeated_name names) (least_pair_of_equal_names-first (numbered_from 1 names)) e)
+pub twice_none : (names : List (List ℕ)) → least_positions_of_name_twice_in_list names ≡ None → AreDistinctNames names
+twice_none names e = distinct 1 names (none_of (IsPairOfEqualNames (numbered_from 1 names)) (least_positions_of_name_twice_in_list names) (least_pair_of_equal_names-first (numbered_from 1 names)) e)
 
-pub none_twice : (names : List (List ℕ)) → AreDistinctNames names → least_pair_of_repeated_name names ≡ None
-none_twice names d = is_none_by (IsPairOfEqualNames (numbered_from 1 names)) (least_pair_of_repeated_name names) (least_pair_of_equal_names-first (numbered_from 1 names)) (no_pair 1 names d)
+pub none_twice : (names : List (List ℕ)) → AreDistinctNames names → least_positions_of_name_twice_in_list names ≡ None
+none_twice names d = is_none_by (IsPairOfEqualNames (numbered_from 1 names)) (least_positions_of_name_twice_in_list names) (least_pair_of_equal_names-first (numbered_from 1 names)) (no_pair 1 names d)
 
 -- ---- several lists, each for itself
 
@@ -111,20 +111,20 @@ never_none false p q e = cc
 earlier_none : (a b : Option Pair) → lesser_pair a b ≡ None → (a ≡ None) × (b ≡ None)
 earlier_none None b e = (refl, e)
 earlier_none (Some p) None e = absurd (cc)
-earlier_none (Some p) (Some q) e = absurd (never_none (is_lesser_pair q p) p q e)
+earlier_none (Some p) (Some q) e = absurd (never_none (is_lesser_pair_by_second_then_first q p) p q e)
 
 none_earlier : (a b : Option Pair) → a ≡ None → b ≡ None → lesser_pair a b ≡ None
 none_earlier None b e f = f
 none_earlier (Some p) b e f = absurd (cc)
 
-each_none : (lists : List (List (List ℕ))) → least_pair_of_repeated_name_in_one_list lists ≡ None → EachHasDistinctNames lists
+each_none : (lists : List (List (List ℕ))) → least_positions_of_name_twice_in_one_list lists ≡ None → EachHasDistinctNames lists
 each_none [] e = tt
 each_none (names ∷ lists) e =
-    let (one, others) = earlier_none (least_pair_of_repeated_name names) (least_pair_of_repeated_name_in_one_list lists) e in (twice_none names one, each_none lists others)
+    let (one, others) = earlier_none (least_positions_of_name_twice_in_list names) (least_positions_of_name_twice_in_one_list lists) e in (twice_none names one, each_none lists others)
 
-none_each : (lists : List (List (List ℕ))) → EachHasDistinctNames lists → least_pair_of_repeated_name_in_one_list lists ≡ None
+none_each : (lists : List (List (List ℕ))) → EachHasDistinctNames lists → least_positions_of_name_twice_in_one_list lists ≡ None
 none_each [] d = refl
-none_each (names ∷ lists) d = none_earlier (least_pair_of_repeated_name names) (least_pair_of_repeated_name_in_one_list lists) (none_twice names d.0) (none_each lists d.1)
+none_each (names ∷ lists) d = none_earlier (least_positions_of_name_twice_in_list names) (least_positions_of_name_twice_in_one_list lists) (none_twice names d.0) (none_each lists d.1)
 
 -- ---- between several lists
 
@@ -221,28 +221,28 @@ none_at : (n : ℕ) (o : Option Pair) → o ≡ None → repeated_cause n o ≡ 
 none_at n None e = refl
 none_at n (Some p) e = absurd (cc)
 
-inside_once : (packages : List Plain) → fault_of_repeated_folder_or_file_name packages ≡ None → HaveNoRepeatInside packages
+inside_once : (packages : List Plain) → fault_of_package_repeating_folder_or_file packages ≡ None → HaveNoRepeatInside packages
 inside_once packages e =
-    let (a, b) = both_none (repeated_cause (field_place_in_causes Dir DIR_NAME) (repeated_folder_in_one_of_packages packages)) (repeated_cause (field_place_in_causes File FILE_NAME) (repeated_file_in_folder_of_packages packages)) e in
-    record { folders = each_none _ (at_none (field_place_in_causes Dir DIR_NAME) (repeated_folder_in_one_of_packages packages) a); files = each_none _ (at_none (field_place_in_causes File FILE_NAME) (repeated_file_in_folder_of_packages packages) b) }
+    let (a, b) = both_none (repeated_cause (place_in_causes_of_field_at_index Dir DIR_NAME_INDEX) (positions_of_folder_repeated_in_a_package packages)) (repeated_cause (place_in_causes_of_field_at_index File FILE_NAME_INDEX) (positions_of_file_repeated_in_a_folder packages)) e in
+    record { folders = each_none _ (at_none (place_in_causes_of_field_at_index Dir DIR_NAME_INDEX) (positions_of_folder_repeated_in_a_package packages) a); files = each_none _ (at_none (place_in_causes_of_field_at_index File FILE_NAME_INDEX) (positions_of_file_repeated_in_a_folder packages) b) }
 
-once_inside : (packages : List Plain) → HaveNoRepeatInside packages → fault_of_repeated_folder_or_file_name packages ≡ None
+once_inside : (packages : List Plain) → HaveNoRepeatInside packages → fault_of_package_repeating_folder_or_file packages ≡ None
 once_inside packages d =
-    none_both (repeated_cause (field_place_in_causes Dir DIR_NAME) (repeated_folder_in_one_of_packages packages)) (repeated_cause (field_place_in_causes File FILE_NAME) (repeated_file_in_folder_of_packages packages)) (none_at (field_place_in_causes Dir DIR_NAME) (repeated_folder_in_one_of_packages packages) (none_each _ d.folders)) (none_at (field_place_in_causes File FILE_NAME) (repeated_file_in_folder_of_packages packages) (none_each _ d.files))
+    none_both (repeated_cause (place_in_causes_of_field_at_index Dir DIR_NAME_INDEX) (positions_of_folder_repeated_in_a_package packages)) (repeated_cause (place_in_causes_of_field_at_index File FILE_NAME_INDEX) (positions_of_file_repeated_in_a_folder packages)) (none_at (place_in_causes_of_field_at_index Dir DIR_NAME_INDEX) (positions_of_folder_repeated_in_a_package packages) (none_each _ d.folders)) (none_at (place_in_causes_of_field_at_index File FILE_NAME_INDEX) (positions_of_file_repeated_in_a_folder packages) (none_each _ d.files))
 
-between_once : (packages : List Plain) → fault_of_packages_sharing_name_or_path packages ≡ None → HaveNoRepeatBetween packages
+between_once : (packages : List Plain) → fault_of_two_packages_sharing_name_or_path packages ≡ None → HaveNoRepeatBetween packages
 between_once packages e =
-    let (a, b) = both_none (repeated_cause (field_place_in_causes Idb IDB_PACKAGES) (repeated_package_name packages)) (repeated_cause (field_place_in_causes File FILE_NAME) (pair_of_packages_listing_one_path packages)) e in
-    record { packages_once = twice_none _ (at_none (field_place_in_causes Idb IDB_PACKAGES) (repeated_package_name packages) a); paths_once = two_none _ (at_none (field_place_in_causes File FILE_NAME) (pair_of_packages_listing_one_path packages) b) }
+    let (a, b) = both_none (repeated_cause (place_in_causes_of_field_at_index Idb IDB_PACKAGES_INDEX) (positions_of_repeated_package_name packages)) (repeated_cause (place_in_causes_of_field_at_index File FILE_NAME_INDEX) (pair_of_packages_listing_one_path packages)) e in
+    record { packages_once = twice_none _ (at_none (place_in_causes_of_field_at_index Idb IDB_PACKAGES_INDEX) (positions_of_repeated_package_name packages) a); paths_once = two_none _ (at_none (place_in_causes_of_field_at_index File FILE_NAME_INDEX) (pair_of_packages_listing_one_path packages) b) }
 
-once_between : (packages : List Plain) → HaveNoRepeatBetween packages → fault_of_packages_sharing_name_or_path packages ≡ None
+once_between : (packages : List Plain) → HaveNoRepeatBetween packages → fault_of_two_packages_sharing_name_or_path packages ≡ None
 once_between packages d =
-    none_both (repeated_cause (field_place_in_causes Idb IDB_PACKAGES) (repeated_package_name packages)) (repeated_cause (field_place_in_causes File FILE_NAME) (pair_of_packages_listing_one_path packages)) (none_at (field_place_in_causes Idb IDB_PACKAGES) (repeated_package_name packages) (none_twice _ d.packages_once)) (none_at (field_place_in_causes File FILE_NAME) (pair_of_packages_listing_one_path packages) (none_two _ d.paths_once))
+    none_both (repeated_cause (place_in_causes_of_field_at_index Idb IDB_PACKAGES_INDEX) (positions_of_repeated_package_name packages)) (repeated_cause (place_in_causes_of_field_at_index File FILE_NAME_INDEX) (pair_of_packages_listing_one_path packages)) (none_at (place_in_causes_of_field_at_index Idb IDB_PACKAGES_INDEX) (positions_of_repeated_package_name packages) (none_twice _ d.packages_once)) (none_at (place_in_causes_of_field_at_index File FILE_NAME_INDEX) (pair_of_packages_listing_one_path packages) (none_two _ d.paths_once))
 
-database_once : (packages : List Plain) → option_or (fault_of_repeated_folder_or_file_name packages) (fault_of_packages_sharing_name_or_path packages) ≡ None → HaveNoRepeatInside packages × HaveNoRepeatBetween packages
-database_once packages e = let (a, b) = both_none (fault_of_repeated_folder_or_file_name packages) (fault_of_packages_sharing_name_or_path packages) e in (inside_once packages a, between_once packages b)
+database_once : (packages : List Plain) → option_or (fault_of_package_repeating_folder_or_file packages) (fault_of_two_packages_sharing_name_or_path packages) ≡ None → HaveNoRepeatInside packages × HaveNoRepeatBetween packages
+database_once packages e = let (a, b) = both_none (fault_of_package_repeating_folder_or_file packages) (fault_of_two_packages_sharing_name_or_path packages) e in (inside_once packages a, between_once packages b)
 
-pub names_once : (which : Which) (v : Plain) → (repeated_fault which v ≡ None) ↔ HasNoRepeatedName which v
+pub names_once : (which : Which) (v : Plain) → (repeated_fault which v ≡ None) ↔ HasNoForbiddenRepeatedName which v
 unfolding repeated_fault
 names_once Dep v = (λ e. tt, λ d. refl)
 names_once Acl v = (λ e. tt, λ d. refl)
@@ -253,7 +253,7 @@ names_once Scripts v = (λ e. tt, λ d. refl)
 names_once Package v = (inside_once (v ∷ []), once_inside (v ∷ []))
 names_once Index v = (λ e. tt, λ d. refl)
 names_once Idb v = (
-  database_once (entries_at 0 v),
-  λ d. none_both (fault_of_repeated_folder_or_file_name (entries_at 0 v)) (fault_of_packages_sharing_name_or_path (entries_at 0 v)) (once_inside (entries_at 0 v) d.0) (once_between (entries_at 0 v) d.1),
+  database_once (entries_of_field_at_index 0 v),
+  λ d. none_both (fault_of_package_repeating_folder_or_file (entries_of_field_at_index 0 v)) (fault_of_two_packages_sharing_name_or_path (entries_of_field_at_index 0 v)) (once_inside (entries_of_field_at_index 0 v) d.0) (once_between (entries_of_field_at_index 0 v) d.1),
 )
-names_once Intent v = (λ e. twice_none _ (at_none (field_place_in_causes Intent INTENT_WRITES) (repeated_intent_name v) e), λ d. none_at (field_place_in_causes Intent INTENT_WRITES) (repeated_intent_name v) (none_twice _ d))
+names_once Intent v = (λ e. twice_none _ (at_none (place_in_causes_of_field_at_index Intent INTENT_WRITES_INDEX) (positions_of_repeated_intent_name v) e), λ d. none_at (place_in_causes_of_field_at_index Intent INTENT_WRITES_INDEX) (positions_of_repeated_intent_name v) (none_twice _ d))

@@ -3,7 +3,7 @@ use Rattle.std.proofs.Common.{◌≡◌, ℕ, List, [], ◌∷◌, Option, Some,
 use Rattle.base_core.specs.declared.cause.Cause.TheVariants.{Repeated}
 use Rattle.adb_view.specs.Plain.{Plain, null, blob, arr, obj, none, more}
 use Rattle.adb_fields.specs.Pairs.{least_pair_of_equal_names}
-use Rattle.adb_fields.specs.Repeated.{least_pair_of_repeated_name, least_pair_of_repeated_name_in_one_list, least_pair_of_lists_sharing_a_name, repeated_fault}
+use Rattle.adb_fields.specs.Repeated.{least_positions_of_name_twice_in_list, least_positions_of_name_twice_in_one_list, least_pair_of_lists_sharing_a_name, repeated_fault}
 use Rattle.adb_fields.specs.declared.pairs.Pair.{Pair}
 use Rattle.adb_view.specs.declared.tables.Which.TheVariants.{Package, Index, Idb, Intent}
 
@@ -12,33 +12,33 @@ pair i j = Some (record { first = i; second = j })
 
 -- ---- lists of names
 
-each_once : least_pair_of_repeated_name (codes "a" ∷ codes "b" ∷ codes "ab" ∷ []) ≡ None
+each_once : least_positions_of_name_twice_in_list (codes "a" ∷ codes "b" ∷ codes "ab" ∷ []) ≡ None
 unfolding least_pair_of_equal_names
 each_once = refl
 
-first_and_third : least_pair_of_repeated_name (codes "a" ∷ codes "b" ∷ codes "a" ∷ []) ≡ pair 1 3
+first_and_third : least_positions_of_name_twice_in_list (codes "a" ∷ codes "b" ∷ codes "a" ∷ []) ≡ pair 1 3
 unfolding least_pair_of_equal_names
 first_and_third = refl
 
 -- of two pairs the one that ends first
-least_second : least_pair_of_repeated_name (codes "a" ∷ codes "b" ∷ codes "b" ∷ codes "a" ∷ []) ≡ pair 2 3
+least_second : least_positions_of_name_twice_in_list (codes "a" ∷ codes "b" ∷ codes "b" ∷ codes "a" ∷ []) ≡ pair 2 3
 unfolding least_pair_of_equal_names
 least_second = refl
 
-three_times : least_pair_of_repeated_name (codes "b" ∷ codes "a" ∷ codes "a" ∷ codes "a" ∷ []) ≡ pair 2 3
+three_times : least_positions_of_name_twice_in_list (codes "b" ∷ codes "a" ∷ codes "a" ∷ codes "a" ∷ []) ≡ pair 2 3
 unfolding least_pair_of_equal_names
 three_times = refl
 
-empty_names : least_pair_of_repeated_name ([] ∷ [] ∷ []) ≡ pair 1 2
+empty_names : least_positions_of_name_twice_in_list ([] ∷ [] ∷ []) ≡ pair 1 2
 unfolding least_pair_of_equal_names
 empty_names = refl
 
 -- over all lists, and not the first list that has one
-in_the_second_list : least_pair_of_repeated_name_in_one_list ((codes "a" ∷ codes "b" ∷ codes "a" ∷ []) ∷ (codes "c" ∷ codes "c" ∷ []) ∷ []) ≡ pair 1 2
+in_the_second_list : least_positions_of_name_twice_in_one_list ((codes "a" ∷ codes "b" ∷ codes "a" ∷ []) ∷ (codes "c" ∷ codes "c" ∷ []) ∷ []) ≡ pair 1 2
 unfolding least_pair_of_equal_names
 in_the_second_list = refl
 
-in_different_lists : least_pair_of_repeated_name_in_one_list ((codes "a" ∷ []) ∷ (codes "a" ∷ []) ∷ []) ≡ None
+in_different_lists : least_positions_of_name_twice_in_one_list ((codes "a" ∷ []) ∷ (codes "a" ∷ []) ∷ []) ≡ None
 unfolding least_pair_of_equal_names
 in_different_lists = refl
 

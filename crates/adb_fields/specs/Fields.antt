@@ -4,7 +4,7 @@
 use Rattle.std.specs.Prelude.{◌≡◌, ℕ, true, Bool, List, is_some, slice_index_or, unwrap_or, Some}
 use Rattle.adb_view.specs.Plain.{Plain, Plains, none, array_or_null, plains_of_all_words, plain_of}
 use Rattle.adb_view.specs.Schema.{shape_of}
-use Rattle.adb_view.specs.Values.{is_sound, value_at, kind_at, entry_in}
+use Rattle.adb_view.specs.Values.{is_sound, value_at, kind_at, entry_at_index}
 use Rattle.adb_view.specs.declared.tables.Which.{Which}
 use Rattle.adb_view.specs.declared.tables.Kind.{Kind}
 use Rattle.adb_view.specs.declared.tables.Kind.TheVariants.{Obj}
@@ -13,7 +13,7 @@ use Rattle.adb_view.specs.declared.tables.Kind.TheVariants.{Obj}
 -- has a kind for the field, the word is sound as that kind, and its value is what the object has there.
 abbrev pub IsFieldOf : List ℕ → Which → ℕ → ℕ → ℕ → Type 0
 IsFieldOf p which w i word = (k : Kind) → kind_at which i ≡ Some k → (is_sound p k word ≡ true)
-    × (value_at p k word ≡ entry_in (value_at p (Obj which) w) i)
+    × (value_at p k word ≡ entry_at_index (value_at p (Obj which) w) i)
 
 -- each of `words` is the word of the field with its index in the object at the word `object`, which is of the table
 -- `which` in the payload `p`. After the last word the fields are Null

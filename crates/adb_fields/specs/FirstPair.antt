@@ -41,7 +41,7 @@ IsLeastPairIfAny IsOne None = (q : Pair) → ¬ IsOne q
 IsLeastPairIfAny IsOne (Some p) = IsLeastPair IsOne p
 
 -- p is a pair of different positions at which one of several lists has the same name
-pub record IsPairOfRepeatedNameInOneList (lists : List (List (List ℕ))) (p : Pair) : Type 0 where
+pub record ArePositionsOfNameTwiceInOneList (lists : List (List (List ℕ))) (p : Pair) : Type 0 where
   -- the list that has the name twice
   pub names : List (List ℕ)
   -- this list is one of the lists

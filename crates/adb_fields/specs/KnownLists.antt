@@ -1,18 +1,18 @@
 -- The remembered results for lists of objects to which many words may refer. Serves the contract of
--- `KnownLists::least_pair_of_repeated_name`; the rule is in `docs/formats.md`, "Names that stand twice".
+-- `KnownLists::least_positions_of_name_twice_in_list`; the rule is in `docs/formats.md`, "Names that stand twice".
 use Rattle.std.specs.Prelude.{◌≡◌, ℕ, List, map, Option, Some}
 use Rattle.std.specs.BTreeMap.{BTreeMap, get}
 use Rattle.std.specs.Ordering.{nat_cmp}
 use Rattle.adb_view.specs.Values.{entries_in, value_at}
 use Rattle.adb_view.specs.declared.tables.Which.{Which}
 use Rattle.adb_view.specs.declared.tables.Kind.TheVariants.{ObjArr}
-use Rattle.adb_fields.specs.Repeated.{least_pair_of_repeated_name, list_of, name_of}
+use Rattle.adb_fields.specs.Repeated.{least_positions_of_name_twice_in_list, list_of, name_of}
 use Rattle.adb_fields.specs.declared.pairs.Pair.{Pair}
 
 -- the first pair of positions at which the list of objects with this word has the same name; None if there is none.
 -- The objects are of the table `which`
 abbrev pub repeated_name_pair_at : List ℕ → Which → ℕ → Option Pair
-repeated_name_pair_at payload which word = least_pair_of_repeated_name (map name_of
+repeated_name_pair_at payload which word = least_positions_of_name_twice_in_list (map name_of
     (list_of (entries_in (value_at payload (ObjArr which) word))))
 
 -- `pairs` maps words of lists to results: the result of each word is the first pair of positions with the same name in

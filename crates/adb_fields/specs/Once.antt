@@ -3,12 +3,12 @@
 use Rattle.std.specs.Prelude.{◌⊎◌, ℕ, List, [], ◌∷◌, ◌++◌, map}
 use Rattle.std.specs.List.{flat_map}
 use Rattle.adb_view.specs.Plain.{Plain}
-use Rattle.adb_view.specs.FieldIndexes.{IDB_PACKAGES, INTENT_REMOVALS, INTENT_WRITES}
+use Rattle.adb_view.specs.FieldIndexes.{IDB_PACKAGES_INDEX, INTENT_REMOVALS_INDEX, INTENT_WRITES_INDEX}
 use Rattle.adb_view.specs.Values.{text_in}
 use Rattle.adb_view.specs.declared.tables.Which.{Which}
 use Rattle.adb_view.specs.declared.tables.Which.TheVariants.{Package, Idb, Intent}
 use Rattle.adb_fields.specs.FirstPair.{IsIn}
-use Rattle.adb_fields.specs.Repeated.{entries_at, files_in, folders_in, name_of, package_name, paths_of_package_files}
+use Rattle.adb_fields.specs.Repeated.{entries_of_field_at_index, files_in, folders_in, name_of, package_name, paths_of_package_files}
 
 -- no name occurs twice in the list
 abbrev pub AreDistinctNames : List (List ℕ) → Type 0
@@ -48,10 +48,10 @@ pub record HaveNoRepeatBetween (packages : List Plain) : Type 0 where
 
 -- no name that must not repeat occurs twice in the value of a container, whose root has the table `which`. For tables
 -- other than those of packages, databases and intents nothing is demanded
-abbrev pub HasNoRepeatedName : Which → Plain → Type 0
-HasNoRepeatedName Package v = HaveNoRepeatInside (v ∷ [])
-HasNoRepeatedName Idb v = HaveNoRepeatInside (entries_at IDB_PACKAGES v)
-    × HaveNoRepeatBetween (entries_at IDB_PACKAGES v)
-HasNoRepeatedName Intent v = AreDistinctNames (map text_in (entries_at INTENT_REMOVALS v)
-    ++ map text_in (entries_at INTENT_WRITES v))
-HasNoRepeatedName which v = Unit {0}
+abbrev pub HasNoForbiddenRepeatedName : Which → Plain → Type 0
+HasNoForbiddenRepeatedName Package v = HaveNoRepeatInside (v ∷ [])
+HasNoForbiddenRepeatedName Idb v = HaveNoRepeatInside (entries_of_field_at_index IDB_PACKAGES_INDEX v)
+    × HaveNoRepeatBetween (entries_of_field_at_index IDB_PACKAGES_INDEX v)
+HasNoForbiddenRepeatedName Intent v = AreDistinctNames (map text_in (entries_of_field_at_index INTENT_REMOVALS_INDEX v)
+    ++ map text_in (entries_of_field_at_index INTENT_WRITES_INDEX v))
+HasNoForbiddenRepeatedName which v = Unit {0}

@@ -13,16 +13,16 @@ pub record NameWithPosition : Type 0 where
 
 -- whether the pair p is reported rather than q: its second position is smaller; or the second positions are equal, and
 -- its first position is smaller
-abbrev pub is_lesser_pair : Pair → Pair → Bool
-is_lesser_pair p q = nat_lt p.second q.second || (p.second == q.second && nat_lt p.first q.first)
+abbrev pub is_lesser_pair_by_second_then_first : Pair → Pair → Bool
+is_lesser_pair_by_second_then_first p q = nat_lt p.second q.second || (p.second == q.second && nat_lt p.first q.first)
 
--- of two pairs the one that is reported (*is_lesser_pair*); None if there is neither
+-- of two pairs the one that is reported (*is_lesser_pair_by_second_then_first*); None if there is neither
 abbrev pub lesser_pair : Option Pair → Option Pair → Option Pair
 lesser_pair None q = q
 lesser_pair (Some p) None = Some p
-lesser_pair (Some p) (Some q) = if is_lesser_pair q p then Some q else Some p
+lesser_pair (Some p) (Some q) = if is_lesser_pair_by_second_then_first q p then Some q else Some p
 
--- of several pairs the one that is reported (*is_lesser_pair*); None if there is none
+-- of several pairs the one that is reported (*is_lesser_pair_by_second_then_first*); None if there is none
 abbrev pub least_pair : List (Option Pair) → Option Pair
 least_pair [] = None
 least_pair (p ∷ ps) = lesser_pair p (least_pair ps)

@@ -10,7 +10,7 @@ ghost use Rattle.adb_view.specs.Values.{is_sound, kind_at};
 ghost use Rattle.adb_fields.specs.Fields.{are_all_sound};
 ghost use Rattle.adb_fields.specs.KnownLists.{AreFirstRepeatsOfWords, repeated_name_pair_at};
 ghost use Rattle.adb_fields.specs.NamedTexts.{plains_of_array_words};
-ghost use Rattle.adb_fields.specs.Repeated.{NAME_INDEX, least_pair_of_repeated_name, name_of};
+ghost use Rattle.adb_fields.specs.Repeated.{NAME_INDEX, least_positions_of_name_twice_in_list, name_of};
 ghost use Rattle.adb_view.specs.declared.tables.Kind.TheVariants as Kinds;
 
 use crate::name_lists::object_names;
@@ -60,7 +60,7 @@ impl<'a> KnownLists<'a> {
 
     /// The first pair of positions at which two objects of the list with the word `list` have the
     /// same name; None if there is none. Only a long list allocates memory, once.
-    pub(crate) fn least_pair_of_repeated_name(
+    pub(crate) fn least_positions_of_name_twice_in_list(
         &mut self,
         alloc: Global,
         list: Val,
@@ -112,7 +112,7 @@ fn name_twice_in_list(
     requires kind { kind_at which NAME_INDEX ≡ Some Kinds.Text }
     // On Ok, the pair, or None, is that of the definition.
     ensures { IfOk result (λ pair. pair
-        ≡ least_pair_of_repeated_name (map name_of (plains_of_array_words (payload_of adb.entry)
+        ≡ least_positions_of_name_twice_in_list (map name_of (plains_of_array_words (payload_of adb.entry)
         (Kinds.Obj which)
         (array_entries objects.entry)))) }
 {

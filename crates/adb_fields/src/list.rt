@@ -6,7 +6,7 @@ ghost use Rattle.std.specs.Prelude.{◌≡◌, ◌<◌, ◌≤◌, ◌-◌, ◌^
 ghost use Rattle.adb_view.specs.Adb.{payload_of};
 ghost use Rattle.adb_view.specs.Entries.{array_entries};
 ghost use Rattle.adb_view.specs.Plain.{Plain, blob_or_null};
-ghost use Rattle.adb_view.specs.Values.{is_sound, value_at, entry_in, entries_in, count_of};
+ghost use Rattle.adb_view.specs.Values.{is_sound, value_at, entry_at_index, entries_in, count_of};
 ghost use Rattle.adb_fields.specs.Fields.{are_all_sound, array_at};
 ghost use Rattle.adb_view.specs.declared.tables.Kind.{Kind};
 ghost use Rattle.adb_view.specs.declared.tables.Kind.TheVariants as Kinds;
@@ -84,7 +84,7 @@ impl<'a, V: View<'a>> List<'a, V> {
         // The position is at most that of the last entry.
         requires to { i ≤ count_of (entries_in (list_value self.now)) }
         // The view shows the entry at this position.
-        ensures { V.shows result ≡ entry_in (list_value self.now) (i - 1) }
+        ensures { V.shows result ≡ entry_at_index (list_value self.now) (i - 1) }
     {
         let list = self;
         V::of(list.adb, entry_word(list.entries, i - 1))

@@ -18,13 +18,13 @@ use crate::file_path::FilePath;
 use crate::pairs::PathWithPosition;
 use crate::reads::{field_word, objects_field, text_field, text_word};
 use adb_view::field_indexes::{
-    DIR_FILES, DIR_NAME, FILE_NAME, INFO_NAME, PACKAGE_INFO, PACKAGE_PATHS,
+    DIR_FILES_INDEX, DIR_NAME_INDEX, FILE_NAME_INDEX, INFO_NAME_INDEX, PACKAGE_INFO_INDEX, PACKAGE_PATHS_INDEX,
 };
 use adb_view::{Adb, Arr, Val, Which, entry_word};
 use std::alloc::{AllocError, Global};
 
 /// The index of the name in a folder and in a file: in both it is the first field.
-const NAME_INDEX: usize = DIR_NAME;
+const NAME_INDEX: usize = DIR_NAME_INDEX;
 
 /// Adds `name` to the end of `names`, with the next position.
 fn add<'a>(names: &mut Vec<PathWithPosition<'a>>, name: &'a [u8]) -> Result<(), AllocError>
@@ -104,8 +104,8 @@ fn package_name<'a>(adb: Adb<'a>, pkg: Val) -> &'a [u8]
     ensures { result.now
         ≡ package_name (value_at (payload_of adb.entry) (Kinds.Obj Tables.Package) pkg) }
 {
-    let info = field_word(adb, Which::Package, pkg, PACKAGE_INFO);
-    text_field(adb, Which::PkgInfo, info, INFO_NAME)
+    let info = field_word(adb, Which::Package, pkg, PACKAGE_INFO_INDEX);
+    text_field(adb, Which::PkgInfo, info, INFO_NAME_INDEX)
 }
 
 /// Adds the texts of an array to the end of `names`, with the positions that follow. `texts` has
@@ -169,10 +169,10 @@ fn add_paths_under<'a>(
         ++ names_all_at_position position
         (paths_of_folder_files (value_at (payload_of adb.entry) (Kinds.Obj Tables.Dir) folder))) }
 {
-    let name = text_field(adb, Which::Dir, folder, DIR_NAME);
-    let files = objects_field(adb, Which::Dir, folder, DIR_FILES, Which::File);
+    let name = text_field(adb, Which::Dir, folder, DIR_NAME_INDEX);
+    let files = objects_field(adb, Which::Dir, folder, DIR_FILES_INDEX, Which::File);
     for i in 0..files.len() {
-        let file = text_field(adb, Which::File, entry_word(files, i), FILE_NAME);
+        let file = text_field(adb, Which::File, entry_word(files, i), FILE_NAME_INDEX);
         add_path(paths, name, file, position)?;
     }
     Ok(())
@@ -194,7 +194,7 @@ fn add_paths<'a>(
         ++ names_all_at_position position
         (paths_of_package_files (value_at (payload_of adb.entry) (Kinds.Obj Tables.Package) pkg))) }
 {
-    let folders = objects_field(adb, Which::Package, pkg, PACKAGE_PATHS, Which::Dir);
+    let folders = objects_field(adb, Which::Package, pkg, PACKAGE_PATHS_INDEX, Which::Dir);
     for i in 0..folders.len() {
         add_paths_under(paths, adb, entry_word(folders, i), position)?;
     }

@@ -5,12 +5,12 @@
 ghost use Rattle.std.specs.Prelude.{◌≡◌, ◌<◌, ◌^◌, ◌+◌, ◌≤◌, length, map, take, drop, slice_get, IfSome, ℕ, List};
 ghost use Rattle.std.specs.Cmp.Lexicographic.{slice_cmp};
 ghost use Rattle.std.specs.Ordering.{nat_cmp};
-ghost use Rattle.adb_fields.specs.Pairs.{least_pair_of_equal_names, pair_if_same_name_and_first_precedes, lesser_pair, least_pair, is_lesser_pair};
+ghost use Rattle.adb_fields.specs.Pairs.{least_pair_of_equal_names, pair_if_same_name_and_first_precedes, lesser_pair, least_pair, is_lesser_pair_by_second_then_first};
 ghost use Rattle.adb_fields.specs.FirstPair.{IsLeastPairIfAny};
 ghost use Rattle.adb_fields.specs.FirstPair.{IsPairOfEqualNames};
 ghost use Rattle.adb_fields.specs.NamedTexts.{joined_name_with_position, name_with_position_cmp, neighbours};
-ghost use Rattle.adb_fields.specs.Repeated.{names_with_list_positions, least_pair_of_lists_sharing_a_name, least_pair_of_repeated_name, numbered_from, least_pair_of_repeated_name_in_one_list};
-ghost use Rattle.adb_fields.specs.FirstPair.{IsPairOfRepeatedNameInOneList};
+ghost use Rattle.adb_fields.specs.Repeated.{names_with_list_positions, least_pair_of_lists_sharing_a_name, least_positions_of_name_twice_in_list, numbered_from, least_positions_of_name_twice_in_one_list};
+ghost use Rattle.adb_fields.specs.FirstPair.{ArePositionsOfNameTwiceInOneList};
 
 use crate::file_path::FilePath;
 use std::cmp::Ordering;
@@ -36,8 +36,8 @@ pub(crate) struct PathWithPosition<'a> {
 impl Pair {
     /// Whether this pair is reported rather than the pair `other`: its second position is smaller;
     /// or the second positions are equal, and its first position is smaller.
-    fn is_lesser_pair(&self, other: &Pair) -> bool
-        ensures { result ≡ is_lesser_pair self.now other.now }
+    fn is_lesser_pair_by_second_then_first(&self, other: &Pair) -> bool
+        ensures { result ≡ is_lesser_pair_by_second_then_first self.now other.now }
     {
         if self.second != other.second {
             return self.second < other.second;
@@ -53,7 +53,7 @@ pub(crate) fn lesser_pair(one: Option<Pair>, other: Option<Pair>) -> Option<Pair
     match (one, other) {
         (None, other) => other,
         (one, None) => one,
-        (Some(one), Some(other)) => Some(if other.is_lesser_pair(&one) {
+        (Some(one), Some(other)) => Some(if other.is_lesser_pair_by_second_then_first(&one) {
             other
         } else {
             one
@@ -124,15 +124,15 @@ fn compared(one: &PathWithPosition<'_>, other: &PathWithPosition<'_>) -> Orderin
 pub fn the_first_pair_of_a_list_is_reported()
     ensures { (names : List (List ℕ))
         → IsLeastPairIfAny (IsPairOfEqualNames (numbered_from 1 names))
-        (least_pair_of_repeated_name names) }
+        (least_positions_of_name_twice_in_list names) }
 {}
 
 /// A law: if names repeat within one of several lists, the first pair of positions in one list with
 /// the same name is reported. A name that two lists have does not count.
 pub fn the_first_pair_in_one_of_several_lists_is_reported()
     ensures { (lists : List (List (List ℕ)))
-        → IsLeastPairIfAny (IsPairOfRepeatedNameInOneList lists)
-        (least_pair_of_repeated_name_in_one_list lists) }
+        → IsLeastPairIfAny (ArePositionsOfNameTwiceInOneList lists)
+        (least_positions_of_name_twice_in_one_list lists) }
 {}
 
 /// A law: if several lists share names, the positions of two lists that share one are reported: of

@@ -8,8 +8,8 @@
 ghost use Rattle.std.specs.Prelude.{◌≡◌, ◌<◌, true, Some, length, slice_index, slice_index_or};
 ghost use Rattle.adb_view.specs.Adb.{payload_of};
 ghost use Rattle.adb_view.specs.Entries.{array_entries};
-ghost use Rattle.adb_view.specs.Readers.{run_entries_of_word, OBJECT};
-ghost use Rattle.adb_view.specs.Values.{is_sound, value_at, int_in, text_in, kind_at, entry_in};
+ghost use Rattle.adb_view.specs.Readers.{run_entries_of_kind_in_payload_at_word, OBJECT};
+ghost use Rattle.adb_view.specs.Values.{is_sound, value_at, int_in, text_in, kind_at, entry_at_index};
 ghost use Rattle.adb_fields.specs.Fields.{AreFieldsOf, IsFieldOf, are_all_sound, array_at};
 ghost use Rattle.adb_view.specs.declared.tables.Kind.TheVariants as Kinds;
 
@@ -134,7 +134,7 @@ pub fn int_field(adb: Adb<'_>, which: Which, object: Val, i: usize) -> u64
     requires kind { kind_at which i ≡ Some Kinds.Int }
     // The result is the value of this field of the object.
     ensures { result
-        ≡ int_in (entry_in (value_at (payload_of adb.entry) (Kinds.Obj which) object) i) }
+        ≡ int_in (entry_at_index (value_at (payload_of adb.entry) (Kinds.Obj which) object) i) }
 {
     int_word(adb, field_word(adb, which, object, i))
 }
@@ -147,7 +147,7 @@ pub fn text_field<'a>(adb: Adb<'a>, which: Which, object: Val, i: usize) -> &'a 
     requires kind { kind_at which i ≡ Some Kinds.Text }
     // The result is the value of this field of the object.
     ensures { result.now
-        ≡ text_in (entry_in (value_at (payload_of adb.entry) (Kinds.Obj which) object) i) }
+        ≡ text_in (entry_at_index (value_at (payload_of adb.entry) (Kinds.Obj which) object) i) }
 {
     text_word(adb, field_word(adb, which, object, i))
 }
@@ -160,7 +160,7 @@ pub fn hash_field<'a>(adb: Adb<'a>, which: Which, object: Val, i: usize) -> &'a 
     requires kind { kind_at which i ≡ Some Kinds.Hash }
     // The result is the value of this field of the object.
     ensures { result.now
-        ≡ text_in (entry_in (value_at (payload_of adb.entry) (Kinds.Obj which) object) i) }
+        ≡ text_in (entry_at_index (value_at (payload_of adb.entry) (Kinds.Obj which) object) i) }
 {
     hash_word(adb, field_word(adb, which, object, i))
 }
@@ -175,7 +175,7 @@ pub fn texts_field<'a>(adb: Adb<'a>, which: Which, object: Val, i: usize) -> Arr
     ensures sound { are_all_sound (payload_of adb.entry) Kinds.Text (array_entries result) ≡ true }
     // The values of these words are the entries of the array.
     ensures value { array_at (payload_of adb.entry) Kinds.Text (array_entries result)
-        ≡ entry_in (value_at (payload_of adb.entry) (Kinds.Obj which) object) i }
+        ≡ entry_at_index (value_at (payload_of adb.entry) (Kinds.Obj which) object) i }
 {
     texts_word(adb, field_word(adb, which, object, i))
 }
@@ -192,7 +192,7 @@ pub fn objects_field<'a>(adb: Adb<'a>, which: Which, object: Val, i: usize, inne
         ≡ true }
     // The values of these words are the entries of the array.
     ensures value { array_at (payload_of adb.entry) (Kinds.Obj inner) (array_entries result)
-        ≡ entry_in (value_at (payload_of adb.entry) (Kinds.Obj which) object) i }
+        ≡ entry_at_index (value_at (payload_of adb.entry) (Kinds.Obj which) object) i }
 {
     objects_word(adb, inner, field_word(adb, which, object, i))
 }

@@ -6,13 +6,13 @@ ghost use Rattle.std.specs.Prelude.{◌↔◌, None, ◌≡◌, ◌+◌, ◌<◌
 ghost use Rattle.std.specs.Option.{option_or};
 ghost use Rattle.adb_view.specs.Adb.{payload_of};
 ghost use Rattle.adb_view.specs.Entries.{array_entries};
-ghost use Rattle.adb_view.specs.Values.{count_of, entries_in, entry_in, is_sound, kind_at, value_at};
+ghost use Rattle.adb_view.specs.Values.{count_of, entries_in, entry_at_index, is_sound, kind_at, value_at};
 ghost use Rattle.adb_fields.specs.Fields.{are_all_sound};
 ghost use Rattle.adb_fields.specs.ListsOf.{AreRememberedListsOf};
 ghost use Rattle.adb_view.specs.ShapedPayload.{shaped_value, table_of};
-ghost use Rattle.adb_view.specs.FieldIndexes.{INTENT_REMOVALS, INTENT_WRITES};
-ghost use Rattle.adb_fields.specs.Repeated.{fault_of_packages_sharing_name_or_path, field_place_in_causes, repeated_file_in_folder_of_packages, files_in, least_pair_of_repeated_name, repeated_folder_in_one_of_packages, folders_in, fault_of_repeated_folder_or_file_name, name_of, repeated_intent_name, repeated_package_name, pair_of_packages_listing_one_path, repeated_cause, repeated_fault, least_pair_of_repeated_name_in_one_list};
-ghost use Rattle.adb_fields.specs.Once.{HasNoRepeatedName};
+ghost use Rattle.adb_view.specs.FieldIndexes.{INTENT_REMOVALS_INDEX, INTENT_WRITES_INDEX};
+ghost use Rattle.adb_fields.specs.Repeated.{fault_of_two_packages_sharing_name_or_path, place_in_causes_of_field_at_index, positions_of_file_repeated_in_a_folder, files_in, least_positions_of_name_twice_in_list, positions_of_folder_repeated_in_a_package, folders_in, fault_of_package_repeating_folder_or_file, name_of, positions_of_repeated_intent_name, positions_of_repeated_package_name, pair_of_packages_listing_one_path, repeated_cause, repeated_fault, least_positions_of_name_twice_in_one_list};
+ghost use Rattle.adb_fields.specs.Once.{HasNoForbiddenRepeatedName};
 ghost use Rattle.adb_view.specs.Plain.{Plain};
 ghost use Rattle.adb_view.specs.declared.tables.Which.{Which};
 ghost use Rattle.adb_fields.specs.NamedTexts.{plains_of_array_words};
@@ -24,7 +24,7 @@ use crate::name_lists::{add_texts, all_paths, package_names};
 use crate::pairs::{Pair, least_pair_of_equal_names, lesser_pair};
 use crate::reads::{field_word, objects_field, texts_field};
 use adb_view::field_indexes::{
-    DIR_FILES, IDB_PACKAGES, INTENT_REMOVALS, INTENT_WRITES, PACKAGE_PATHS,
+    DIR_FILES_INDEX, IDB_PACKAGES_INDEX, INTENT_REMOVALS_INDEX, INTENT_WRITES_INDEX, PACKAGE_PATHS_INDEX,
 };
 use adb_view::{Adb, Arr, Shaped, Val, Which, entry_word, values_of_few_visits_have_no_fault};
 use base_core::Cause;
@@ -72,7 +72,7 @@ pub fn repeated_names(alloc: Global, shaped: &Shaped<'_>) -> Result<Option<Cause
     match shaped.which() {
         Which::Package => in_package(alloc, adb, root),
         Which::Idb => {
-            let packages = objects_field(adb, Which::Idb, root, IDB_PACKAGES, Which::Package);
+            let packages = objects_field(adb, Which::Idb, root, IDB_PACKAGES_INDEX, Which::Package);
             in_database(alloc, adb, packages)
         }
         Which::Intent => in_intent(alloc, adb, root),
@@ -102,7 +102,7 @@ fn in_package(alloc: Global, adb: Adb<'_>, pkg: Val) -> Result<Option<Cause>, Al
     requires { is_sound (payload_of adb) (Kinds.Obj Tables.Package) pkg ≡ true }
     // On Ok, the cause, or None, is that of the definition.
     ensures { IfOk result (λ cause. cause
-        ≡ fault_of_repeated_folder_or_file_name (value_at (payload_of adb.entry)
+        ≡ fault_of_package_repeating_folder_or_file (value_at (payload_of adb.entry)
         (Kinds.Obj Tables.Package) pkg ∷ [])) }
 {
     let mut folders = KnownLists::new(alloc, adb, Which::Dir);
@@ -127,10 +127,10 @@ fn in_database(alloc: Global, adb: Adb<'_>, packages: Arr<'_>) -> Result<Option<
     // On Ok, the cause, or None, is that of the definition.
     ensures { IfOk result (λ cause. cause
         ≡ option_or
-        (fault_of_repeated_folder_or_file_name (plains_of_array_words (payload_of adb.entry)
+        (fault_of_package_repeating_folder_or_file (plains_of_array_words (payload_of adb.entry)
         (Kinds.Obj Tables.Package)
         (array_entries packages.entry)))
-        (fault_of_packages_sharing_name_or_path (plains_of_array_words (payload_of adb.entry)
+        (fault_of_two_packages_sharing_name_or_path (plains_of_array_words (payload_of adb.entry)
         (Kinds.Obj Tables.Package)
         (array_entries packages.entry)))) }
 {
@@ -152,18 +152,18 @@ fn inside_packages(
         ≡ true }
     // On Ok, the cause, or None, is that of the definition.
     ensures { IfOk result (λ cause. cause
-        ≡ fault_of_repeated_folder_or_file_name (plains_of_array_words (payload_of adb.entry)
+        ≡ fault_of_package_repeating_folder_or_file (plains_of_array_words (payload_of adb.entry)
         (Kinds.Obj Tables.Package)
         (array_entries packages.entry))) }
 {
     match repeated_cause(
         field_numbers::DIR_NAME,
-        repeated_folder_in_one_of_packages(alloc, adb, packages)?,
+        positions_of_folder_repeated_in_a_package(alloc, adb, packages)?,
     ) {
         Some(cause) => Ok(Some(cause)),
         None => Ok(repeated_cause(
             field_numbers::FILE_NAME,
-            repeated_file_in_folder_of_packages(alloc, adb, packages)?,
+            positions_of_file_repeated_in_a_folder(alloc, adb, packages)?,
         )),
     }
 }
@@ -179,7 +179,7 @@ fn between_packages(
         ≡ true }
     // On Ok, the cause, or None, is that of the definition.
     ensures { IfOk result (λ cause. cause
-        ≡ fault_of_packages_sharing_name_or_path (plains_of_array_words (payload_of adb.entry)
+        ≡ fault_of_two_packages_sharing_name_or_path (plains_of_array_words (payload_of adb.entry)
         (Kinds.Obj Tables.Package)
         (array_entries packages.entry))) }
 {
@@ -206,17 +206,17 @@ fn in_intent(alloc: Global, adb: Adb<'_>, intent: Val) -> Result<Option<Cause>, 
     requires sound { is_sound (payload_of adb) (Kinds.Obj Tables.Intent) intent ≡ true }
     // The intent has fewer than 2^32 removals and writes together.
     requires few { count_of (entries_in
-        (entry_in (value_at (payload_of adb) (Kinds.Obj Tables.Intent) intent) INTENT_REMOVALS)) +
+        (entry_at_index (value_at (payload_of adb) (Kinds.Obj Tables.Intent) intent) INTENT_REMOVALS_INDEX)) +
         count_of (entries_in
-        (entry_in (value_at (payload_of adb) (Kinds.Obj Tables.Intent) intent) INTENT_WRITES))
+        (entry_at_index (value_at (payload_of adb) (Kinds.Obj Tables.Intent) intent) INTENT_WRITES_INDEX))
         < 2 ^ 32 }
     // On Ok, the cause, or None, is that of the definition.
     ensures { IfOk result (λ cause. cause
-        ≡ repeated_cause (field_place_in_causes Tables.Intent INTENT_WRITES)
-        (repeated_intent_name (value_at (payload_of adb.entry) (Kinds.Obj Tables.Intent) intent))) }
+        ≡ repeated_cause (place_in_causes_of_field_at_index Tables.Intent INTENT_WRITES_INDEX)
+        (positions_of_repeated_intent_name (value_at (payload_of adb.entry) (Kinds.Obj Tables.Intent) intent))) }
 {
-    let removals = texts_field(adb, Which::Intent, intent, INTENT_REMOVALS);
-    let writes = texts_field(adb, Which::Intent, intent, INTENT_WRITES);
+    let removals = texts_field(adb, Which::Intent, intent, INTENT_REMOVALS_INDEX);
+    let writes = texts_field(adb, Which::Intent, intent, INTENT_WRITES_INDEX);
     let mut names = Vec::new(alloc);
     add_texts(&mut names, adb, removals)?;
     add_texts(&mut names, adb, writes)?;
@@ -240,12 +240,12 @@ fn folder_twice_in_package(
     requires lists { AreRememberedListsOf adb Tables.Dir lists.old }
     // On Ok, the result is the first pair of positions of folders with one name, if there is one.
     ensures pair { IfOk result (λ pair. pair
-        ≡ least_pair_of_repeated_name (map name_of (folders_in
+        ≡ least_positions_of_name_twice_in_list (map name_of (folders_in
         (value_at (payload_of adb.entry) (Kinds.Obj Tables.Package) pkg)))) }
     // `lists` still remembers lists of objects of this table, in this payload.
     ensures lists { AreRememberedListsOf adb.entry Tables.Dir lists.new }
 {
-    lists.least_pair_of_repeated_name(alloc, field_word(adb, Which::Package, pkg, PACKAGE_PATHS))
+    lists.least_positions_of_name_twice_in_list(alloc, field_word(adb, Which::Package, pkg, PACKAGE_PATHS_INDEX))
 }
 
 /// The first pair of positions at which a folder of the package lists the same file twice; None if
@@ -264,12 +264,12 @@ fn file_twice_in_package(
     // On Ok, the result is the first pair of positions of files with one name in one folder, if
     // there is one.
     ensures pair { IfOk result (λ pair. pair
-        ≡ least_pair_of_repeated_name_in_one_list (map (λ folder. map name_of (files_in folder))
+        ≡ least_positions_of_name_twice_in_one_list (map (λ folder. map name_of (files_in folder))
         (folders_in (value_at (payload_of adb.entry) (Kinds.Obj Tables.Package) pkg)))) }
     // `lists` still remembers lists of objects of this table, in this payload.
     ensures lists { AreRememberedListsOf adb.entry Tables.File lists.new }
 {
-    let folders = objects_field(adb, Which::Package, pkg, PACKAGE_PATHS, Which::Dir);
+    let folders = objects_field(adb, Which::Package, pkg, PACKAGE_PATHS_INDEX, Which::Dir);
     let mut first = None;
     for i in 0..folders.len() {
         let folder = entry_word(folders, i);
@@ -293,18 +293,18 @@ fn file_twice_in_folder(
     requires lists { AreRememberedListsOf adb Tables.File lists.old }
     // On Ok, the result is the first pair of positions of files with one name, if there is one.
     ensures pair { IfOk result (λ pair. pair
-        ≡ least_pair_of_repeated_name (map name_of (files_in
+        ≡ least_positions_of_name_twice_in_list (map name_of (files_in
         (value_at (payload_of adb.entry) (Kinds.Obj Tables.Dir) folder)))) }
     // `lists` still remembers lists of objects of this table, in this payload.
     ensures lists { AreRememberedListsOf adb.entry Tables.File lists.new }
 {
-    lists.least_pair_of_repeated_name(alloc, field_word(adb, Which::Dir, folder, DIR_FILES))
+    lists.least_positions_of_name_twice_in_list(alloc, field_word(adb, Which::Dir, folder, DIR_FILES_INDEX))
 }
 
 /// The first pair of positions at which one of the packages lists the same folder twice; None if
 /// there is none.
 #[tactic(auto, using(crate::proofs::FieldReads::entry_sound))]
-fn repeated_folder_in_one_of_packages(
+fn positions_of_folder_repeated_in_a_package(
     alloc: Global,
     adb: Adb<'_>,
     packages: Arr<'_>,
@@ -314,7 +314,7 @@ fn repeated_folder_in_one_of_packages(
         ≡ true }
     // On Ok, the pair, or None, is that of the definition.
     ensures { IfOk result (λ pair. pair
-        ≡ repeated_folder_in_one_of_packages (plains_of_array_words (payload_of adb.entry)
+        ≡ positions_of_folder_repeated_in_a_package (plains_of_array_words (payload_of adb.entry)
         (Kinds.Obj Tables.Package)
         (array_entries packages.entry))) }
 {
@@ -331,7 +331,7 @@ fn repeated_folder_in_one_of_packages(
 /// The first pair of positions at which a folder of one of the packages lists the same file twice;
 /// None if there is none.
 #[tactic(auto, using(crate::proofs::FieldReads::entry_sound))]
-fn repeated_file_in_folder_of_packages(
+fn positions_of_file_repeated_in_a_folder(
     alloc: Global,
     adb: Adb<'_>,
     packages: Arr<'_>,
@@ -341,7 +341,7 @@ fn repeated_file_in_folder_of_packages(
         ≡ true }
     // On Ok, the pair, or None, is that of the definition.
     ensures { IfOk result (λ pair. pair
-        ≡ repeated_file_in_folder_of_packages (plains_of_array_words (payload_of adb.entry)
+        ≡ positions_of_file_repeated_in_a_folder (plains_of_array_words (payload_of adb.entry)
         (Kinds.Obj Tables.Package)
         (array_entries packages.entry))) }
 {
@@ -356,8 +356,8 @@ fn repeated_file_in_folder_of_packages(
 }
 
 /// A law: no repeated name of a container is reported if and only if no name occurs twice that must
-/// not (*HasNoRepeatedName*).
+/// not (*HasNoForbiddenRepeatedName*).
 pub fn no_repeated_name_is_reported_if_there_is_none()
     ensures { (which : Which) (value : Plain) → (repeated_fault which value ≡ None)
-        ↔ HasNoRepeatedName which value }
+        ↔ HasNoForbiddenRepeatedName which value }
 {}

@@ -4,11 +4,11 @@ use Rattle.std.specs.Prelude.{if◌then◌else◌, nat_lt, ◌||◌, ◌-◌, �
 use Rattle.base_core.specs.declared.cause.Cause.{Cause}
 use Rattle.base_core.proofs.Causes.{first_none, second_none}
 use Rattle.adb_block.specs.declared.block.BlockKind.{BlockKind}
-use Rattle.adb_block.specs.Framing.{HeadFields, NextBlockResult, ended, failed, block, next_block_result_by_size, next_block_result_by_kind_order, next_block_result_by_header, next_block_result_at_offset, block_head_fields, kind_of_number}
-use Rattle.adb_block.specs.Piece.{Piece, may_be_next_kind, least_payload_len}
+use Rattle.adb_block.specs.Framing.{HeadFields, NextBlockResult, ended, failed, block, next_block_result_by_raw_size, next_block_result_by_kind_order, next_block_result_by_header, next_block_result_at_offset, block_head_fields, kind_of_number}
+use Rattle.adb_block.specs.BlockWithoutOffset.{BlockWithoutOffset, may_be_next_kind, least_payload_len}
 use Rattle.adb_block.specs.Header.{schema_of_header}
-use Rattle.adb_block.specs.ReaderPosition.{first_block_position_of_schema_and_file}
-use Rattle.adb_block.specs.Reading.{Reading, done, fault, more as further, block_stream_after_result, bounded_block_stream_from_offset, block_stream_from}
+use Rattle.adb_block.specs.PositionBetweenBlocks.{first_block_position_of_schema_and_file}
+use Rattle.adb_block.specs.Reading.{Reading, done, fault, more as further, block_stream_with_rest_by_padded_size, bounded_block_stream_from_offset, block_stream_from}
 use Rattle.adb_view.specs.Head.{payload_head_fault, root_word_of_payload}
 use Rattle.adb_view.specs.Plain.{Plain, null, Shape, plain_of, IsNormal}
 use Rattle.adb_view.specs.Shaped.{HasShape}
@@ -18,11 +18,11 @@ use Rattle.adb_view.specs.Walk.{shape_fault}
 use Rattle.adb_view.specs.Values.{value_at}
 use Rattle.adb_view.specs.declared.tables.Which.{Which}
 use Rattle.adb_view.specs.declared.tables.Kind.TheVariants as Kinds
-use Rattle.adb_fields.specs.Once.{HasNoRepeatedName}
+use Rattle.adb_fields.specs.Once.{HasNoForbiddenRepeatedName}
 use Rattle.adb_fields.specs.Repeated.{repeated_fault}
 use Rattle.adb_schema.specs.Texts.{text_or_number_fault}
-use Rattle.adb_schema.specs.SoundValues.{ObeysFieldRulesOfTable}
-use Rattle.adb_schema.specs.Soundness.{blocks_fault, file_fault_after_header, container_fault_except_contents, first_block_payload, payload_after_header, payload_fault, payload_in, further_blocks_fault_unless_package, root_value_of_payload, schema_fault}
+use Rattle.adb_schema.specs.SoundValues.{ObeysTextAndNumberRulesOfTable}
+use Rattle.adb_schema.specs.Soundness.{blocks_fault, file_fault_by_header_schema_or_fault, container_fault_except_contents, first_block_payload, payload_by_header_schema_or_fault, payload_fault, payload_in, remaining_blocks_fault_unless_package, root_value_of_payload, schema_fault}
 use Rattle.adb_schema.specs.SoundContainers.{IsSoundValue}
 
 -- ---- the first of two tests
@@ -50,7 +50,7 @@ if_on false s t h g = g
 ordered_on : (last : Option BlockKind) (at : ℕ) (bytes : List ℕ) (head : HeadFields) (kind : Option BlockKind) → CountsOnlyRise (next_block_result_by_kind_order last at bytes head kind)
 ordered_on last at bytes head None = tt
 ordered_on last at bytes head (Some kind) =
-    if_on (may_be_next_kind last kind) (next_block_result_by_size at bytes head kind) (failed _)
+    if_on (may_be_next_kind last kind) (next_block_result_by_raw_size at bytes head kind) (failed _)
     (if_on (nat_lt head.raw head.len || nat_lt (length bytes) head.raw) (failed _) (if nat_lt (head.raw - head.len) (least_payload_len kind) then failed _ else block _ _) tt (if_on (nat_lt (head.raw - head.len) (least_payload_len kind)) (failed _) (block _ _) tt tt)) tt
 
 headed_on : (last : Option BlockKind) (at : ℕ) (bytes : List ℕ) (head : Option HeadFields) → CountsOnlyRise (next_block_result_by_header last at bytes head)
@@ -61,7 +61,7 @@ step_on : (at : ℕ) (bytes : List ℕ) → CountsOnlyRise (next_block_result_at
 unfolding next_block_result_at_offset
 step_on at bytes = if_on (length bytes == 0) _ _ tt (headed_on None at bytes (block_head_fields bytes))
 
-stepped_read : (which : Which) (rest : Plain → Reading → Option Cause) (at : ℕ) (f : Piece → ℕ → Reading) (s : NextBlockResult) → CountsOnlyRise s → blocks_fault rest which (block_stream_after_result at f s) ≡ None → IsReadAt which (block_stream_after_result at f s)
+stepped_read : (which : Which) (rest : Plain → Reading → Option Cause) (at : ℕ) (f : BlockWithoutOffset → ℕ → Reading) (s : NextBlockResult) → CountsOnlyRise s → blocks_fault rest which (block_stream_with_rest_by_padded_size at f s) ≡ None → IsReadAt which (block_stream_with_rest_by_padded_size at f s)
 stepped_read which rest at f ended g h = absurd g
 stepped_read which rest at f (failed c) g h = some_none c h
 stepped_read which rest at f (block b size) g h = first_none (payload_fault which b.payload) _ h
@@ -71,7 +71,7 @@ read_payload which done h = absurd h
 read_payload which (fault c) h = absurd h
 read_payload which (further b at r) h = h
 
-file_payload : (rest : Plain → Reading → Option Cause) (which : Which) (file : List ℕ) (header : Result ℕ Cause) → file_fault_after_header rest which file header ≡ None → payload_fault which (payload_after_header file header) ≡ None
+file_payload : (rest : Plain → Reading → Option Cause) (which : Which) (file : List ℕ) (header : Result ℕ Cause) → file_fault_by_header_schema_or_fault rest which file header ≡ None → payload_fault which (payload_by_header_schema_or_fault file header) ≡ None
 unfolding block_stream_from bounded_block_stream_from_offset
 file_payload rest which file (Err c) h = absurd (some_none c h)
 file_payload rest which file (Ok schema) h =
@@ -79,7 +79,7 @@ file_payload rest which file (Ok schema) h =
 
 pub sound_payload : (which : Which) (file : List ℕ) → container_fault_except_contents which file ≡ None → payload_fault which (payload_in file) ≡ None
 unfolding container_fault_except_contents payload_in
-sound_payload which file h = file_payload (λ v r. further_blocks_fault_unless_package which r) which file (schema_of_header file) h
+sound_payload which file h = file_payload (λ v r. remaining_blocks_fault_unless_package which r) which file (schema_of_header file) h
 
 -- ---- its value
 
@@ -87,8 +87,8 @@ sound_payload which file h = file_payload (λ v r. further_blocks_fault_unless_p
 pub record Laws : Type 1 where
   pub visited : (p : List ℕ) (s : Shape) (w : ℕ) → (shape_fault p s w ≡ None) ↔ ((is_some (plain_of p s w) ≡ true) × (length (visits p s w) ≤ MOST_VALUES))
   pub shaped : (p : List ℕ) (s : Shape) (w : ℕ) → IfSome (plain_of p s w) (HasShape s)
-  pub kept : (which : Which) (v : Plain) → (text_or_number_fault which v ≡ None) ↔ ObeysFieldRulesOfTable which v
-  pub once : (which : Which) (v : Plain) → (repeated_fault which v ≡ None) ↔ HasNoRepeatedName which v
+  pub kept : (which : Which) (v : Plain) → (text_or_number_fault which v ≡ None) ↔ ObeysTextAndNumberRulesOfTable which v
+  pub once : (which : Which) (v : Plain) → (repeated_fault which v ≡ None) ↔ HasNoForbiddenRepeatedName which v
 
 found : (P : Plain → Type 0) (o : Option Plain) → is_some o ≡ true → IfSome o P → P (unwrap_or o null)
 found P (Some v) e h = h
@@ -117,7 +117,7 @@ normal_value laws which p h n = value_has IsNormal p which (is_found laws which 
 
 -- ---- of a payload that was checked
 
-pub is_kept : ((which : Which) (v : Plain) → (text_or_number_fault which v ≡ None) ↔ ObeysFieldRulesOfTable which v) → (which : Which) (v : Plain) → is_none (text_or_number_fault which v) ≡ true → ObeysFieldRulesOfTable which v
+pub is_kept : ((which : Which) (v : Plain) → (text_or_number_fault which v ≡ None) ↔ ObeysTextAndNumberRulesOfTable which v) → (which : Which) (v : Plain) → is_none (text_or_number_fault which v) ≡ true → ObeysTextAndNumberRulesOfTable which v
 is_kept law which v h = (law which v).0 (is_none_of (text_or_number_fault which v) h)
   where
     is_none_of : (o : Option Cause) → is_none o ≡ true → o ≡ None

@@ -7,16 +7,16 @@ use Rattle.base_core.specs.declared.cause.Cause.TheVariants.{BadText}
 use Rattle.base_core.proofs.Causes.{both_none, none_both}
 use Rattle.adb_view.specs.Plain.{Plain, Plains, none, more, Shape, text, hash, Fields, no_fields, field}
 use Rattle.adb_view.specs.Shaped.{Each}
-use Rattle.adb_view.specs.Values.{nth, count_of, entries_in, entry_in, int_in, text_in}
+use Rattle.adb_view.specs.Values.{nth, count_of, entries_in, entry_at_index, int_in, text_in}
 use Rattle.adb_view.specs.Schema.{shape_of, shapes_of, table}
 use Rattle.adb_view.specs.declared.tables.Which.{Which}
 use Rattle.adb_view.specs.declared.tables.Which.TheVariants as Tables
 use Rattle.adb_view.specs.declared.tables.Kind.TheVariants.{Obj, ObjArr, TextArr}
-use Rattle.adb_schema.specs.Texts.{Surroundings, Leaf, leaves_of_all_values, leaves, field_leaves, first_bad_leaf, text_or_number_fault, is_allowed_text_of_field, surroundings_of_root, surroundings_of_fields, can_root_table_list_path}
+use Rattle.adb_schema.specs.Texts.{Surroundings, Leaf, leaves_of_all_values, leaves, field_leaves, first_bad_leaf, text_or_number_fault, is_allowed_text_of_field, surroundings_of_root, surroundings_of_fields, is_path_unreserved_if_in_database}
 use Rattle.dep_core.specs.Value.{is_match_number}
 use Rattle.adb_fields.specs.Paths.{path_of}
 use Rattle.adb_schema.specs.Rules.{is_valid_file_name_in_folder}
-use Rattle.adb_schema.specs.SoundValues.{IsSoundDependency, IsSoundInformation, IsSoundFileInFolder, IsSoundFolder, IsSoundPackage, IsSoundIndex, IsSoundIntent, IsNameAllowedInIntent, ObeysFieldRulesOfTable}
+use Rattle.adb_schema.specs.SoundValues.{ObeysTextAndNumberRulesOfDependency, ObeysTextAndNumberRulesOfInformation, ObeysTextAndNumberRulesOfFileInFolder, ObeysTextAndNumberRulesOfFolder, ObeysTextAndNumberRulesOfPackage, ObeysTextAndNumberRulesOfIndex, ObeysTextAndNumberRulesOfIntent, IsNameAllowedInIntent, ObeysTextAndNumberRulesOfTable}
 use Rattle.adb_schema.proofs.TextSteps.{first_bad_leaf-append, behind, behind-zero, nth-behind, behind-behind}
 
 abbrev pub Good : List Leaf → Type 0
@@ -109,173 +109,173 @@ kept_hash k a v e = good_if (is_allowed_text_of_field k a (text_in v)) (BadText 
 
 -- ---- table by table, from the leaves and back to them
 
-dependency_of : (k : ℕ) (a : Surroundings) (v : Plain) → Good (leaves (shape_of (Obj Tables.Dep)) k a v) → IsSoundDependency v
+dependency_of : (k : ℕ) (a : Surroundings) (v : Plain) → Good (leaves (shape_of (Obj Tables.Dep)) k a v) → ObeysTextAndNumberRulesOfDependency v
 unfolding leaves shape_of is_allowed_text_of_field
 dependency_of k a v g =
     let b : Surroundings = surroundings_of_fields 1 a v in
     let h = good_fields (shapes_of (table Tables.Dep)) 101 b (entries_in v) g in
     record {
-      name = text_kept 101 b (entry_in v 0) h.0;
-      version = text_kept 102 b (entry_in v 1) h.1.0;
-      matching = kept (is_match_number (int_in (entry_in v 2))) (BadText 103) h.1.1.0;
+      name = text_kept 101 b (entry_at_index v 0) h.0;
+      version = text_kept 102 b (entry_at_index v 1) h.1.0;
+      matching = kept (is_match_number (int_in (entry_at_index v 2))) (BadText 103) h.1.1.0;
     }
 
-of_dependency : (k : ℕ) (a : Surroundings) (v : Plain) → IsSoundDependency v → Good (leaves (shape_of (Obj Tables.Dep)) k a v)
+of_dependency : (k : ℕ) (a : Surroundings) (v : Plain) → ObeysTextAndNumberRulesOfDependency v → Good (leaves (shape_of (Obj Tables.Dep)) k a v)
 unfolding leaves shape_of is_allowed_text_of_field
 of_dependency k a v d =
     let b : Surroundings = surroundings_of_fields 1 a v in
     fields_good (shapes_of (table Tables.Dep)) 101 b (entries_in v)
-    (kept_text 101 b (entry_in v 0) d.name, (kept_text 102 b (entry_in v 1) d.version, (good_if (is_match_number (int_in (entry_in v 2))) (BadText 103) d.matching, tt)))
+    (kept_text 101 b (entry_at_index v 0) d.name, (kept_text 102 b (entry_at_index v 1) d.version, (good_if (is_match_number (int_in (entry_at_index v 2))) (BadText 103) d.matching, tt)))
 
-dependencies_of : (k : ℕ) (a : Surroundings) (v : Plain) → Good (leaves (shape_of (ObjArr Tables.Dep)) k a v) → Each IsSoundDependency (entries_in v)
+dependencies_of : (k : ℕ) (a : Surroundings) (v : Plain) → Good (leaves (shape_of (ObjArr Tables.Dep)) k a v) → Each ObeysTextAndNumberRulesOfDependency (entries_in v)
 unfolding leaves shape_of
-dependencies_of k a v g = each_good IsSoundDependency (leaves (shape_of (Obj Tables.Dep)) k a) (dependency_of k a) (entries_in v) g
+dependencies_of k a v g = each_good ObeysTextAndNumberRulesOfDependency (leaves (shape_of (Obj Tables.Dep)) k a) (dependency_of k a) (entries_in v) g
 
-of_dependencies : (k : ℕ) (a : Surroundings) (v : Plain) → Each IsSoundDependency (entries_in v) → Good (leaves (shape_of (ObjArr Tables.Dep)) k a v)
+of_dependencies : (k : ℕ) (a : Surroundings) (v : Plain) → Each ObeysTextAndNumberRulesOfDependency (entries_in v) → Good (leaves (shape_of (ObjArr Tables.Dep)) k a v)
 unfolding leaves shape_of
-of_dependencies k a v d = good_each IsSoundDependency (leaves (shape_of (Obj Tables.Dep)) k a) (of_dependency k a) (entries_in v) d
+of_dependencies k a v d = good_each ObeysTextAndNumberRulesOfDependency (leaves (shape_of (Obj Tables.Dep)) k a) (of_dependency k a) (entries_in v) d
 
 -- texts without a rule are never bad
 plain_texts : (k : ℕ) (a : Surroundings) (v : Plain) → ((bytes : List ℕ) → is_allowed_text_of_field k a bytes ≡ true) → Good (leaves (shape_of TextArr) k a v)
 unfolding leaves shape_of
 plain_texts k a v h = always_each (leaves text k a) (λ u. kept_text k a u (h (text_in u))) (entries_in v)
 
-information_of : (k : ℕ) (a : Surroundings) (v : Plain) → Good (leaves (shape_of (Obj Tables.PkgInfo)) k a v) → IsSoundInformation a.root v
+information_of : (k : ℕ) (a : Surroundings) (v : Plain) → Good (leaves (shape_of (Obj Tables.PkgInfo)) k a v) → ObeysTextAndNumberRulesOfInformation a.root v
 unfolding leaves shape_of is_allowed_text_of_field
 information_of k a v g =
     let b : Surroundings = surroundings_of_fields 3 a v in
     let h = good_fields (shapes_of (table Tables.PkgInfo)) 301 b (entries_in v) g in
     let d = h.1.1.1.1.1.1.1.1.1.1.1.1.1.1 in
     record {
-      name = text_kept 301 b (entry_in v 0) h.0;
-      version = text_kept 302 b (entry_in v 1) h.1.0;
-      hash = hash_kept 303 b (entry_in v 2) h.1.1.0;
-      depends = dependencies_of 315 b (entry_in v 14) d.0;
-      provides = dependencies_of 316 b (entry_in v 15) d.1.0;
-      replaces = dependencies_of 317 b (entry_in v 16) d.1.1.0;
-      install_if = dependencies_of 318 b (entry_in v 17) d.1.1.1.0;
-      recommends = dependencies_of 319 b (entry_in v 18) d.1.1.1.1.0;
+      name = text_kept 301 b (entry_at_index v 0) h.0;
+      version = text_kept 302 b (entry_at_index v 1) h.1.0;
+      hash = hash_kept 303 b (entry_at_index v 2) h.1.1.0;
+      depends = dependencies_of 315 b (entry_at_index v 14) d.0;
+      provides = dependencies_of 316 b (entry_at_index v 15) d.1.0;
+      replaces = dependencies_of 317 b (entry_at_index v 16) d.1.1.0;
+      install_if = dependencies_of 318 b (entry_at_index v 17) d.1.1.1.0;
+      recommends = dependencies_of 319 b (entry_at_index v 18) d.1.1.1.1.0;
     }
 
-of_information : (k : ℕ) (a : Surroundings) (v : Plain) → IsSoundInformation a.root v → Good (leaves (shape_of (Obj Tables.PkgInfo)) k a v)
+of_information : (k : ℕ) (a : Surroundings) (v : Plain) → ObeysTextAndNumberRulesOfInformation a.root v → Good (leaves (shape_of (Obj Tables.PkgInfo)) k a v)
 unfolding leaves shape_of is_allowed_text_of_field
 of_information k a v d =
     let b : Surroundings = surroundings_of_fields 3 a v in
     fields_good (shapes_of (table Tables.PkgInfo)) 301 b (entries_in v)
-    (kept_text 301 b (entry_in v 0) d.name, (kept_text 302 b (entry_in v 1) d.version, (kept_hash 303 b (entry_in v 2) d.hash, (refl, (refl, (refl, (refl, (refl, (refl, (refl, (refl, (refl, (refl, (refl, (of_dependencies 315 b (entry_in v 14) d.depends, (of_dependencies 316 b (entry_in v 15) d.provides, (of_dependencies 317 b (entry_in v 16) d.replaces, (of_dependencies 318 b (entry_in v 17) d.install_if, (of_dependencies 319 b (entry_in v 18) d.recommends, (refl, (plain_texts 321 b (entry_in v 20) (λ bytes. refl), (refl, tt))))))))))))))))))))))
+    (kept_text 301 b (entry_at_index v 0) d.name, (kept_text 302 b (entry_at_index v 1) d.version, (kept_hash 303 b (entry_at_index v 2) d.hash, (refl, (refl, (refl, (refl, (refl, (refl, (refl, (refl, (refl, (refl, (refl, (of_dependencies 315 b (entry_at_index v 14) d.depends, (of_dependencies 316 b (entry_at_index v 15) d.provides, (of_dependencies 317 b (entry_at_index v 16) d.replaces, (of_dependencies 318 b (entry_at_index v 17) d.install_if, (of_dependencies 319 b (entry_at_index v 18) d.recommends, (refl, (plain_texts 321 b (entry_at_index v 20) (λ bytes. refl), (refl, tt))))))))))))))))))))))
 
 rights_good : (k : ℕ) (a : Surroundings) (v : Plain) → Good (leaves (shape_of (Obj Tables.Acl)) k a v)
 unfolding leaves shape_of is_allowed_text_of_field
-rights_good k a v = fields_good (shapes_of (table Tables.Acl)) 201 (surroundings_of_fields 2 a v) (entries_in v) (refl, (refl, (refl, (plain_texts 204 (surroundings_of_fields 2 a v) (entry_in v 3) (λ bytes. refl), tt))))
+rights_good k a v = fields_good (shapes_of (table Tables.Acl)) 201 (surroundings_of_fields 2 a v) (entries_in v) (refl, (refl, (refl, (plain_texts 204 (surroundings_of_fields 2 a v) (entry_at_index v 3) (λ bytes. refl), tt))))
 
 scripts_good : (k : ℕ) (a : Surroundings) (v : Plain) → Good (leaves (shape_of (Obj Tables.Scripts)) k a v)
 unfolding leaves shape_of is_allowed_text_of_field
 scripts_good k a v = fields_good (shapes_of (table Tables.Scripts)) 601 (surroundings_of_fields 6 a v) (entries_in v) (refl, (refl, (refl, (refl, (refl, (refl, (refl, tt)))))))
 
-file_of : (k : ℕ) (a : Surroundings) (v : Plain) → Good (leaves (shape_of (Obj Tables.File)) k a v) → IsSoundFileInFolder a.root a.folder v
+file_of : (k : ℕ) (a : Surroundings) (v : Plain) → Good (leaves (shape_of (Obj Tables.File)) k a v) → ObeysTextAndNumberRulesOfFileInFolder a.root a.folder v
 unfolding leaves shape_of is_allowed_text_of_field
 file_of k a v g =
     let b : Surroundings = surroundings_of_fields 4 a v in
     let h = good_fields (shapes_of (table Tables.File)) 401 b (entries_in v) g in
-    let (name, listed) = and_parts (is_valid_file_name_in_folder a.folder (text_in (entry_in v 0))) (can_root_table_list_path a.root (path_of a.folder (text_in (entry_in v 0)))) (text_kept 401 b (entry_in v 0) h.0) in
+    let (name, listed) = and_parts (is_valid_file_name_in_folder a.folder (text_in (entry_at_index v 0))) (is_path_unreserved_if_in_database a.root (path_of a.folder (text_in (entry_at_index v 0)))) (text_kept 401 b (entry_at_index v 0) h.0) in
     record {
       name = name;
       listed = listed;
-      hash = hash_kept 405 b (entry_in v 4) h.1.1.1.1.0;
-      target = text_kept 406 b (entry_in v 5) h.1.1.1.1.1.0;
+      hash = hash_kept 405 b (entry_at_index v 4) h.1.1.1.1.0;
+      target = text_kept 406 b (entry_at_index v 5) h.1.1.1.1.1.0;
     }
 
-of_file : (k : ℕ) (a : Surroundings) (v : Plain) → IsSoundFileInFolder a.root a.folder v → Good (leaves (shape_of (Obj Tables.File)) k a v)
+of_file : (k : ℕ) (a : Surroundings) (v : Plain) → ObeysTextAndNumberRulesOfFileInFolder a.root a.folder v → Good (leaves (shape_of (Obj Tables.File)) k a v)
 unfolding leaves shape_of is_allowed_text_of_field
 of_file k a v d =
     let b : Surroundings = surroundings_of_fields 4 a v in
-    let named = and_from (is_valid_file_name_in_folder a.folder (text_in (entry_in v 0))) (can_root_table_list_path a.root (path_of a.folder (text_in (entry_in v 0)))) d.name d.listed in
+    let named = and_from (is_valid_file_name_in_folder a.folder (text_in (entry_at_index v 0))) (is_path_unreserved_if_in_database a.root (path_of a.folder (text_in (entry_at_index v 0)))) d.name d.listed in
     fields_good (shapes_of (table Tables.File)) 401 b (entries_in v)
-    (kept_text 401 b (entry_in v 0) named, (rights_good 402 b (entry_in v 1), (refl, (refl, (kept_hash 405 b (entry_in v 4) d.hash, (kept_text 406 b (entry_in v 5) d.target, (refl, tt)))))))
+    (kept_text 401 b (entry_at_index v 0) named, (rights_good 402 b (entry_at_index v 1), (refl, (refl, (kept_hash 405 b (entry_at_index v 4) d.hash, (kept_text 406 b (entry_at_index v 5) d.target, (refl, tt)))))))
 
-folder_of : (k : ℕ) (a : Surroundings) (v : Plain) → Good (leaves (shape_of (Obj Tables.Dir)) k a v) → IsSoundFolder a.root v
+folder_of : (k : ℕ) (a : Surroundings) (v : Plain) → Good (leaves (shape_of (Obj Tables.Dir)) k a v) → ObeysTextAndNumberRulesOfFolder a.root v
 unfolding leaves shape_of is_allowed_text_of_field
 folder_of k a v g =
     let b : Surroundings = surroundings_of_fields 5 a v in
     let h = good_fields (shapes_of (table Tables.Dir)) 501 b (entries_in v) g in
     record {
-      name = text_kept 501 b (entry_in v 0) h.0;
-      files = each_good (IsSoundFileInFolder b.root b.folder) (leaves (shape_of (Obj Tables.File)) 503 b) (file_of 503 b) (entries_in (entry_in v 2)) h.1.1.0;
+      name = text_kept 501 b (entry_at_index v 0) h.0;
+      files = each_good (ObeysTextAndNumberRulesOfFileInFolder b.root b.folder) (leaves (shape_of (Obj Tables.File)) 503 b) (file_of 503 b) (entries_in (entry_at_index v 2)) h.1.1.0;
     }
 
-of_folder : (k : ℕ) (a : Surroundings) (v : Plain) → IsSoundFolder a.root v → Good (leaves (shape_of (Obj Tables.Dir)) k a v)
+of_folder : (k : ℕ) (a : Surroundings) (v : Plain) → ObeysTextAndNumberRulesOfFolder a.root v → Good (leaves (shape_of (Obj Tables.Dir)) k a v)
 unfolding leaves shape_of is_allowed_text_of_field
 of_folder k a v d =
     let b : Surroundings = surroundings_of_fields 5 a v in
     fields_good (shapes_of (table Tables.Dir)) 501 b (entries_in v)
-    (kept_text 501 b (entry_in v 0) d.name, (rights_good 502 b (entry_in v 1), (good_each (IsSoundFileInFolder b.root b.folder) (leaves (shape_of (Obj Tables.File)) 503 b) (of_file 503 b) (entries_in (entry_in v 2)) d.files, tt)))
+    (kept_text 501 b (entry_at_index v 0) d.name, (rights_good 502 b (entry_at_index v 1), (good_each (ObeysTextAndNumberRulesOfFileInFolder b.root b.folder) (leaves (shape_of (Obj Tables.File)) 503 b) (of_file 503 b) (entries_in (entry_at_index v 2)) d.files, tt)))
 
-package_of : (k : ℕ) (a : Surroundings) (v : Plain) → Good (leaves (shape_of (Obj Tables.Package)) k a v) → IsSoundPackage a.root v
+package_of : (k : ℕ) (a : Surroundings) (v : Plain) → Good (leaves (shape_of (Obj Tables.Package)) k a v) → ObeysTextAndNumberRulesOfPackage a.root v
 unfolding leaves shape_of is_allowed_text_of_field
 package_of k a v g =
     let b : Surroundings = surroundings_of_fields 7 a v in
     let h = good_fields (shapes_of (table Tables.Package)) 701 b (entries_in v) g in
     record {
-      info = information_of 701 b (entry_in v 0) h.0;
-      folders = each_good (IsSoundFolder b.root) (leaves (shape_of (Obj Tables.Dir)) 702 b) (folder_of 702 b) (entries_in (entry_in v 1)) h.1.0;
+      info = information_of 701 b (entry_at_index v 0) h.0;
+      folders = each_good (ObeysTextAndNumberRulesOfFolder b.root) (leaves (shape_of (Obj Tables.Dir)) 702 b) (folder_of 702 b) (entries_in (entry_at_index v 1)) h.1.0;
     }
 
-of_package : (k : ℕ) (a : Surroundings) (v : Plain) → IsSoundPackage a.root v → Good (leaves (shape_of (Obj Tables.Package)) k a v)
+of_package : (k : ℕ) (a : Surroundings) (v : Plain) → ObeysTextAndNumberRulesOfPackage a.root v → Good (leaves (shape_of (Obj Tables.Package)) k a v)
 unfolding leaves shape_of is_allowed_text_of_field
 of_package k a v d =
     let b : Surroundings = surroundings_of_fields 7 a v in
     fields_good (shapes_of (table Tables.Package)) 701 b (entries_in v)
-    (of_information 701 b (entry_in v 0) d.info, (good_each (IsSoundFolder b.root) (leaves (shape_of (Obj Tables.Dir)) 702 b) (of_folder 702 b) (entries_in (entry_in v 1)) d.folders, (scripts_good 703 b (entry_in v 2), (plain_texts 704 b (entry_in v 3) (λ bytes. refl), (refl, tt)))))
+    (of_information 701 b (entry_at_index v 0) d.info, (good_each (ObeysTextAndNumberRulesOfFolder b.root) (leaves (shape_of (Obj Tables.Dir)) 702 b) (of_folder 702 b) (entries_in (entry_at_index v 1)) d.folders, (scripts_good 703 b (entry_at_index v 2), (plain_texts 704 b (entry_at_index v 3) (λ bytes. refl), (refl, tt)))))
 
-index_of : (v : Plain) → Good (leaves (shape_of (Obj Tables.Index)) 0 (surroundings_of_root Tables.Index) v) → IsSoundIndex v
+index_of : (v : Plain) → Good (leaves (shape_of (Obj Tables.Index)) 0 (surroundings_of_root Tables.Index) v) → ObeysTextAndNumberRulesOfIndex v
 unfolding leaves shape_of is_allowed_text_of_field
 index_of v g =
     let b : Surroundings = surroundings_of_fields 8 (surroundings_of_root Tables.Index) v in
     let h = good_fields (shapes_of (table Tables.Index)) 801 b (entries_in v) g in
     record {
-      packages = each_good (IsSoundInformation Tables.Index) (leaves (shape_of (Obj Tables.PkgInfo)) 802 b) (information_of 802 b) (entries_in (entry_in v 1)) h.1.0;
-      pattern = text_kept 803 b (entry_in v 2) h.1.1.0;
+      packages = each_good (ObeysTextAndNumberRulesOfInformation Tables.Index) (leaves (shape_of (Obj Tables.PkgInfo)) 802 b) (information_of 802 b) (entries_in (entry_at_index v 1)) h.1.0;
+      pattern = text_kept 803 b (entry_at_index v 2) h.1.1.0;
     }
 
-of_index : (v : Plain) → IsSoundIndex v → Good (leaves (shape_of (Obj Tables.Index)) 0 (surroundings_of_root Tables.Index) v)
+of_index : (v : Plain) → ObeysTextAndNumberRulesOfIndex v → Good (leaves (shape_of (Obj Tables.Index)) 0 (surroundings_of_root Tables.Index) v)
 unfolding leaves shape_of is_allowed_text_of_field
 of_index v d =
     let b : Surroundings = surroundings_of_fields 8 (surroundings_of_root Tables.Index) v in
     fields_good (shapes_of (table Tables.Index)) 801 b (entries_in v)
-    (refl, (good_each (IsSoundInformation Tables.Index) (leaves (shape_of (Obj Tables.PkgInfo)) 802 b) (of_information 802 b) (entries_in (entry_in v 1)) d.packages, (kept_text 803 b (entry_in v 2) d.pattern, tt)))
+    (refl, (good_each (ObeysTextAndNumberRulesOfInformation Tables.Index) (leaves (shape_of (Obj Tables.PkgInfo)) 802 b) (of_information 802 b) (entries_in (entry_at_index v 1)) d.packages, (kept_text 803 b (entry_at_index v 2) d.pattern, tt)))
 
-database_of : (v : Plain) → Good (leaves (shape_of (Obj Tables.Idb)) 0 (surroundings_of_root Tables.Idb) v) → Each (IsSoundPackage Tables.Idb) (entries_in (entry_in v 0))
+database_of : (v : Plain) → Good (leaves (shape_of (Obj Tables.Idb)) 0 (surroundings_of_root Tables.Idb) v) → Each (ObeysTextAndNumberRulesOfPackage Tables.Idb) (entries_in (entry_at_index v 0))
 unfolding leaves shape_of is_allowed_text_of_field
 database_of v g =
     let b : Surroundings = surroundings_of_fields 9 (surroundings_of_root Tables.Idb) v in
     let h = good_fields (shapes_of (table Tables.Idb)) 901 b (entries_in v) g in
-    each_good (IsSoundPackage Tables.Idb) (leaves (shape_of (Obj Tables.Package)) 901 b) (package_of 901 b) (entries_in (entry_in v 0)) h.0
+    each_good (ObeysTextAndNumberRulesOfPackage Tables.Idb) (leaves (shape_of (Obj Tables.Package)) 901 b) (package_of 901 b) (entries_in (entry_at_index v 0)) h.0
 
-of_database : (v : Plain) → Each (IsSoundPackage Tables.Idb) (entries_in (entry_in v 0)) → Good (leaves (shape_of (Obj Tables.Idb)) 0 (surroundings_of_root Tables.Idb) v)
+of_database : (v : Plain) → Each (ObeysTextAndNumberRulesOfPackage Tables.Idb) (entries_in (entry_at_index v 0)) → Good (leaves (shape_of (Obj Tables.Idb)) 0 (surroundings_of_root Tables.Idb) v)
 unfolding leaves shape_of is_allowed_text_of_field
 of_database v d =
     let b : Surroundings = surroundings_of_fields 9 (surroundings_of_root Tables.Idb) v in
     fields_good (shapes_of (table Tables.Idb)) 901 b (entries_in v)
-    (good_each (IsSoundPackage Tables.Idb) (leaves (shape_of (Obj Tables.Package)) 901 b) (of_package 901 b) (entries_in (entry_in v 0)) d, tt)
+    (good_each (ObeysTextAndNumberRulesOfPackage Tables.Idb) (leaves (shape_of (Obj Tables.Package)) 901 b) (of_package 901 b) (entries_in (entry_at_index v 0)) d, tt)
 
-intent_of : (v : Plain) → Good (leaves (shape_of (Obj Tables.Intent)) 0 (surroundings_of_root Tables.Intent) v) → IsSoundIntent v
+intent_of : (v : Plain) → Good (leaves (shape_of (Obj Tables.Intent)) 0 (surroundings_of_root Tables.Intent) v) → ObeysTextAndNumberRulesOfIntent v
 unfolding leaves shape_of is_allowed_text_of_field
 intent_of v g =
     let b : Surroundings = surroundings_of_fields 10 (surroundings_of_root Tables.Intent) v in
     let h = good_fields (shapes_of (table Tables.Intent)) 1001 b (entries_in v) g in
     record {
-      removals = each_good IsNameAllowedInIntent (leaves text 1001 b) (text_kept 1001 b) (entries_in (entry_in v 0)) h.0;
-      writes = each_good IsNameAllowedInIntent (leaves text 1002 b) (text_kept 1002 b) (entries_in (entry_in v 1)) h.1.0;
+      removals = each_good IsNameAllowedInIntent (leaves text 1001 b) (text_kept 1001 b) (entries_in (entry_at_index v 0)) h.0;
+      writes = each_good IsNameAllowedInIntent (leaves text 1002 b) (text_kept 1002 b) (entries_in (entry_at_index v 1)) h.1.0;
     }
 
-of_intent : (v : Plain) → IsSoundIntent v → Good (leaves (shape_of (Obj Tables.Intent)) 0 (surroundings_of_root Tables.Intent) v)
+of_intent : (v : Plain) → ObeysTextAndNumberRulesOfIntent v → Good (leaves (shape_of (Obj Tables.Intent)) 0 (surroundings_of_root Tables.Intent) v)
 unfolding leaves shape_of is_allowed_text_of_field
 of_intent v d =
     let b : Surroundings = surroundings_of_fields 10 (surroundings_of_root Tables.Intent) v in
     fields_good (shapes_of (table Tables.Intent)) 1001 b (entries_in v)
-    (good_each IsNameAllowedInIntent (leaves text 1001 b) (kept_text 1001 b) (entries_in (entry_in v 0)) d.removals, (good_each IsNameAllowedInIntent (leaves text 1002 b) (kept_text 1002 b) (entries_in (entry_in v 1)) d.writes, tt))
+    (good_each IsNameAllowedInIntent (leaves text 1001 b) (kept_text 1001 b) (entries_in (entry_at_index v 0)) d.removals, (good_each IsNameAllowedInIntent (leaves text 1002 b) (kept_text 1002 b) (entries_in (entry_at_index v 1)) d.writes, tt))
 
-pub rules_kept : (which : Which) (v : Plain) → (text_or_number_fault which v ≡ None) ↔ ObeysFieldRulesOfTable which v
+pub rules_kept : (which : Which) (v : Plain) → (text_or_number_fault which v ≡ None) ↔ ObeysTextAndNumberRulesOfTable which v
 rules_kept Tables.Dep v = (dependency_of 0 (surroundings_of_root Tables.Dep) v, of_dependency 0 (surroundings_of_root Tables.Dep) v)
 rules_kept Tables.Acl v = (λ g. tt, λ d. rights_good 0 (surroundings_of_root Tables.Acl) v)
 rules_kept Tables.PkgInfo v = (information_of 0 (surroundings_of_root Tables.PkgInfo) v, of_information 0 (surroundings_of_root Tables.PkgInfo) v)

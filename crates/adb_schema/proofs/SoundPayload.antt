@@ -11,7 +11,7 @@ use Rattle.adb_view.specs.Walk.{shape_fault}
 use Rattle.adb_view.specs.declared.tables.Which.{Which}
 use Rattle.adb_view.specs.declared.tables.Kind.TheVariants as Kinds
 use Rattle.adb_fields.specs.Repeated.{repeated_fault}
-use Rattle.adb_schema.specs.SoundValues.{ObeysFieldRulesOfTable}
+use Rattle.adb_schema.specs.SoundValues.{ObeysTextAndNumberRulesOfTable}
 use Rattle.adb_schema.specs.Texts.{text_or_number_fault}
 use Rattle.adb_schema.specs.Soundness.{payload_fault, container_fault_except_contents, payload_in, root_value_of_payload}
 use Rattle.adb_schema.proofs.Sound.{sound_payload}
@@ -36,14 +36,14 @@ payload_sound visited which p h =
 
 -- what a law of `adb_schema` says
 abbrev pub Kept : Type 0
-Kept = (which : Which) (v : Plain) → (text_or_number_fault which v ≡ None) ↔ ObeysFieldRulesOfTable which v
+Kept = (which : Which) (v : Plain) → (text_or_number_fault which v ≡ None) ↔ ObeysTextAndNumberRulesOfTable which v
 
 pub payload_texts : (which : Which) (p : List ℕ) → payload_fault which p ≡ None → text_or_number_fault which (root_value_of_payload which p) ≡ None
 payload_texts which p h =
     first_none (text_or_number_fault which (root_value_of_payload which p)) (repeated_fault which (root_value_of_payload which p))
     (second_none (shape_fault p (shape_of (Kinds.Obj which)) (root_word_of_payload p)) _ (second_none (payload_head_fault p) _ h))
 
-pub payload_rules : Kept → (which : Which) (p : List ℕ) → payload_fault which p ≡ None → ObeysFieldRulesOfTable which (root_value_of_payload which p)
+pub payload_rules : Kept → (which : Which) (p : List ℕ) → payload_fault which p ≡ None → ObeysTextAndNumberRulesOfTable which (root_value_of_payload which p)
 payload_rules kept which p h =
     (kept which (root_value_of_payload which p)).0 (payload_texts which p h)
 

@@ -2,8 +2,8 @@
 -- "Dependencies"; their fields in "Schemas", table 1.
 use Rattle.std.specs.Prelude.{Option}
 use Rattle.adb_view.specs.Plain.{Plain}
-use Rattle.adb_view.specs.FieldIndexes.{DEP_MATCH, DEP_NAME, DEP_VERSION}
-use Rattle.adb_view.specs.Values.{entry_in, int_in, text_in}
+use Rattle.adb_view.specs.FieldIndexes.{DEP_MATCH_INDEX, DEP_NAME_INDEX, DEP_VERSION_INDEX}
+use Rattle.adb_view.specs.Values.{entry_at_index, int_in, text_in}
 use Rattle.dep_core.specs.Dependency.{Dependency}
 use Rattle.dep_core.specs.ValueReading.{dependency_of_value}
 
@@ -11,5 +11,5 @@ use Rattle.dep_core.specs.ValueReading.{dependency_of_value}
 -- denote none, which never happens in a tested container
 abbrev pub dependency_in : Plain → Option Dependency
 dependency_in value =
-    dependency_of_value (text_in (entry_in value DEP_NAME)) (text_in (entry_in value DEP_VERSION))
-    (int_in (entry_in value DEP_MATCH))
+    dependency_of_value (text_in (entry_at_index value DEP_NAME_INDEX)) (text_in (entry_at_index value DEP_VERSION_INDEX))
+    (int_in (entry_at_index value DEP_MATCH_INDEX))

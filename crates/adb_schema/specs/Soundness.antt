@@ -7,7 +7,7 @@ use Rattle.std.specs.Int.{w32, from_le_bytes}
 use Rattle.base_core.specs.declared.cause.Cause.{Cause}
 use Rattle.base_core.specs.declared.cause.Cause.TheVariants.{Truncated, WrongSchema, DataOrder}
 use Rattle.adb_block.specs.Header.{schema_of_header}
-use Rattle.adb_block.specs.ReaderPosition.{first_block_position_of_schema_and_file}
+use Rattle.adb_block.specs.PositionBetweenBlocks.{first_block_position_of_schema_and_file}
 use Rattle.adb_block.specs.Reading.{Reading, done, fault, more, block_stream_from}
 use Rattle.adb_block.specs.declared.block.BlockKind.{BlockKind}
 use Rattle.adb_block.specs.declared.block.BlockKind.TheVariants.{Contents}
@@ -25,12 +25,12 @@ use Rattle.adb_schema.specs.declared.read.TheConstants.{PACKAGE_WORD, INDEX_WORD
 
 -- the schema in the header of a container with this table at its root; the other six tables are no
 -- root
-abbrev pub schema_word : Which → Option ℕ
-schema_word Package = Some PACKAGE_WORD
-schema_word Index = Some INDEX_WORD
-schema_word Idb = Some IDB_WORD
-schema_word Intent = Some INTENT_WORD
-schema_word which = None
+abbrev pub header_schema_if_root_table : Which → Option ℕ
+header_schema_if_root_table Package = Some PACKAGE_WORD
+header_schema_if_root_table Index = Some INDEX_WORD
+header_schema_if_root_table Idb = Some IDB_WORD
+header_schema_if_root_table Intent = Some INTENT_WORD
+header_schema_if_root_table which = None
 
 -- ---- the first block
 
@@ -50,49 +50,49 @@ payload_fault which payload =
 
 -- the two numbers at the beginning of a block of contents: the position of the folder, and that of the
 -- file in the folder. Both count from 1
-abbrev pub contents_positions : List ℕ → ℕ × ℕ
-contents_positions payload = (
+abbrev pub folder_and_file_positions_from_payload : List ℕ → ℕ × ℕ
+folder_and_file_positions_from_payload payload = (
   from_le_bytes w32 (take 4 payload),
   from_le_bytes w32 (take 4 (drop 4 payload)),
 )
 
 -- the cause for a block of contents that is not allowed, at the offset `at` of the file. Either it is too short
 -- for its two positions (8 bytes), or it has the positions of a file, while (0, 0) was expected, which is no file
-abbrev pub unexpected_contents_cause : List ℕ → ℕ → Cause
-unexpected_contents_cause payload at = if nat_lt (length payload) 8 then Truncated at
-    else DataOrder (0, 0) (contents_positions payload)
+abbrev pub truncated_or_unexpected_contents_cause : List ℕ → ℕ → Cause
+truncated_or_unexpected_contents_cause payload at = if nat_lt (length payload) 8 then Truncated at
+    else DataOrder (0, 0) (folder_and_file_positions_from_payload payload)
 
 -- why a block is not allowed after the first in a container without files, if it has contents; a block
 -- of another kind is allowed
-abbrev pub unexpected_contents_block_fault : BlockKind → List ℕ → ℕ → Option Cause
-unexpected_contents_block_fault Contents payload at = Some (unexpected_contents_cause payload at)
-unexpected_contents_block_fault kind payload at = None
+abbrev pub truncated_or_unexpected_contents_fault : BlockKind → List ℕ → ℕ → Option Cause
+truncated_or_unexpected_contents_fault Contents payload at = Some (truncated_or_unexpected_contents_cause payload at)
+truncated_or_unexpected_contents_fault kind payload at = None
 
 -- the first fault of the blocks after the first, in a container without files: of their framing, or
 -- that one has contents
-unfoldable pub further_blocks_fault : Reading → Option Cause
-further_blocks_fault done = None
-further_blocks_fault (fault c) = Some c
-further_blocks_fault (more b at r) =
-    option_or (unexpected_contents_block_fault b.kind b.payload at) (further_blocks_fault r)
+unfoldable pub remaining_blocks_fault : Reading → Option Cause
+remaining_blocks_fault done = None
+remaining_blocks_fault (fault c) = Some c
+remaining_blocks_fault (more b at r) =
+    option_or (truncated_or_unexpected_contents_fault b.kind b.payload at) (remaining_blocks_fault r)
 
 -- the first fault of the blocks after the first; none for a package, whose further blocks `pkg_core`
 -- tests against the list of files
-abbrev pub further_blocks_fault_unless_package : Which → Reading → Option Cause
-further_blocks_fault_unless_package Package r = None
-further_blocks_fault_unless_package which r = further_blocks_fault r
+abbrev pub remaining_blocks_fault_unless_package : Which → Reading → Option Cause
+remaining_blocks_fault_unless_package Package r = None
+remaining_blocks_fault_unless_package which r = remaining_blocks_fault r
 
 -- ---- all tests in order
 
 -- whether `schema`, that of a file, is the schema `word` of a table; false for None, which a table has that is no
 -- root
-abbrev pub is_schema_wanted : Option ℕ → ℕ → Bool
-is_schema_wanted (Some word) schema = word == schema
-is_schema_wanted None schema = false
+abbrev pub is_wanted_schema_present_and_equal : Option ℕ → ℕ → Bool
+is_wanted_schema_present_and_equal (Some word) schema = word == schema
+is_wanted_schema_present_and_equal None schema = false
 
 -- the fault of a file whose schema is not that of the table, or None
 abbrev pub schema_fault : Which → ℕ → Option Cause
-schema_fault which schema = if is_schema_wanted (schema_word which) schema then None
+schema_fault which schema = if is_wanted_schema_present_and_equal (header_schema_if_root_table which) schema then None
     else Some (WrongSchema schema)
 
 -- the first fault of the blocks of a file: of the first block, or of the blocks after it. `rest` tests the
@@ -105,21 +105,21 @@ blocks_fault rest which (more b at r) = option_or (payload_fault which b.payload
 
 -- the first fault of a file: of its header, of its schema, or of its blocks. The last argument is what the
 -- header gives: the schema, or the cause for which the header is refused
-abbrev pub file_fault_after_header : (Plain → Reading → Option Cause) → Which → List ℕ → Result ℕ Cause
+abbrev pub file_fault_by_header_schema_or_fault : (Plain → Reading → Option Cause) → Which → List ℕ → Result ℕ Cause
     → Option Cause
-file_fault_after_header rest which file (Err c) = Some c
-file_fault_after_header rest which file (Ok schema) = option_or (schema_fault which schema)
+file_fault_by_header_schema_or_fault rest which file (Err c) = Some c
+file_fault_by_header_schema_or_fault rest which file (Ok schema) = option_or (schema_fault which schema)
     (blocks_fault rest which (block_stream_from (first_block_position_of_schema_and_file schema file)))
 
 -- the first fault of a file, if `rest` tests the blocks after the first
 abbrev pub file_fault_with_rest_test : (Plain → Reading → Option Cause) → Which → List ℕ → Option Cause
-file_fault_with_rest_test rest which file = file_fault_after_header rest which file (schema_of_header file)
+file_fault_with_rest_test rest which file = file_fault_by_header_schema_or_fault rest which file (schema_of_header file)
 
 -- the first failed test of a file as a container with this table at its root. For a package, the blocks after
 -- the first, which have the contents of files, are not tested here
 unfoldable pub container_fault_except_contents : Which → List ℕ → Option Cause
 container_fault_except_contents which file =
-    file_fault_with_rest_test (λ v r. further_blocks_fault_unless_package which r) which file
+    file_fault_with_rest_test (λ v r. remaining_blocks_fault_unless_package which r) which file
 
 -- ---- the payload of a file
 
@@ -131,11 +131,11 @@ first_block_payload (more b at r) = b.payload
 
 -- the payload of the first block of a file, by what its header gives: the schema, or a cause; empty if the
 -- header is refused
-abbrev pub payload_after_header : List ℕ → Result ℕ Cause → List ℕ
-payload_after_header file (Ok schema) =
+abbrev pub payload_by_header_schema_or_fault : List ℕ → Result ℕ Cause → List ℕ
+payload_by_header_schema_or_fault file (Ok schema) =
     first_block_payload (block_stream_from (first_block_position_of_schema_and_file schema file))
-payload_after_header file (Err c) = []
+payload_by_header_schema_or_fault file (Err c) = []
 
 -- the payload of the first block of a file; empty if it has none
 unfoldable pub payload_in : List ℕ → List ℕ
-payload_in file = payload_after_header file (schema_of_header file)
+payload_in file = payload_by_header_schema_or_fault file (schema_of_header file)

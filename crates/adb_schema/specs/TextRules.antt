@@ -3,7 +3,7 @@
 use Rattle.std.specs.Prelude.{◌≡◌, ℕ, Bool, true, List}
 use Rattle.base_core.specs.Name.{is_name}
 use Rattle.version_core.specs.Order.{is_version}
-use Rattle.dep_core.specs.Dependency.{is_dep_name, is_package_name}
+use Rattle.dep_core.specs.Dependency.{is_dependency_name_by_bytes_and_length, is_package_name}
 use Rattle.dep_core.specs.Value.{is_version_or_empty}
 use Rattle.adb_view.specs.Values.{text_in, value_at}
 use Rattle.adb_view.specs.declared.tables.Kind.TheVariants.{Text}
@@ -13,7 +13,7 @@ use Rattle.adb_schema.specs.declared.judged.TextRule.TheVariants.{DependencyName
 
 -- whether a text obeys a rule that reads only its bytes
 abbrev pub keeps_text_rule : TextRule → List ℕ → Bool
-keeps_text_rule DependencyName bytes = is_dep_name bytes
+keeps_text_rule DependencyName bytes = is_dependency_name_by_bytes_and_length bytes
 keeps_text_rule PackageName bytes = is_package_name bytes
 keeps_text_rule Version bytes = is_version bytes
 keeps_text_rule VersionOrEmpty bytes = is_version_or_empty bytes

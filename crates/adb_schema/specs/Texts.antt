@@ -4,18 +4,18 @@
 -- shape").
 use Rattle.std.specs.Prelude.{ℕ, ◌+◌, ◌*◌, ◌==◌, nat_lt, Bool, true, false, not, ◌&&◌, if◌then◌else◌, List, [], ◌∷◌, ◌++◌, length, Option, Some, None}
 use Rattle.version_core.specs.Order.{is_version}
-use Rattle.dep_core.specs.Dependency.{is_dep_name, is_package_name}
+use Rattle.dep_core.specs.Dependency.{is_dependency_name_by_bytes_and_length, is_package_name}
 use Rattle.dep_core.specs.Value.{is_match_number, is_version_or_empty}
 use Rattle.base_core.specs.declared.cause.Cause.{Cause}
 use Rattle.base_core.specs.declared.cause.Cause.TheVariants.{BadText}
 use Rattle.adb_view.specs.Plain.{Plain, null, Plains, none, more, Shape, number, text, hash, array, object, Fields, no_fields, field}
 use Rattle.adb_schema.specs.Reserved.{is_reserved}
 use Rattle.adb_fields.specs.Paths.{path_of}
-use Rattle.adb_fields.specs.Repeated.{field_place_in_causes}
+use Rattle.adb_fields.specs.Repeated.{place_in_causes_of_field_at_index}
 use Rattle.adb_schema.specs.Rules.{is_name_allowed_in_intent, is_digest_length, is_digest_length_or_none, is_valid_file_name_in_folder, is_folder_name, is_id_length, is_supported_pkgname_spec, is_link_target_or_none}
-use Rattle.adb_view.specs.FieldIndexes.{DEP_MATCH, DEP_NAME, DEP_VERSION, DIR_NAME, FILE_HASHES, FILE_NAME, FILE_SIZE, FILE_TARGET, INDEX_PKGNAME_SPEC, INFO_HASHES, INFO_NAME, INFO_VERSION, INTENT_REMOVALS, INTENT_WRITES}
+use Rattle.adb_view.specs.FieldIndexes.{DEP_MATCH_INDEX, DEP_NAME_INDEX, DEP_VERSION_INDEX, DIR_NAME_INDEX, FILE_HASHES_INDEX, FILE_NAME_INDEX, FILE_SIZE_INDEX, FILE_TARGET_INDEX, INDEX_PKGNAME_SPEC_INDEX, INFO_HASHES_INDEX, INFO_NAME_INDEX, INFO_VERSION_INDEX, INTENT_REMOVALS_INDEX, INTENT_WRITES_INDEX}
 use Rattle.adb_view.specs.Schema.{shape_of, table_number}
-use Rattle.adb_view.specs.Values.{entries_in, entry_in, int_in, text_in}
+use Rattle.adb_view.specs.Values.{entries_in, entry_at_index, int_in, text_in}
 use Rattle.adb_view.specs.declared.tables.Which.{Which}
 use Rattle.adb_view.specs.declared.tables.Which.TheVariants.{Dep, PkgInfo, File, Dir, Index, Idb, Intent}
 use Rattle.adb_view.specs.declared.tables.Kind.TheVariants.{Obj}
@@ -39,26 +39,26 @@ is_package_hash_length root len = is_digest_length_or_none len
 
 -- whether a container with this table at its root may list a file under the path. A database may list
 -- none under a reserved name, since no change may remove one as a package's file
-abbrev pub can_root_table_list_path : Which → List ℕ → Bool
-can_root_table_list_path Idb path = not (is_reserved path)
-can_root_table_list_path root path = true
+abbrev pub is_path_unreserved_if_in_database : Which → List ℕ → Bool
+is_path_unreserved_if_in_database Idb path = not (is_reserved path)
+is_path_unreserved_if_in_database root path = true
 
 -- whether a file in these surroundings may have this name: in their folder, and in a container with
 -- their root
 abbrev pub is_allowed_file_name : Surroundings → List ℕ → Bool
 is_allowed_file_name around name = is_valid_file_name_in_folder around.folder name
-    && can_root_table_list_path around.root (path_of around.folder name)
+    && is_path_unreserved_if_in_database around.root (path_of around.folder name)
 
 -- whether a file needs a hash: one with contents does, except in a database, which may be imported from
 -- a text database
-abbrev pub needs_file_hash : Which → Bool → Bool
-needs_file_hash Idb has_contents = false
-needs_file_hash root has_contents = has_contents
+abbrev pub is_file_hash_needed_unless_in_database : Which → Bool → Bool
+is_file_hash_needed_unless_in_database Idb has_contents = false
+is_file_hash_needed_unless_in_database root has_contents = has_contents
 
 -- whether a file's hash may have this length in bytes: that of a digest, or 0 if no hash is needed
 abbrev pub is_file_hash_length : Surroundings → ℕ → Bool
 is_file_hash_length around len =
-    if needs_file_hash around.root around.has_contents then is_digest_length len
+    if is_file_hash_needed_unless_in_database around.root around.has_contents then is_digest_length len
     else is_digest_length_or_none len
 
 -- ---- the rule of each field
@@ -67,25 +67,25 @@ is_file_hash_length around len =
 -- field's table plus the field's own. Only the match number of a dependency has a rule
 abbrev pub is_allowed_number_of_field : ℕ → ℕ → Bool
 is_allowed_number_of_field place n =
-    if place == field_place_in_causes Dep DEP_MATCH then is_match_number n else true
+    if place == place_in_causes_of_field_at_index Dep DEP_MATCH_INDEX then is_match_number n else true
 
 -- whether a text obeys the rule of the field with the number `place` (as in *is_allowed_number_of_field*); fields
 -- that are not listed here have no rule
 unfoldable pub is_allowed_text_of_field : ℕ → Surroundings → List ℕ → Bool
 is_allowed_text_of_field place around bytes =
-    if place == field_place_in_causes Dep DEP_NAME then is_dep_name bytes
-    else if place == field_place_in_causes Dep DEP_VERSION then is_version_or_empty bytes
-    else if place == field_place_in_causes PkgInfo INFO_NAME then is_package_name bytes
-    else if place == field_place_in_causes PkgInfo INFO_VERSION then is_version bytes
-    else if place == field_place_in_causes PkgInfo INFO_HASHES then is_package_hash_length around.root
+    if place == place_in_causes_of_field_at_index Dep DEP_NAME_INDEX then is_dependency_name_by_bytes_and_length bytes
+    else if place == place_in_causes_of_field_at_index Dep DEP_VERSION_INDEX then is_version_or_empty bytes
+    else if place == place_in_causes_of_field_at_index PkgInfo INFO_NAME_INDEX then is_package_name bytes
+    else if place == place_in_causes_of_field_at_index PkgInfo INFO_VERSION_INDEX then is_version bytes
+    else if place == place_in_causes_of_field_at_index PkgInfo INFO_HASHES_INDEX then is_package_hash_length around.root
     (length bytes)
-    else if place == field_place_in_causes File FILE_NAME then is_allowed_file_name around bytes
-    else if place == field_place_in_causes File FILE_HASHES then is_file_hash_length around (length bytes)
-    else if place == field_place_in_causes File FILE_TARGET then is_link_target_or_none bytes
-    else if place == field_place_in_causes Dir DIR_NAME then is_folder_name bytes
-    else if place == field_place_in_causes Index INDEX_PKGNAME_SPEC then is_supported_pkgname_spec bytes
-    else if place == field_place_in_causes Intent INTENT_REMOVALS then is_name_allowed_in_intent bytes
-    else if place == field_place_in_causes Intent INTENT_WRITES then is_name_allowed_in_intent bytes
+    else if place == place_in_causes_of_field_at_index File FILE_NAME_INDEX then is_allowed_file_name around bytes
+    else if place == place_in_causes_of_field_at_index File FILE_HASHES_INDEX then is_file_hash_length around (length bytes)
+    else if place == place_in_causes_of_field_at_index File FILE_TARGET_INDEX then is_link_target_or_none bytes
+    else if place == place_in_causes_of_field_at_index Dir DIR_NAME_INDEX then is_folder_name bytes
+    else if place == place_in_causes_of_field_at_index Index INDEX_PKGNAME_SPEC_INDEX then is_supported_pkgname_spec bytes
+    else if place == place_in_causes_of_field_at_index Intent INTENT_REMOVALS_INDEX then is_name_allowed_in_intent bytes
+    else if place == place_in_causes_of_field_at_index Intent INTENT_WRITES_INDEX then is_name_allowed_in_intent bytes
     else true
 
 -- ---- the leaves of the walk, in order
@@ -109,15 +109,15 @@ field_number_of_leaf (text_leaf field_place_in_causes around bytes) = field_plac
 
 -- whether a file has contents: it has no target, and a size above 0
 abbrev pub is_file_with_contents : Plain → Bool
-is_file_with_contents file = (length (text_in (entry_in file FILE_TARGET)) == 0)
-    && nat_lt 0 (int_in (entry_in file FILE_SIZE))
+is_file_with_contents file = (length (text_in (entry_at_index file FILE_TARGET_INDEX)) == 0)
+    && nat_lt 0 (int_in (entry_at_index file FILE_SIZE_INDEX))
 
 -- the surroundings of the fields of the object `v`, by the number of its table (`schema`) and the surroundings
 -- of the object (`around`). A folder sets the path, and a file sets whether there are contents
 abbrev pub surroundings_of_fields : ℕ → Surroundings → Plain → Surroundings
 surroundings_of_fields schema around v = record {
   root = around.root;
-  folder = if schema == table_number Dir then text_in (entry_in v DIR_NAME) else around.folder;
+  folder = if schema == table_number Dir then text_in (entry_at_index v DIR_NAME_INDEX) else around.folder;
   has_contents = if schema == table_number File then is_file_with_contents v else around.has_contents;
 }
 

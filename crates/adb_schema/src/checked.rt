@@ -16,8 +16,8 @@ use crate::read::ReadFault;
 use crate::text_walk::{check_texts, no_text_is_bad_where_each_keeps_its_rule};
 use adb_fields::{Kinded, List, View, objects_field, text_field, texts_field};
 use adb_view::field_indexes::{
-    IDB_PACKAGES, INDEX_DESCRIPTION, INDEX_PACKAGES, INDEX_PKGNAME_SPEC, INTENT_REMOVALS,
-    INTENT_WRITES,
+    IDB_PACKAGES_INDEX, INDEX_DESCRIPTION_INDEX, INDEX_PACKAGES_INDEX, INDEX_PKGNAME_SPEC_INDEX, INTENT_REMOVALS_INDEX,
+    INTENT_WRITES_INDEX,
 };
 use adb_view::{Adb, Shaped, Val, Which, entry_word};
 use std::alloc::Global;
@@ -33,7 +33,7 @@ pub struct Checked<'a> {
 
 impl<'a> Checked<'a> {
     ghost use Rattle.adb_view.specs.ShapedPayload.{adb_of};
-    ghost use Rattle.adb_schema.specs.SoundValues.{ObeysFieldRulesOfTable};
+    ghost use Rattle.adb_schema.specs.SoundValues.{ObeysTextAndNumberRulesOfTable};
     ghost use Rattle.adb_schema.specs.Checked.{table_of_checked, checked_value};
     ghost use Rattle.adb_schema.specs.ReadFaults.{IsReadFault};
     ghost use Rattle.adb_schema.specs.Views.{package_value, index_value, idb_value, intent_value};
@@ -76,7 +76,7 @@ impl<'a> Checked<'a> {
     /// Each text and number of a checked payload obeys the rule of its field: a name is a
     /// package's, a version a version.
     pub fn values_keep_their_rules(&self)
-        ensures { ObeysFieldRulesOfTable (table_of_checked self.now) (checked_value self.now) }
+        ensures { ObeysTextAndNumberRulesOfTable (table_of_checked self.now) (checked_value self.now) }
     {
         no_text_is_bad_where_each_keeps_its_rule();
     }
@@ -137,9 +137,9 @@ pub struct IndexView<'a> {
 }
 
 impl<'a> IndexView<'a> {
-    ghost use Rattle.adb_view.specs.FieldIndexes.{INDEX_DESCRIPTION, INDEX_PACKAGES, INDEX_PKGNAME_SPEC};
-    ghost use Rattle.adb_view.specs.Values.{entry_in, text_in};
-    ghost use Rattle.adb_schema.specs.SoundValues.{ObeysFieldRulesOfTable};
+    ghost use Rattle.adb_view.specs.FieldIndexes.{INDEX_DESCRIPTION_INDEX, INDEX_PACKAGES_INDEX, INDEX_PKGNAME_SPEC_INDEX};
+    ghost use Rattle.adb_view.specs.Values.{entry_at_index, text_in};
+    ghost use Rattle.adb_schema.specs.SoundValues.{ObeysTextAndNumberRulesOfTable};
     ghost use Rattle.adb_schema.specs.Views.{index_value};
     ghost use Rattle.adb_fields.specs.ListValue.{list_value};
 
@@ -163,7 +163,7 @@ impl<'a> IndexView<'a> {
     /// Each text and number of the index obeys the rule of its field: a name is a package's, a
     /// version a version.
     pub fn values_keep_their_rules(&self)
-        ensures { ObeysFieldRulesOfTable Tables.Index (index_value self.now) }
+        ensures { ObeysTextAndNumberRulesOfTable Tables.Index (index_value self.now) }
     {
         no_text_is_bad_where_each_keeps_its_rule();
     }
@@ -188,25 +188,25 @@ impl<'a> IndexView<'a> {
 
     /// The description of the index.
     pub fn description(&self) -> &'a [u8]
-        ensures { result.now ≡ text_in (entry_in (index_value self.now) INDEX_DESCRIPTION) }
+        ensures { result.now ≡ text_in (entry_at_index (index_value self.now) INDEX_DESCRIPTION_INDEX) }
     {
         text_field(
             self.adb,
             Which::Index,
             Val::of(self.word),
-            INDEX_DESCRIPTION,
+            INDEX_DESCRIPTION_INDEX,
         )
     }
 
     /// The packages of the index, by their information.
     pub fn packages(&self) -> List<'a, PkgInfo<'a>>
-        ensures { list_value result ≡ entry_in (index_value self.now) INDEX_PACKAGES }
+        ensures { list_value result ≡ entry_at_index (index_value self.now) INDEX_PACKAGES_INDEX }
     {
         let entries = objects_field(
             self.adb,
             Which::Index,
             Val::of(self.word),
-            INDEX_PACKAGES,
+            INDEX_PACKAGES_INDEX,
             Which::PkgInfo,
         );
         List::of(self.adb, entries)
@@ -214,13 +214,13 @@ impl<'a> IndexView<'a> {
 
     /// How the files of the index's packages are named: empty, or `${name}-${version}.apk`.
     pub fn pkgname_spec(&self) -> &'a [u8]
-        ensures { result.now ≡ text_in (entry_in (index_value self.now) INDEX_PKGNAME_SPEC) }
+        ensures { result.now ≡ text_in (entry_at_index (index_value self.now) INDEX_PKGNAME_SPEC_INDEX) }
     {
         text_field(
             self.adb,
             Which::Index,
             Val::of(self.word),
-            INDEX_PKGNAME_SPEC,
+            INDEX_PKGNAME_SPEC_INDEX,
         )
     }
 }
@@ -252,20 +252,20 @@ impl<'a> View<'a> for IdbView<'a> {
 }
 
 impl<'a> IdbView<'a> {
-    ghost use Rattle.adb_view.specs.FieldIndexes.{IDB_PACKAGES};
-    ghost use Rattle.adb_view.specs.Values.{count_of, entries_in, entry_in};
+    ghost use Rattle.adb_view.specs.FieldIndexes.{IDB_PACKAGES_INDEX};
+    ghost use Rattle.adb_view.specs.Values.{count_of, entries_in, entry_at_index};
     ghost use Rattle.adb_schema.specs.Views.{idb_value, package_value};
     ghost use Rattle.adb_fields.specs.ListValue.{list_value};
 
     /// The packages that are installed, in their order.
     pub fn packages(&self) -> List<'a, PackageView<'a>>
-        ensures { list_value result ≡ entry_in (idb_value self.now) IDB_PACKAGES }
+        ensures { list_value result ≡ entry_at_index (idb_value self.now) IDB_PACKAGES_INDEX }
     {
         let entries = objects_field(
             self.adb,
             Which::Idb,
             self.word,
-            IDB_PACKAGES,
+            IDB_PACKAGES_INDEX,
             Which::Package,
         );
         List::of(self.adb, entries)
@@ -274,10 +274,10 @@ impl<'a> IdbView<'a> {
     /// The package at a place, counted from 0, which is read from the payload of the database.
     pub fn package_at(&self, i: usize) -> PackageView<'a>
         // `i` is the index of one of the database's packages.
-        requires { i < count_of (entries_in (entry_in (idb_value self.now) IDB_PACKAGES)) }
+        requires { i < count_of (entries_in (entry_at_index (idb_value self.now) IDB_PACKAGES_INDEX)) }
         // The value is that of entry `i` of the database's packages.
         ensures value { package_value result
-            ≡ entry_in (entry_in (idb_value self.now) IDB_PACKAGES) i }
+            ≡ entry_at_index (entry_at_index (idb_value self.now) IDB_PACKAGES_INDEX) i }
         // The package is in the payload of the database.
         ensures lent { payload_of result.adb ≡ payload_of self.now.adb }
     {
@@ -285,7 +285,7 @@ impl<'a> IdbView<'a> {
             self.adb,
             Which::Idb,
             self.word,
-            IDB_PACKAGES,
+            IDB_PACKAGES_INDEX,
             Which::Package,
         );
         PackageView::at(self.adb, entry_word(entries, i))
@@ -319,28 +319,28 @@ impl<'a> View<'a> for IntentView<'a> {
 }
 
 impl<'a> IntentView<'a> {
-    ghost use Rattle.adb_view.specs.FieldIndexes.{INTENT_REMOVALS, INTENT_WRITES};
-    ghost use Rattle.adb_view.specs.Values.{entry_in};
+    ghost use Rattle.adb_view.specs.FieldIndexes.{INTENT_REMOVALS_INDEX, INTENT_WRITES_INDEX};
+    ghost use Rattle.adb_view.specs.Values.{entry_at_index};
     ghost use Rattle.adb_schema.specs.Views.{intent_value};
     ghost use Rattle.adb_fields.specs.ListValue.{list_value};
 
     /// The paths of the files that the change removes.
     pub fn removals(&self) -> List<'a, &'a [u8]>
-        ensures { list_value result ≡ entry_in (intent_value self.now) INTENT_REMOVALS }
+        ensures { list_value result ≡ entry_at_index (intent_value self.now) INTENT_REMOVALS_INDEX }
     {
         List::of(
             self.adb,
-            texts_field(self.adb, Which::Intent, self.word, INTENT_REMOVALS),
+            texts_field(self.adb, Which::Intent, self.word, INTENT_REMOVALS_INDEX),
         )
     }
 
     /// The paths of the files that the change writes.
     pub fn writes(&self) -> List<'a, &'a [u8]>
-        ensures { list_value result ≡ entry_in (intent_value self.now) INTENT_WRITES }
+        ensures { list_value result ≡ entry_at_index (intent_value self.now) INTENT_WRITES_INDEX }
     {
         List::of(
             self.adb,
-            texts_field(self.adb, Which::Intent, self.word, INTENT_WRITES),
+            texts_field(self.adb, Which::Intent, self.word, INTENT_WRITES_INDEX),
         )
     }
 }

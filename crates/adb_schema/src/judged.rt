@@ -14,7 +14,7 @@ use crate::rules::{
 };
 use adb_view::{Adb, Val};
 use base_core::is_name;
-use dep_core::{is_dep_name, is_package_name};
+use dep_core::{is_dependency_name_by_bytes_and_length, is_package_name};
 use std::alloc::{AllocError, Global};
 use std::collections::BTreeSet;
 use version_core::OverlappingVersions;
@@ -50,7 +50,7 @@ impl TextRule {
         ensures { result ≡ keeps_text_rule self text.now }
     {
         match self {
-            TextRule::DependencyName => is_dep_name(text),
+            TextRule::DependencyName => is_dependency_name_by_bytes_and_length(text),
             TextRule::PackageName => is_package_name(text),
             TextRule::Version => is_version(text),
             TextRule::VersionOrEmpty => is_version_or_empty(text),

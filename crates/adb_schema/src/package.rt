@@ -12,11 +12,11 @@ use adb_fields::{
     Kinded, List, View, field_word, hash_field, int_field, objects_field, text_field, texts_field,
 };
 use adb_view::field_indexes::{
-    ACL_GROUP, ACL_MODE, ACL_USER, ACL_XATTRS, DIR_ACL, DIR_FILES, DIR_NAME, FILE_ACL, FILE_HASHES,
-    FILE_MTIME, FILE_NAME, FILE_SIZE, FILE_TARGET, FILE_UNUSED, PACKAGE_INFO, PACKAGE_PATHS,
-    PACKAGE_REPLACES_PRIORITY, PACKAGE_SCRIPTS, PACKAGE_TRIGGERS, SCRIPTS_POST_DEINSTALL,
-    SCRIPTS_POST_INSTALL, SCRIPTS_POST_UPGRADE, SCRIPTS_PRE_DEINSTALL, SCRIPTS_PRE_INSTALL,
-    SCRIPTS_PRE_UPGRADE, SCRIPTS_TRIGGER,
+    ACL_GROUP_INDEX, ACL_MODE_INDEX, ACL_USER_INDEX, ACL_XATTRS_INDEX, DIR_ACL_INDEX, DIR_FILES_INDEX, DIR_NAME_INDEX, FILE_ACL_INDEX, FILE_HASHES_INDEX,
+    FILE_MTIME_INDEX, FILE_NAME_INDEX, FILE_SIZE_INDEX, FILE_TARGET_INDEX, FILE_UNUSED_INDEX, PACKAGE_INFO_INDEX, PACKAGE_PATHS_INDEX,
+    PACKAGE_REPLACES_PRIORITY_INDEX, PACKAGE_SCRIPTS_INDEX, PACKAGE_TRIGGERS_INDEX, SCRIPTS_POST_DEINSTALL_INDEX,
+    SCRIPTS_POST_INSTALL_INDEX, SCRIPTS_POST_UPGRADE_INDEX, SCRIPTS_PRE_DEINSTALL_INDEX, SCRIPTS_PRE_INSTALL_INDEX,
+    SCRIPTS_PRE_UPGRADE_INDEX, SCRIPTS_TRIGGER_INDEX,
 };
 use adb_view::{Adb, Val, Which};
 
@@ -47,39 +47,39 @@ impl<'a> View<'a> for AclView<'a> {
 }
 
 impl<'a> AclView<'a> {
-    ghost use Rattle.adb_view.specs.FieldIndexes.{ACL_GROUP, ACL_MODE, ACL_USER, ACL_XATTRS};
-    ghost use Rattle.adb_view.specs.Values.{entry_in, int_in, text_in};
+    ghost use Rattle.adb_view.specs.FieldIndexes.{ACL_GROUP_INDEX, ACL_MODE_INDEX, ACL_USER_INDEX, ACL_XATTRS_INDEX};
+    ghost use Rattle.adb_view.specs.Values.{entry_at_index, int_in, text_in};
     ghost use Rattle.adb_schema.specs.Views.{acl_value};
     ghost use Rattle.adb_fields.specs.ListValue.{list_value};
 
     /// The mode bits, as a number.
     pub fn mode(&self) -> u64
-        ensures { result ≡ int_in (entry_in (acl_value self.now) ACL_MODE) }
+        ensures { result ≡ int_in (entry_at_index (acl_value self.now) ACL_MODE_INDEX) }
     {
-        int_field(self.adb, Which::Acl, self.word, ACL_MODE)
+        int_field(self.adb, Which::Acl, self.word, ACL_MODE_INDEX)
     }
 
     /// The user who owns the file or folder: a name, or a number as a text.
     pub fn user(&self) -> &'a [u8]
-        ensures { result.now ≡ text_in (entry_in (acl_value self.now) ACL_USER) }
+        ensures { result.now ≡ text_in (entry_at_index (acl_value self.now) ACL_USER_INDEX) }
     {
-        text_field(self.adb, Which::Acl, self.word, ACL_USER)
+        text_field(self.adb, Which::Acl, self.word, ACL_USER_INDEX)
     }
 
     /// The group that owns the file or folder: a name, or a number as a text.
     pub fn group(&self) -> &'a [u8]
-        ensures { result.now ≡ text_in (entry_in (acl_value self.now) ACL_GROUP) }
+        ensures { result.now ≡ text_in (entry_at_index (acl_value self.now) ACL_GROUP_INDEX) }
     {
-        text_field(self.adb, Which::Acl, self.word, ACL_GROUP)
+        text_field(self.adb, Which::Acl, self.word, ACL_GROUP_INDEX)
     }
 
     /// The extended attributes. They are stored, and no command uses them.
     pub fn xattrs(&self) -> List<'a, &'a [u8]>
-        ensures { list_value result ≡ entry_in (acl_value self.now) ACL_XATTRS }
+        ensures { list_value result ≡ entry_at_index (acl_value self.now) ACL_XATTRS_INDEX }
     {
         List::of(
             self.adb,
-            texts_field(self.adb, Which::Acl, self.word, ACL_XATTRS),
+            texts_field(self.adb, Which::Acl, self.word, ACL_XATTRS_INDEX),
         )
     }
 }
@@ -111,63 +111,63 @@ impl<'a> View<'a> for FileInfo<'a> {
 }
 
 impl<'a> FileInfo<'a> {
-    ghost use Rattle.adb_view.specs.FieldIndexes.{FILE_ACL, FILE_HASHES, FILE_MTIME, FILE_NAME, FILE_SIZE, FILE_TARGET, FILE_UNUSED};
-    ghost use Rattle.adb_view.specs.Values.{entry_in, int_in, text_in};
+    ghost use Rattle.adb_view.specs.FieldIndexes.{FILE_ACL_INDEX, FILE_HASHES_INDEX, FILE_MTIME_INDEX, FILE_NAME_INDEX, FILE_SIZE_INDEX, FILE_TARGET_INDEX, FILE_UNUSED_INDEX};
+    ghost use Rattle.adb_view.specs.Values.{entry_at_index, int_in, text_in};
     ghost use Rattle.adb_schema.specs.Views.{acl_value, file_value};
 
     /// The name of the file: one part of a path, in its folder.
     pub fn name(&self) -> &'a [u8]
-        ensures { result.now ≡ text_in (entry_in (file_value self.now) FILE_NAME) }
+        ensures { result.now ≡ text_in (entry_at_index (file_value self.now) FILE_NAME_INDEX) }
     {
-        text_field(self.adb, Which::File, self.word, FILE_NAME)
+        text_field(self.adb, Which::File, self.word, FILE_NAME_INDEX)
     }
 
     /// The access list of the file: its owner, group and mode.
     pub fn acl(&self) -> AclView<'a>
-        ensures { acl_value result ≡ entry_in (file_value self.now) FILE_ACL }
+        ensures { acl_value result ≡ entry_at_index (file_value self.now) FILE_ACL_INDEX }
     {
         AclView::of(
             self.adb,
-            field_word(self.adb, Which::File, self.word, FILE_ACL),
+            field_word(self.adb, Which::File, self.word, FILE_ACL_INDEX),
         )
     }
 
     /// The size of the file in bytes.
     pub fn size(&self) -> u64
-        ensures { result ≡ int_in (entry_in (file_value self.now) FILE_SIZE) }
+        ensures { result ≡ int_in (entry_at_index (file_value self.now) FILE_SIZE_INDEX) }
     {
-        int_field(self.adb, Which::File, self.word, FILE_SIZE)
+        int_field(self.adb, Which::File, self.word, FILE_SIZE_INDEX)
     }
 
     /// When the file was changed, in seconds since 1970.
     pub fn mtime(&self) -> u64
-        ensures { result ≡ int_in (entry_in (file_value self.now) FILE_MTIME) }
+        ensures { result ≡ int_in (entry_at_index (file_value self.now) FILE_MTIME_INDEX) }
     {
-        int_field(self.adb, Which::File, self.word, FILE_MTIME)
+        int_field(self.adb, Which::File, self.word, FILE_MTIME_INDEX)
     }
 
     /// The digest of the file's bytes: SHA-1, SHA-256 or SHA-512, by its length; empty if the
     /// digest is unknown.
     pub fn hashes(&self) -> &'a [u8]
-        ensures { result.now ≡ text_in (entry_in (file_value self.now) FILE_HASHES) }
+        ensures { result.now ≡ text_in (entry_at_index (file_value self.now) FILE_HASHES_INDEX) }
     {
-        hash_field(self.adb, Which::File, self.word, FILE_HASHES)
+        hash_field(self.adb, Which::File, self.word, FILE_HASHES_INDEX)
     }
 
     /// The field *target*. For a link this field has the two bytes `00 a0`, and then the text of
     /// the target. For a regular file this field is empty. The rule is 406 in `docs/formats.md`,
     /// "The texts".
     pub fn target(&self) -> &'a [u8]
-        ensures { result.now ≡ text_in (entry_in (file_value self.now) FILE_TARGET) }
+        ensures { result.now ≡ text_in (entry_at_index (file_value self.now) FILE_TARGET_INDEX) }
     {
-        text_field(self.adb, Which::File, self.word, FILE_TARGET)
+        text_field(self.adb, Which::File, self.word, FILE_TARGET_INDEX)
     }
 
     /// A reserved field.
     pub fn unused(&self) -> u64
-        ensures { result ≡ int_in (entry_in (file_value self.now) FILE_UNUSED) }
+        ensures { result ≡ int_in (entry_at_index (file_value self.now) FILE_UNUSED_INDEX) }
     {
-        int_field(self.adb, Which::File, self.word, FILE_UNUSED)
+        int_field(self.adb, Which::File, self.word, FILE_UNUSED_INDEX)
     }
 }
 
@@ -198,33 +198,33 @@ impl<'a> View<'a> for DirInfo<'a> {
 }
 
 impl<'a> DirInfo<'a> {
-    ghost use Rattle.adb_view.specs.FieldIndexes.{DIR_ACL, DIR_FILES, DIR_NAME};
-    ghost use Rattle.adb_view.specs.Values.{entry_in, text_in};
+    ghost use Rattle.adb_view.specs.FieldIndexes.{DIR_ACL_INDEX, DIR_FILES_INDEX, DIR_NAME_INDEX};
+    ghost use Rattle.adb_view.specs.Values.{entry_at_index, text_in};
     ghost use Rattle.adb_schema.specs.Views.{acl_value, dir_value};
     ghost use Rattle.adb_fields.specs.ListValue.{list_value};
 
     /// The folder's path; empty for the root.
     pub fn name(&self) -> &'a [u8]
-        ensures { result.now ≡ text_in (entry_in (dir_value self.now) DIR_NAME) }
+        ensures { result.now ≡ text_in (entry_at_index (dir_value self.now) DIR_NAME_INDEX) }
     {
-        text_field(self.adb, Which::Dir, self.word, DIR_NAME)
+        text_field(self.adb, Which::Dir, self.word, DIR_NAME_INDEX)
     }
 
     /// The access list of the folder: its owner, group and mode.
     pub fn acl(&self) -> AclView<'a>
-        ensures { acl_value result ≡ entry_in (dir_value self.now) DIR_ACL }
+        ensures { acl_value result ≡ entry_at_index (dir_value self.now) DIR_ACL_INDEX }
     {
         AclView::of(
             self.adb,
-            field_word(self.adb, Which::Dir, self.word, DIR_ACL),
+            field_word(self.adb, Which::Dir, self.word, DIR_ACL_INDEX),
         )
     }
 
     /// The files of the folder, in their order.
     pub fn files(&self) -> List<'a, FileInfo<'a>>
-        ensures { list_value result ≡ entry_in (dir_value self.now) DIR_FILES }
+        ensures { list_value result ≡ entry_at_index (dir_value self.now) DIR_FILES_INDEX }
     {
-        let entries = objects_field(self.adb, Which::Dir, self.word, DIR_FILES, Which::File);
+        let entries = objects_field(self.adb, Which::Dir, self.word, DIR_FILES_INDEX, Which::File);
         List::of(self.adb, entries)
     }
 }
@@ -257,57 +257,57 @@ impl<'a> View<'a> for ScriptsView<'a> {
 }
 
 impl<'a> ScriptsView<'a> {
-    ghost use Rattle.adb_view.specs.FieldIndexes.{SCRIPTS_POST_DEINSTALL, SCRIPTS_POST_INSTALL, SCRIPTS_POST_UPGRADE, SCRIPTS_PRE_DEINSTALL, SCRIPTS_PRE_INSTALL, SCRIPTS_PRE_UPGRADE, SCRIPTS_TRIGGER};
-    ghost use Rattle.adb_view.specs.Values.{entry_in, text_in};
+    ghost use Rattle.adb_view.specs.FieldIndexes.{SCRIPTS_POST_DEINSTALL_INDEX, SCRIPTS_POST_INSTALL_INDEX, SCRIPTS_POST_UPGRADE_INDEX, SCRIPTS_PRE_DEINSTALL_INDEX, SCRIPTS_PRE_INSTALL_INDEX, SCRIPTS_PRE_UPGRADE_INDEX, SCRIPTS_TRIGGER_INDEX};
+    ghost use Rattle.adb_view.specs.Values.{entry_at_index, text_in};
     ghost use Rattle.adb_schema.specs.Views.{scripts_value};
 
     /// The script for a change in a folder that matches a pattern of `PackageView::triggers`.
     pub fn trigger(&self) -> &'a [u8]
-        ensures { result.now ≡ text_in (entry_in (scripts_value self.now) SCRIPTS_TRIGGER) }
+        ensures { result.now ≡ text_in (entry_at_index (scripts_value self.now) SCRIPTS_TRIGGER_INDEX) }
     {
-        text_field(self.adb, Which::Scripts, self.word, SCRIPTS_TRIGGER)
+        text_field(self.adb, Which::Scripts, self.word, SCRIPTS_TRIGGER_INDEX)
     }
 
     /// The script for before an installation of the package.
     pub fn pre_install(&self) -> &'a [u8]
-        ensures { result.now ≡ text_in (entry_in (scripts_value self.now) SCRIPTS_PRE_INSTALL) }
+        ensures { result.now ≡ text_in (entry_at_index (scripts_value self.now) SCRIPTS_PRE_INSTALL_INDEX) }
     {
-        text_field(self.adb, Which::Scripts, self.word, SCRIPTS_PRE_INSTALL)
+        text_field(self.adb, Which::Scripts, self.word, SCRIPTS_PRE_INSTALL_INDEX)
     }
 
     /// The script for after an installation of the package.
     pub fn post_install(&self) -> &'a [u8]
-        ensures { result.now ≡ text_in (entry_in (scripts_value self.now) SCRIPTS_POST_INSTALL) }
+        ensures { result.now ≡ text_in (entry_at_index (scripts_value self.now) SCRIPTS_POST_INSTALL_INDEX) }
     {
-        text_field(self.adb, Which::Scripts, self.word, SCRIPTS_POST_INSTALL)
+        text_field(self.adb, Which::Scripts, self.word, SCRIPTS_POST_INSTALL_INDEX)
     }
 
     /// The script for before a removal of the package.
     pub fn pre_deinstall(&self) -> &'a [u8]
-        ensures { result.now ≡ text_in (entry_in (scripts_value self.now) SCRIPTS_PRE_DEINSTALL) }
+        ensures { result.now ≡ text_in (entry_at_index (scripts_value self.now) SCRIPTS_PRE_DEINSTALL_INDEX) }
     {
-        text_field(self.adb, Which::Scripts, self.word, SCRIPTS_PRE_DEINSTALL)
+        text_field(self.adb, Which::Scripts, self.word, SCRIPTS_PRE_DEINSTALL_INDEX)
     }
 
     /// The script for after a removal of the package.
     pub fn post_deinstall(&self) -> &'a [u8]
-        ensures { result.now ≡ text_in (entry_in (scripts_value self.now) SCRIPTS_POST_DEINSTALL) }
+        ensures { result.now ≡ text_in (entry_at_index (scripts_value self.now) SCRIPTS_POST_DEINSTALL_INDEX) }
     {
-        text_field(self.adb, Which::Scripts, self.word, SCRIPTS_POST_DEINSTALL)
+        text_field(self.adb, Which::Scripts, self.word, SCRIPTS_POST_DEINSTALL_INDEX)
     }
 
     /// The script for before an upgrade of the package.
     pub fn pre_upgrade(&self) -> &'a [u8]
-        ensures { result.now ≡ text_in (entry_in (scripts_value self.now) SCRIPTS_PRE_UPGRADE) }
+        ensures { result.now ≡ text_in (entry_at_index (scripts_value self.now) SCRIPTS_PRE_UPGRADE_INDEX) }
     {
-        text_field(self.adb, Which::Scripts, self.word, SCRIPTS_PRE_UPGRADE)
+        text_field(self.adb, Which::Scripts, self.word, SCRIPTS_PRE_UPGRADE_INDEX)
     }
 
     /// The script for after an upgrade of the package.
     pub fn post_upgrade(&self) -> &'a [u8]
-        ensures { result.now ≡ text_in (entry_in (scripts_value self.now) SCRIPTS_POST_UPGRADE) }
+        ensures { result.now ≡ text_in (entry_at_index (scripts_value self.now) SCRIPTS_POST_UPGRADE_INDEX) }
     {
-        text_field(self.adb, Which::Scripts, self.word, SCRIPTS_POST_UPGRADE)
+        text_field(self.adb, Which::Scripts, self.word, SCRIPTS_POST_UPGRADE_INDEX)
     }
 }
 
@@ -338,8 +338,8 @@ impl<'a> View<'a> for PackageView<'a> {
 }
 
 impl<'a> PackageView<'a> {
-    ghost use Rattle.adb_view.specs.FieldIndexes.{PACKAGE_INFO, PACKAGE_PATHS, PACKAGE_REPLACES_PRIORITY, PACKAGE_SCRIPTS, PACKAGE_TRIGGERS};
-    ghost use Rattle.adb_view.specs.Values.{entry_in, int_in};
+    ghost use Rattle.adb_view.specs.FieldIndexes.{PACKAGE_INFO_INDEX, PACKAGE_PATHS_INDEX, PACKAGE_REPLACES_PRIORITY_INDEX, PACKAGE_SCRIPTS_INDEX, PACKAGE_TRIGGERS_INDEX};
+    ghost use Rattle.adb_view.specs.Values.{entry_at_index, int_in};
     ghost use Rattle.adb_schema.specs.Views.{info_value, package_value, scripts_value};
     ghost use Rattle.adb_fields.specs.ListValue.{list_value};
 
@@ -376,23 +376,23 @@ impl<'a> PackageView<'a> {
 
     /// The information of the package.
     pub fn info(&self) -> PkgInfo<'a>
-        ensures { info_value result ≡ entry_in (package_value self.now) PACKAGE_INFO }
+        ensures { info_value result ≡ entry_at_index (package_value self.now) PACKAGE_INFO_INDEX }
     {
         PkgInfo::of(
             self.adb,
-            field_word(self.adb, Which::Package, self.word, PACKAGE_INFO),
+            field_word(self.adb, Which::Package, self.word, PACKAGE_INFO_INDEX),
         )
     }
 
     /// The folders of the package, with their files.
     pub fn paths(&self) -> List<'a, DirInfo<'a>>
-        ensures { list_value result ≡ entry_in (package_value self.now) PACKAGE_PATHS }
+        ensures { list_value result ≡ entry_at_index (package_value self.now) PACKAGE_PATHS_INDEX }
     {
         let entries = objects_field(
             self.adb,
             Which::Package,
             self.word,
-            PACKAGE_PATHS,
+            PACKAGE_PATHS_INDEX,
             Which::Dir,
         );
         List::of(self.adb, entries)
@@ -400,34 +400,34 @@ impl<'a> PackageView<'a> {
 
     /// The scripts of the package.
     pub fn scripts(&self) -> ScriptsView<'a>
-        ensures { scripts_value result ≡ entry_in (package_value self.now) PACKAGE_SCRIPTS }
+        ensures { scripts_value result ≡ entry_at_index (package_value self.now) PACKAGE_SCRIPTS_INDEX }
     {
         ScriptsView::of(
             self.adb,
-            field_word(self.adb, Which::Package, self.word, PACKAGE_SCRIPTS),
+            field_word(self.adb, Which::Package, self.word, PACKAGE_SCRIPTS_INDEX),
         )
     }
 
     /// The patterns of the folders that the package's trigger script watches.
     pub fn triggers(&self) -> List<'a, &'a [u8]>
-        ensures { list_value result ≡ entry_in (package_value self.now) PACKAGE_TRIGGERS }
+        ensures { list_value result ≡ entry_at_index (package_value self.now) PACKAGE_TRIGGERS_INDEX }
     {
         List::of(
             self.adb,
-            texts_field(self.adb, Which::Package, self.word, PACKAGE_TRIGGERS),
+            texts_field(self.adb, Which::Package, self.word, PACKAGE_TRIGGERS_INDEX),
         )
     }
 
     /// The priority of the package in replacing. If two packages list one path and each names the
     /// other in `replaces`, the one with the greater priority owns the path.
     pub fn replaces_priority(&self) -> u64
-        ensures { result ≡ int_in (entry_in (package_value self.now) PACKAGE_REPLACES_PRIORITY) }
+        ensures { result ≡ int_in (entry_at_index (package_value self.now) PACKAGE_REPLACES_PRIORITY_INDEX) }
     {
         int_field(
             self.adb,
             Which::Package,
             self.word,
-            PACKAGE_REPLACES_PRIORITY,
+            PACKAGE_REPLACES_PRIORITY_INDEX,
         )
     }
 }

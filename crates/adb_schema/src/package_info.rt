@@ -11,11 +11,11 @@ use adb_fields::{
     Kinded, List, View, hash_field, int_field, objects_field, text_field, texts_field,
 };
 use adb_view::field_indexes::{
-    DEP_MATCH, DEP_NAME, DEP_VERSION, INFO_ARCH, INFO_BUILD_TIME, INFO_DEPENDS, INFO_DESCRIPTION,
-    INFO_FILE_SIZE, INFO_HASHES, INFO_INSTALL_IF, INFO_INSTALLED_SIZE, INFO_LAYER, INFO_LICENSE,
-    INFO_MAINTAINER, INFO_NAME, INFO_ORIGIN, INFO_PROVIDER_PRIORITY, INFO_PROVIDES,
-    INFO_RECOMMENDS, INFO_REPLACES, INFO_REPO_COMMIT, INFO_TAGS, INFO_UNUSED, INFO_URL,
-    INFO_VERSION,
+    DEP_MATCH_INDEX, DEP_NAME_INDEX, DEP_VERSION_INDEX, INFO_ARCH_INDEX, INFO_BUILD_TIME_INDEX, INFO_DEPENDS_INDEX, INFO_DESCRIPTION_INDEX,
+    INFO_FILE_SIZE_INDEX, INFO_HASHES_INDEX, INFO_INSTALL_IF_INDEX, INFO_INSTALLED_SIZE_INDEX, INFO_LAYER_INDEX, INFO_LICENSE_INDEX,
+    INFO_MAINTAINER_INDEX, INFO_NAME_INDEX, INFO_ORIGIN_INDEX, INFO_PROVIDER_PRIORITY_INDEX, INFO_PROVIDES_INDEX,
+    INFO_RECOMMENDS_INDEX, INFO_REPLACES_INDEX, INFO_REPO_COMMIT_INDEX, INFO_TAGS_INDEX, INFO_UNUSED_INDEX, INFO_URL_INDEX,
+    INFO_VERSION_INDEX,
 };
 use adb_view::{Adb, Val, Which};
 
@@ -46,30 +46,30 @@ impl<'a> View<'a> for DepView<'a> {
 }
 
 impl<'a> DepView<'a> {
-    ghost use Rattle.adb_view.specs.FieldIndexes.{DEP_MATCH, DEP_NAME, DEP_VERSION};
-    ghost use Rattle.adb_view.specs.Values.{entry_in, int_in, text_in};
+    ghost use Rattle.adb_view.specs.FieldIndexes.{DEP_MATCH_INDEX, DEP_NAME_INDEX, DEP_VERSION_INDEX};
+    ghost use Rattle.adb_view.specs.Values.{entry_at_index, int_in, text_in};
     ghost use Rattle.adb_schema.specs.Views.{dependency_value};
 
     /// The name of the dependency.
     pub fn name(&self) -> &'a [u8]
-        ensures { result.now ≡ text_in (entry_in (dependency_value self.now) DEP_NAME) }
+        ensures { result.now ≡ text_in (entry_at_index (dependency_value self.now) DEP_NAME_INDEX) }
     {
-        text_field(self.adb, Which::Dep, self.word, DEP_NAME)
+        text_field(self.adb, Which::Dep, self.word, DEP_NAME_INDEX)
     }
 
     /// The version of the dependency; empty for none.
     pub fn version(&self) -> &'a [u8]
-        ensures { result.now ≡ text_in (entry_in (dependency_value self.now) DEP_VERSION) }
+        ensures { result.now ≡ text_in (entry_at_index (dependency_value self.now) DEP_VERSION_INDEX) }
     {
-        text_field(self.adb, Which::Dep, self.word, DEP_VERSION)
+        text_field(self.adb, Which::Dep, self.word, DEP_VERSION_INDEX)
     }
 
     /// The match number: the bits 1 equal, 2 less, 4 greater, 8 fuzzy, 16 conflict
     /// (`docs/formats.md`, "Dependencies").
     pub fn matching(&self) -> u64
-        ensures { result ≡ int_in (entry_in (dependency_value self.now) DEP_MATCH) }
+        ensures { result ≡ int_in (entry_at_index (dependency_value self.now) DEP_MATCH_INDEX) }
     {
-        int_field(self.adb, Which::Dep, self.word, DEP_MATCH)
+        int_field(self.adb, Which::Dep, self.word, DEP_MATCH_INDEX)
     }
 }
 
@@ -103,8 +103,8 @@ impl<'a> View<'a> for PkgInfo<'a> {
 }
 
 impl<'a> PkgInfo<'a> {
-    ghost use Rattle.adb_view.specs.FieldIndexes.{INFO_ARCH, INFO_BUILD_TIME, INFO_DEPENDS, INFO_DESCRIPTION, INFO_FILE_SIZE, INFO_HASHES, INFO_INSTALLED_SIZE, INFO_INSTALL_IF, INFO_LAYER, INFO_LICENSE, INFO_MAINTAINER, INFO_NAME, INFO_ORIGIN, INFO_PROVIDER_PRIORITY, INFO_PROVIDES, INFO_RECOMMENDS, INFO_REPLACES, INFO_REPO_COMMIT, INFO_TAGS, INFO_UNUSED, INFO_URL, INFO_VERSION};
-    ghost use Rattle.adb_view.specs.Values.{entry_in, int_in, text_in};
+    ghost use Rattle.adb_view.specs.FieldIndexes.{INFO_ARCH_INDEX, INFO_BUILD_TIME_INDEX, INFO_DEPENDS_INDEX, INFO_DESCRIPTION_INDEX, INFO_FILE_SIZE_INDEX, INFO_HASHES_INDEX, INFO_INSTALLED_SIZE_INDEX, INFO_INSTALL_IF_INDEX, INFO_LAYER_INDEX, INFO_LICENSE_INDEX, INFO_MAINTAINER_INDEX, INFO_NAME_INDEX, INFO_ORIGIN_INDEX, INFO_PROVIDER_PRIORITY_INDEX, INFO_PROVIDES_INDEX, INFO_RECOMMENDS_INDEX, INFO_REPLACES_INDEX, INFO_REPO_COMMIT_INDEX, INFO_TAGS_INDEX, INFO_UNUSED_INDEX, INFO_URL_INDEX, INFO_VERSION_INDEX};
+    ghost use Rattle.adb_view.specs.Values.{entry_at_index, int_in, text_in};
     ghost use Rattle.adb_schema.specs.Views.{info_value};
     ghost use Rattle.adb_fields.specs.ListValue.{list_value};
 
@@ -128,142 +128,142 @@ impl<'a> PkgInfo<'a> {
 
     /// The package's name.
     pub fn name(&self) -> &'a [u8]
-        ensures { result.now ≡ text_in (entry_in (info_value self.now) INFO_NAME) }
+        ensures { result.now ≡ text_in (entry_at_index (info_value self.now) INFO_NAME_INDEX) }
     {
-        text_field(self.adb, Which::PkgInfo, Val::of(self.word), INFO_NAME)
+        text_field(self.adb, Which::PkgInfo, Val::of(self.word), INFO_NAME_INDEX)
     }
 
     /// The package's version.
     pub fn version(&self) -> &'a [u8]
-        ensures { result.now ≡ text_in (entry_in (info_value self.now) INFO_VERSION) }
+        ensures { result.now ≡ text_in (entry_at_index (info_value self.now) INFO_VERSION_INDEX) }
     {
-        text_field(self.adb, Which::PkgInfo, Val::of(self.word), INFO_VERSION)
+        text_field(self.adb, Which::PkgInfo, Val::of(self.word), INFO_VERSION_INDEX)
     }
 
     /// A digest of the package. In an index it is the package's id or the first 20 bytes of the id;
     /// elsewhere it may be empty.
     pub fn hashes(&self) -> &'a [u8]
-        ensures { result.now ≡ text_in (entry_in (info_value self.now) INFO_HASHES) }
+        ensures { result.now ≡ text_in (entry_at_index (info_value self.now) INFO_HASHES_INDEX) }
     {
-        hash_field(self.adb, Which::PkgInfo, Val::of(self.word), INFO_HASHES)
+        hash_field(self.adb, Which::PkgInfo, Val::of(self.word), INFO_HASHES_INDEX)
     }
 
     /// A description of the package in one line.
     pub fn description(&self) -> &'a [u8]
-        ensures { result.now ≡ text_in (entry_in (info_value self.now) INFO_DESCRIPTION) }
+        ensures { result.now ≡ text_in (entry_at_index (info_value self.now) INFO_DESCRIPTION_INDEX) }
     {
         text_field(
             self.adb,
             Which::PkgInfo,
             Val::of(self.word),
-            INFO_DESCRIPTION,
+            INFO_DESCRIPTION_INDEX,
         )
     }
 
     /// The architecture of the machines that the package is for.
     pub fn arch(&self) -> &'a [u8]
-        ensures { result.now ≡ text_in (entry_in (info_value self.now) INFO_ARCH) }
+        ensures { result.now ≡ text_in (entry_at_index (info_value self.now) INFO_ARCH_INDEX) }
     {
-        text_field(self.adb, Which::PkgInfo, Val::of(self.word), INFO_ARCH)
+        text_field(self.adb, Which::PkgInfo, Val::of(self.word), INFO_ARCH_INDEX)
     }
 
     /// The license of the package.
     pub fn license(&self) -> &'a [u8]
-        ensures { result.now ≡ text_in (entry_in (info_value self.now) INFO_LICENSE) }
+        ensures { result.now ≡ text_in (entry_at_index (info_value self.now) INFO_LICENSE_INDEX) }
     {
-        text_field(self.adb, Which::PkgInfo, Val::of(self.word), INFO_LICENSE)
+        text_field(self.adb, Which::PkgInfo, Val::of(self.word), INFO_LICENSE_INDEX)
     }
 
     /// The name of the source package that the package was built from.
     pub fn origin(&self) -> &'a [u8]
-        ensures { result.now ≡ text_in (entry_in (info_value self.now) INFO_ORIGIN) }
+        ensures { result.now ≡ text_in (entry_at_index (info_value self.now) INFO_ORIGIN_INDEX) }
     {
-        text_field(self.adb, Which::PkgInfo, Val::of(self.word), INFO_ORIGIN)
+        text_field(self.adb, Which::PkgInfo, Val::of(self.word), INFO_ORIGIN_INDEX)
     }
 
     /// Who maintains the package.
     pub fn maintainer(&self) -> &'a [u8]
-        ensures { result.now ≡ text_in (entry_in (info_value self.now) INFO_MAINTAINER) }
+        ensures { result.now ≡ text_in (entry_at_index (info_value self.now) INFO_MAINTAINER_INDEX) }
     {
         text_field(
             self.adb,
             Which::PkgInfo,
             Val::of(self.word),
-            INFO_MAINTAINER,
+            INFO_MAINTAINER_INDEX,
         )
     }
 
     /// The address of a page about the package.
     pub fn url(&self) -> &'a [u8]
-        ensures { result.now ≡ text_in (entry_in (info_value self.now) INFO_URL) }
+        ensures { result.now ≡ text_in (entry_at_index (info_value self.now) INFO_URL_INDEX) }
     {
-        text_field(self.adb, Which::PkgInfo, Val::of(self.word), INFO_URL)
+        text_field(self.adb, Which::PkgInfo, Val::of(self.word), INFO_URL_INDEX)
     }
 
     /// The commit of the recipe that the package was built by, as bytes.
     pub fn repo_commit(&self) -> &'a [u8]
-        ensures { result.now ≡ text_in (entry_in (info_value self.now) INFO_REPO_COMMIT) }
+        ensures { result.now ≡ text_in (entry_at_index (info_value self.now) INFO_REPO_COMMIT_INDEX) }
     {
         hash_field(
             self.adb,
             Which::PkgInfo,
             Val::of(self.word),
-            INFO_REPO_COMMIT,
+            INFO_REPO_COMMIT_INDEX,
         )
     }
 
     /// When the package was built, in seconds since 1970.
     pub fn build_time(&self) -> u64
-        ensures { result ≡ int_in (entry_in (info_value self.now) INFO_BUILD_TIME) }
+        ensures { result ≡ int_in (entry_at_index (info_value self.now) INFO_BUILD_TIME_INDEX) }
     {
         int_field(
             self.adb,
             Which::PkgInfo,
             Val::of(self.word),
-            INFO_BUILD_TIME,
+            INFO_BUILD_TIME_INDEX,
         )
     }
 
     /// The size of the package's installed files in bytes.
     pub fn installed_size(&self) -> u64
-        ensures { result ≡ int_in (entry_in (info_value self.now) INFO_INSTALLED_SIZE) }
+        ensures { result ≡ int_in (entry_at_index (info_value self.now) INFO_INSTALLED_SIZE_INDEX) }
     {
         int_field(
             self.adb,
             Which::PkgInfo,
             Val::of(self.word),
-            INFO_INSTALLED_SIZE,
+            INFO_INSTALLED_SIZE_INDEX,
         )
     }
 
     /// The size of the package's file in bytes.
     pub fn file_size(&self) -> u64
-        ensures { result ≡ int_in (entry_in (info_value self.now) INFO_FILE_SIZE) }
+        ensures { result ≡ int_in (entry_at_index (info_value self.now) INFO_FILE_SIZE_INDEX) }
     {
-        int_field(self.adb, Which::PkgInfo, Val::of(self.word), INFO_FILE_SIZE)
+        int_field(self.adb, Which::PkgInfo, Val::of(self.word), INFO_FILE_SIZE_INDEX)
     }
 
     /// How strongly the package is preferred among the providers of a name.
     pub fn provider_priority(&self) -> u64
-        ensures { result ≡ int_in (entry_in (info_value self.now) INFO_PROVIDER_PRIORITY) }
+        ensures { result ≡ int_in (entry_at_index (info_value self.now) INFO_PROVIDER_PRIORITY_INDEX) }
     {
         int_field(
             self.adb,
             Which::PkgInfo,
             Val::of(self.word),
-            INFO_PROVIDER_PRIORITY,
+            INFO_PROVIDER_PRIORITY_INDEX,
         )
     }
 
     /// The dependencies of the package, and its conflicts.
     pub fn depends(&self) -> List<'a, DepView<'a>>
-        ensures { list_value result ≡ entry_in (info_value self.now) INFO_DEPENDS }
+        ensures { list_value result ≡ entry_at_index (info_value self.now) INFO_DEPENDS_INDEX }
     {
         let entries = objects_field(
             self.adb,
             Which::PkgInfo,
             Val::of(self.word),
-            INFO_DEPENDS,
+            INFO_DEPENDS_INDEX,
             Which::Dep,
         );
         List::of(self.adb, entries)
@@ -271,13 +271,13 @@ impl<'a> PkgInfo<'a> {
 
     /// The names and versions that the package provides besides its own.
     pub fn provides(&self) -> List<'a, DepView<'a>>
-        ensures { list_value result ≡ entry_in (info_value self.now) INFO_PROVIDES }
+        ensures { list_value result ≡ entry_at_index (info_value self.now) INFO_PROVIDES_INDEX }
     {
         let entries = objects_field(
             self.adb,
             Which::PkgInfo,
             Val::of(self.word),
-            INFO_PROVIDES,
+            INFO_PROVIDES_INDEX,
             Which::Dep,
         );
         List::of(self.adb, entries)
@@ -285,13 +285,13 @@ impl<'a> PkgInfo<'a> {
 
     /// The packages whose files this one may replace.
     pub fn replaces(&self) -> List<'a, DepView<'a>>
-        ensures { list_value result ≡ entry_in (info_value self.now) INFO_REPLACES }
+        ensures { list_value result ≡ entry_at_index (info_value self.now) INFO_REPLACES_INDEX }
     {
         let entries = objects_field(
             self.adb,
             Which::PkgInfo,
             Val::of(self.word),
-            INFO_REPLACES,
+            INFO_REPLACES_INDEX,
             Which::Dep,
         );
         List::of(self.adb, entries)
@@ -299,13 +299,13 @@ impl<'a> PkgInfo<'a> {
 
     /// The package is installed automatically if all of these are met.
     pub fn install_if(&self) -> List<'a, DepView<'a>>
-        ensures { list_value result ≡ entry_in (info_value self.now) INFO_INSTALL_IF }
+        ensures { list_value result ≡ entry_at_index (info_value self.now) INFO_INSTALL_IF_INDEX }
     {
         let entries = objects_field(
             self.adb,
             Which::PkgInfo,
             Val::of(self.word),
-            INFO_INSTALL_IF,
+            INFO_INSTALL_IF_INDEX,
             Which::Dep,
         );
         List::of(self.adb, entries)
@@ -313,13 +313,13 @@ impl<'a> PkgInfo<'a> {
 
     /// The packages that are recommended with this one; no command uses them.
     pub fn recommends(&self) -> List<'a, DepView<'a>>
-        ensures { list_value result ≡ entry_in (info_value self.now) INFO_RECOMMENDS }
+        ensures { list_value result ≡ entry_at_index (info_value self.now) INFO_RECOMMENDS_INDEX }
     {
         let entries = objects_field(
             self.adb,
             Which::PkgInfo,
             Val::of(self.word),
-            INFO_RECOMMENDS,
+            INFO_RECOMMENDS_INDEX,
             Which::Dep,
         );
         List::of(self.adb, entries)
@@ -327,25 +327,25 @@ impl<'a> PkgInfo<'a> {
 
     /// The layer, a part of the root, that the package belongs to; no command acts on it.
     pub fn layer(&self) -> u64
-        ensures { result ≡ int_in (entry_in (info_value self.now) INFO_LAYER) }
+        ensures { result ≡ int_in (entry_at_index (info_value self.now) INFO_LAYER_INDEX) }
     {
-        int_field(self.adb, Which::PkgInfo, Val::of(self.word), INFO_LAYER)
+        int_field(self.adb, Which::PkgInfo, Val::of(self.word), INFO_LAYER_INDEX)
     }
 
     /// The tags that the maker of the package gave it.
     pub fn tags(&self) -> List<'a, &'a [u8]>
-        ensures { list_value result ≡ entry_in (info_value self.now) INFO_TAGS }
+        ensures { list_value result ≡ entry_at_index (info_value self.now) INFO_TAGS_INDEX }
     {
         List::of(
             self.adb,
-            texts_field(self.adb, Which::PkgInfo, Val::of(self.word), INFO_TAGS),
+            texts_field(self.adb, Which::PkgInfo, Val::of(self.word), INFO_TAGS_INDEX),
         )
     }
 
     /// A reserved field.
     pub fn unused(&self) -> u64
-        ensures { result ≡ int_in (entry_in (info_value self.now) INFO_UNUSED) }
+        ensures { result ≡ int_in (entry_at_index (info_value self.now) INFO_UNUSED_INDEX) }
     {
-        int_field(self.adb, Which::PkgInfo, Val::of(self.word), INFO_UNUSED)
+        int_field(self.adb, Which::PkgInfo, Val::of(self.word), INFO_UNUSED_INDEX)
     }
 }

@@ -14,11 +14,11 @@ ghost use Rattle.adb_schema.specs.Checked.{checked_value, table_of_checked};
 ghost use Rattle.adb_view.specs.Plain.{IsNormal};
 ghost use Rattle.adb_view.specs.declared.tables.Which.{Which};
 ghost use Rattle.adb_schema.specs.SoundContainers.{IsSoundValue};
-ghost use Rattle.adb_schema.specs.Soundness.{unexpected_contents_block_fault, contents_positions, container_fault_except_contents, further_blocks_fault, payload_fault, is_schema_wanted, payload_in, further_blocks_fault_unless_package, root_value_of_payload, schema_word, unexpected_contents_cause};
+ghost use Rattle.adb_schema.specs.Soundness.{truncated_or_unexpected_contents_fault, folder_and_file_positions_from_payload, container_fault_except_contents, remaining_blocks_fault, payload_fault, is_wanted_schema_present_and_equal, payload_in, remaining_blocks_fault_unless_package, root_value_of_payload, header_schema_if_root_table, truncated_or_unexpected_contents_cause};
 ghost use Rattle.adb_schema.specs.ReadFaults.{first_block_fault};
 ghost use Rattle.adb_schema.specs.ReadFaults.{IsAfterFirstBlock};
 ghost use Rattle.adb_schema.specs.ReadFaults.{IsReadFault};
-ghost use Rattle.adb_schema.specs.SoundContainers.{IsSoundContainer};
+ghost use Rattle.adb_schema.specs.SoundContainers.{IsSoundContainerExceptContents};
 
 use crate::checked::Checked;
 use crate::text_walk::no_text_is_bad_where_each_keeps_its_rule;
@@ -83,8 +83,8 @@ impl From<AllocError> for ReadFault {
 
 /// The schema in the header of a container with this table at its root; None for the six tables
 /// that are no root.
-pub fn schema_word(which: Which) -> Option<u32>
-    ensures { result ≡ schema_word which }
+pub fn header_schema_if_root_table(which: Which) -> Option<u32>
+    ensures { result ≡ header_schema_if_root_table which }
 {
     match which {
         Which::Package => Some(PACKAGE_WORD),
@@ -142,7 +142,7 @@ pub fn read_adb<'a>(alloc: Global, bytes: &'a [u8], which: Which) -> Result<Chec
 {
     let mut blocks = Blocks::new(bytes)?;
     let found = blocks.schema();
-    if !is_schema_wanted(which, found) {
+    if !is_wanted_schema_present_and_equal(which, found) {
         return Err(ReadFault::Bad(Cause::WrongSchema { found }));
     }
     let checked = read_first(alloc, &mut blocks, which)?;
@@ -151,10 +151,10 @@ pub fn read_adb<'a>(alloc: Global, bytes: &'a [u8], which: Which) -> Result<Chec
 }
 
 /// Whether a container with this table at its root has this schema in its header.
-fn is_schema_wanted(which: Which, schema: u32) -> bool
-    ensures { result ≡ is_schema_wanted (schema_word which) schema }
+fn is_wanted_schema_present_and_equal(which: Which, schema: u32) -> bool
+    ensures { result ≡ is_wanted_schema_present_and_equal (header_schema_if_root_table which) schema }
 {
-    match schema_word(which) {
+    match header_schema_if_root_table(which) {
         Some(word) => word == schema,
         None => false,
     }
@@ -218,7 +218,7 @@ fn check_payload<'a>(
 fn check_rest(blocks: &mut Blocks<'_>, which: Which) -> Result<(), Cause>
     // The result is the first fault of these blocks, or Ok.
     ensures { result_err result
-        ≡ further_blocks_fault_unless_package which (block_stream_from blocks.old) }
+        ≡ remaining_blocks_fault_unless_package which (block_stream_from blocks.old) }
 {
     match which {
         Which::Package => Ok(()),
@@ -228,15 +228,15 @@ fn check_rest(blocks: &mut Blocks<'_>, which: Which) -> Result<(), Cause>
 
 /// Tests the blocks after the first, in a container that is no package: they are framed rightly,
 /// and none has contents.
-#[tactic(auto, unfolding(crate::specs::Soundness::further_blocks_fault))]
+#[tactic(auto, unfolding(crate::specs::Soundness::remaining_blocks_fault))]
 fn check_further(blocks: &mut Blocks<'_>) -> Result<(), Cause>
-    ensures { result_err result ≡ further_blocks_fault (block_stream_from blocks.old) }
+    ensures { result_err result ≡ remaining_blocks_fault (block_stream_from blocks.old) }
 {
     loop {
         let Some(block) = blocks.next()? else {
             return Ok(());
         };
-        if let Some(cause) = unexpected_contents_block_fault(&block) {
+        if let Some(cause) = truncated_or_unexpected_contents_fault(&block) {
             return Err(cause);
         }
     }
@@ -244,12 +244,12 @@ fn check_further(blocks: &mut Blocks<'_>) -> Result<(), Cause>
 
 /// Why a block is not allowed after the first block of a container that is no package: it has
 /// contents. None for a block of another kind.
-fn unexpected_contents_block_fault(block: &Block<'_>) -> Option<Cause>
+fn truncated_or_unexpected_contents_fault(block: &Block<'_>) -> Option<Cause>
     ensures { result
-        ≡ unexpected_contents_block_fault block.now.kind block.now.payload.now block.now.at }
+        ≡ truncated_or_unexpected_contents_fault block.now.kind block.now.payload.now block.now.at }
 {
     match block.kind {
-        BlockKind::Contents => Some(unexpected_contents_cause(block.payload, block.at)),
+        BlockKind::Contents => Some(truncated_or_unexpected_contents_cause(block.payload, block.at)),
         BlockKind::Adb | BlockKind::Signature => None,
     }
 }
@@ -257,24 +257,24 @@ fn unexpected_contents_block_fault(block: &Block<'_>) -> Option<Cause>
 /// The cause for contents that are not allowed, in a block at the offset `at`. Contents shorter
 /// than their two positions (8 bytes) are too short; others are a file where none, (0, 0), was
 /// expected.
-fn unexpected_contents_cause(payload: &[u8], at: u64) -> Cause
-    ensures { result ≡ unexpected_contents_cause payload.now at }
+fn truncated_or_unexpected_contents_cause(payload: &[u8], at: u64) -> Cause
+    ensures { result ≡ truncated_or_unexpected_contents_cause payload.now at }
 {
     if payload.len() < 8 {
         return Cause::Truncated { at };
     }
     Cause::DataOrder {
         expected: (0, 0),
-        found: contents_positions(payload),
+        found: folder_and_file_positions_from_payload(payload),
     }
 }
 
 /// The two numbers at the beginning of a block of contents (apk-v3(5)): the position of the folder
 /// in its package, and that of the file in this folder. Both count from 1.
-pub fn contents_positions(payload: &[u8]) -> (u32, u32)
+pub fn folder_and_file_positions_from_payload(payload: &[u8]) -> (u32, u32)
     // The payload has at least the 8 bytes of the two positions.
     requires { 8 ≤ length payload.now }
-    ensures { result ≡ contents_positions payload.now }
+    ensures { result ≡ folder_and_file_positions_from_payload payload.now }
 {
     (
         u32::from_le_bytes([payload[0], payload[1], payload[2], payload[3]]),
@@ -300,11 +300,11 @@ pub fn schema_words_are_as_listed()
 pub fn sound_containers_hold_sound_values()
     // The root of a sound container has a sound value.
     ensures value { (which : Which) (file : List ℕ)
-        → IsSoundContainer which file
+        → IsSoundContainerExceptContents which file
         → IsSoundValue which (root_value_of_payload which (payload_in file)) }
     // If the payload consists of bytes, this value is normal.
     ensures normal { (which : Which) (file : List ℕ)
-        → IsSoundContainer which file → All (λ b. b < 256) (payload_in file)
+        → IsSoundContainerExceptContents which file → All (λ b. b < 256) (payload_in file)
         → IsNormal (root_value_of_payload which (payload_in file)) }
 {
     values_of_few_visits_have_no_fault();

@@ -7,7 +7,7 @@ ghost use Rattle.std.specs.Prelude.{ℕ, List, ◌↔◌, None, ◌≡◌, ◌==
 ghost use Rattle.std.specs.Bool.{OnTrue};
 ghost use Rattle.adb_view.specs.Adb.{payload_of};
 ghost use Rattle.adb_view.specs.Schema.{shape_of, shapes_of, table, table_number};
-ghost use Rattle.adb_view.specs.Values.{is_sound, value_at, entries_in, entry_in, count_of};
+ghost use Rattle.adb_view.specs.Values.{is_sound, value_at, entries_in, entry_at_index, count_of};
 ghost use Rattle.adb_fields.specs.Paths.{path_of};
 ghost use Rattle.adb_schema.specs.Rules.{is_name_allowed_in_intent, is_one_part};
 ghost use Rattle.adb_schema.specs.Surroundings.{surroundings_of};
@@ -15,8 +15,8 @@ ghost use Rattle.adb_schema.specs.TextRules.{text_at};
 ghost use Rattle.adb_schema.specs.TextWalk.{IsSameWordAsPrevious, AllowsEachText, AllowsEachValueOfKind, bad_text_at};
 ghost use Rattle.adb_view.specs.ShapedPayload.{shaped_value, table_of};
 ghost use Rattle.adb_view.specs.Shaped.{Each};
-ghost use Rattle.adb_schema.specs.SoundValues.{IsNameAllowedInIntent, IsSoundDependency, IsSoundFileInFolder, IsSoundFolder, IsSoundInformation, IsSoundPackage, ObeysFieldRulesOfTable};
-ghost use Rattle.adb_schema.specs.Texts.{surroundings_of_root, surroundings_of_fields, is_file_hash_length, is_allowed_file_name, is_package_hash_length, is_file_with_contents, can_root_table_list_path, needs_file_hash, is_allowed_number_of_field, is_allowed_text_of_field, leaves_of_all_values, field_leaves, first_bad_leaf, leaves, number_leaf, text_leaf, leaves_of, text_or_number_fault};
+ghost use Rattle.adb_schema.specs.SoundValues.{IsNameAllowedInIntent, ObeysTextAndNumberRulesOfDependency, ObeysTextAndNumberRulesOfFileInFolder, ObeysTextAndNumberRulesOfFolder, ObeysTextAndNumberRulesOfInformation, ObeysTextAndNumberRulesOfPackage, ObeysTextAndNumberRulesOfTable};
+ghost use Rattle.adb_schema.specs.Texts.{surroundings_of_root, surroundings_of_fields, is_file_hash_length, is_allowed_file_name, is_package_hash_length, is_file_with_contents, is_path_unreserved_if_in_database, is_file_hash_needed_unless_in_database, is_allowed_number_of_field, is_allowed_text_of_field, leaves_of_all_values, field_leaves, first_bad_leaf, leaves, number_leaf, text_leaf, leaves_of, text_or_number_fault};
 ghost use Rattle.adb_schema.specs.FirstBad.{IsFirstBadLeafIfAny};
 ghost use Rattle.adb_view.specs.Entries.{array_entries};
 ghost use Rattle.adb_fields.specs.Fields.{are_all_sound, values_at};
@@ -31,7 +31,7 @@ use adb_fields::{
     hash_word, int_field, int_word, object_words, objects_word, text_field, text_word, texts_word,
     word_or_null,
 };
-use adb_view::field_indexes::{DIR_NAME, FILE_SIZE, FILE_TARGET};
+use adb_view::field_indexes::{DIR_NAME_INDEX, FILE_SIZE_INDEX, FILE_TARGET_INDEX};
 use adb_view::{Adb, Arr, Kind, Shaped, Val, Which, entry_word, fields_of, number_of};
 use base_core::Cause;
 use std::alloc::{AllocError, Global};
@@ -116,7 +116,7 @@ impl<'a> Surroundings<'a> {
         match which {
             Which::Dir => Surroundings {
                 root: self.root,
-                folder: text_field(adb, Which::Dir, object, DIR_NAME),
+                folder: text_field(adb, Which::Dir, object, DIR_NAME_INDEX),
                 has_contents: self.has_contents,
             },
             Which::File => Surroundings {
@@ -133,13 +133,13 @@ impl<'a> Surroundings<'a> {
         requires { is_one_part name.now ≡ true }
         ensures { result ≡ is_allowed_file_name (surroundings_of self.now) name.now }
     {
-        fits_in(self.folder, name) && self.can_root_table_list_path(name)
+        fits_in(self.folder, name) && self.is_path_unreserved_if_in_database(name)
     }
 
     /// Whether the container may list a file of this name in the folder: a database may list none
     /// under a reserved name.
-    fn can_root_table_list_path(&self, name: &[u8]) -> bool
-        ensures { result ≡ can_root_table_list_path self.now.root
+    fn is_path_unreserved_if_in_database(&self, name: &[u8]) -> bool
+        ensures { result ≡ is_path_unreserved_if_in_database self.now.root
             (path_of self.now.folder.now name.now) }
     {
         match self.root {
@@ -178,8 +178,8 @@ fn has_contents(adb: Adb<'_>, file: Val) -> bool
     ensures { result
         ≡ is_file_with_contents (value_at (payload_of adb.entry) (Kinds.Obj Tables.File) file) }
 {
-    let target = text_field(adb, Which::File, file, FILE_TARGET);
-    target.is_empty() && int_field(adb, Which::File, file, FILE_SIZE) > 0
+    let target = text_field(adb, Which::File, file, FILE_TARGET_INDEX);
+    target.is_empty() && int_field(adb, Which::File, file, FILE_SIZE_INDEX) > 0
 }
 
 /// Whether a number obeys the rule of the field with this number; only the match number of a
@@ -547,11 +547,11 @@ pub fn the_first_bad_text_is_reported()
 {}
 
 /// A law: the text walk reports no fault in a value if and only if each text and number in the
-/// value obeys the rule of its field. *ObeysFieldRulesOfTable* states the rules for each table.
+/// value obeys the rule of its field. *ObeysTextAndNumberRulesOfTable* states the rules for each table.
 pub fn no_text_is_bad_where_each_keeps_its_rule()
     // No fault is reported if and only if the value obeys the rules of its table.
     ensures { (which : Which) (value : Plain) → (text_or_number_fault which value ≡ None)
-        ↔ ObeysFieldRulesOfTable which value }
+        ↔ ObeysTextAndNumberRulesOfTable which value }
 {}
 
 /// A law: each entry of a list obeys the rule that all entries of the list obey, for each kind of
@@ -560,26 +560,26 @@ pub fn no_text_is_bad_where_each_keeps_its_rule()
 pub fn entries_keep_the_rule_of_their_list()
     // For a list of dependencies.
     ensures dependency { (list : Plain) (i : ℕ)
-        → Each IsSoundDependency (entries_in list) → i < count_of (entries_in list)
-        → IsSoundDependency (entry_in list i) }
+        → Each ObeysTextAndNumberRulesOfDependency (entries_in list) → i < count_of (entries_in list)
+        → ObeysTextAndNumberRulesOfDependency (entry_at_index list i) }
     // For a list of packages' information.
     ensures information { (root : Which) (list : Plain) (i : ℕ)
-        → Each (IsSoundInformation root) (entries_in list) → i < count_of (entries_in list)
-        → IsSoundInformation root (entry_in list i) }
+        → Each (ObeysTextAndNumberRulesOfInformation root) (entries_in list) → i < count_of (entries_in list)
+        → ObeysTextAndNumberRulesOfInformation root (entry_at_index list i) }
     // For a list of the files of a folder.
     ensures file { (root : Which) (folder : List ℕ) (list : Plain) (i : ℕ)
-        → Each (IsSoundFileInFolder root folder) (entries_in list) → i < count_of (entries_in list)
-        → IsSoundFileInFolder root folder (entry_in list i) }
+        → Each (ObeysTextAndNumberRulesOfFileInFolder root folder) (entries_in list) → i < count_of (entries_in list)
+        → ObeysTextAndNumberRulesOfFileInFolder root folder (entry_at_index list i) }
     // For a list of folders.
     ensures folder { (root : Which) (list : Plain) (i : ℕ)
-        → Each (IsSoundFolder root) (entries_in list) → i < count_of (entries_in list)
-        → IsSoundFolder root (entry_in list i) }
+        → Each (ObeysTextAndNumberRulesOfFolder root) (entries_in list) → i < count_of (entries_in list)
+        → ObeysTextAndNumberRulesOfFolder root (entry_at_index list i) }
     // For a list of packages.
     ensures package { (root : Which) (list : Plain) (i : ℕ)
-        → Each (IsSoundPackage root) (entries_in list) → i < count_of (entries_in list)
-        → IsSoundPackage root (entry_in list i) }
+        → Each (ObeysTextAndNumberRulesOfPackage root) (entries_in list) → i < count_of (entries_in list)
+        → ObeysTextAndNumberRulesOfPackage root (entry_at_index list i) }
     // For a list of names in an intent (journal entry).
     ensures change_name { (list : Plain) (i : ℕ)
         → Each IsNameAllowedInIntent (entries_in list) → i < count_of (entries_in list)
-        → IsNameAllowedInIntent (entry_in list i) }
+        → IsNameAllowedInIntent (entry_at_index list i) }
 {}

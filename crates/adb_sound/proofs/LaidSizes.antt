@@ -4,7 +4,7 @@ use Rattle.std.specs.Int.{w32, to_le_bytes}
 use Rattle.std.specs.List.{flat_map}
 use Rattle.std.proofs.lemmas.List.{length-append}
 use Rattle.std.proofs.lemmas.List.Concat.{flat_map-cons}
-use Rattle.adb_block.specs.Piece.{Piece, padding_of}
+use Rattle.adb_block.specs.BlockWithoutOffset.{BlockWithoutOffset, padding_of}
 use Rattle.adb_block.specs.Written.{block_bytes, head_bytes, long_head_bytes, short_head_bytes}
 use Rattle.adb_block.specs.declared.block.BlockKind.{BlockKind}
 use Rattle.adb_view.specs.Plain.{Plain}
@@ -27,7 +27,7 @@ head_long kind len = by_size (ltb (4 + len) (2 ^ 30))
     by_size true = omega arith
     by_size false = omega arith
 
-block_long : (b : Piece) → 4 + length b.payload ≤ length (block_bytes b)
+block_long : (b : BlockWithoutOffset) → 4 + length b.payload ≤ length (block_bytes b)
 block_long b =
     let head : List ℕ = head_bytes b.kind (length b.payload) in
     let pad : List ℕ = replicate (padding_of (length head + length b.payload)) 0 in

@@ -15,16 +15,16 @@ use Rattle.pkg_core.specs.adb_fields.Repeated.{repeated_fault}
 use Rattle.pkg_core.specs.adb_schema.Soundness.{payload_fault, root_value_of_payload}
 use Rattle.adb_view.specs.declared.tables.Which.{Which}
 use Rattle.adb_view.specs.declared.tables.Kind.TheVariants.{Obj}
-use Rattle.adb_write.specs.Canonical.{canonical, payload_with_root, Layout, empty_layout, write}
+use Rattle.adb_write.specs.Canonical.{canonical, payload_with_root_word_in_head, Layout, empty_layout_counting_root, write}
 use Rattle.adb_sound.specs.Root.{IsValidRootValueOfTable}
 use Rattle.adb_sound.proofs.Lower.{Lower}
 
-pub payload_long : (root : ℕ) (out : Layout) → 8 ≤ length (payload_with_root root out)
+pub payload_long : (root : ℕ) (out : Layout) → 8 ≤ length (payload_with_root_word_in_head root out)
 payload_long root out = omega (arith, length-append (to_le_bytes w32 root) out.body)
 
-head_good : (root : ℕ) (out : Layout) → payload_head_fault (payload_with_root root out) ≡ None
+head_good : (root : ℕ) (out : Layout) → payload_head_fault (payload_with_root_word_in_head root out) ≡ None
 head_good root out =
-    let t : ltb (length (payload_with_root root out)) 8 ≡ false = le-ltb _ _ (payload_long root out) in
+    let t : ltb (length (payload_with_root_word_in_head root out)) 8 ≡ false = le-ltb _ _ (payload_long root out) in
     rw t refl
 
 shape_good : Lower → (which : Which) (v : Plain) → IsValidRootValueOfTable which v → shape_fault (canonical v) (shape_of (Obj which)) (root_word_of_payload (canonical v)) ≡ None
@@ -40,6 +40,6 @@ value_is laws which v g = ap (λ (o : Option Plain). unwrap_or o null) (laws.bac
 
 pub payload_good : Lower → (which : Which) (v : Plain) → IsValidRootValueOfTable which v → payload_fault which (canonical v) ≡ None
 payload_good laws which v g =
-    none_both _ _ (head_good (write v empty_layout).0 (write v empty_layout).1)
+    none_both _ _ (head_good (write v empty_layout_counting_root).0 (write v empty_layout_counting_root).1)
     (none_both _ _ (shape_good laws which v g)
     (none_both _ _ (ap (text_or_number_fault which) (value_is laws which v g) ∙ g.texts) (ap (repeated_fault which) (value_is laws which v g) ∙ g.once)))

@@ -3,7 +3,7 @@
 -- ("In a container each block is padded").
 use Rattle.std.specs.Prelude.{ℕ, List, ◌∷◌, ◌++◌, map}
 use Rattle.std.specs.Int.{w32, to_le_bytes}
-use Rattle.adb_block.specs.Piece.{Piece}
+use Rattle.adb_block.specs.BlockWithoutOffset.{BlockWithoutOffset}
 use Rattle.adb_block.specs.Written.{container}
 use Rattle.adb_block.specs.declared.block.BlockKind.TheVariants as Kinds
 use Rattle.adb_view.specs.Plain.{Plain}
@@ -18,7 +18,7 @@ abbrev pub contents_payload : Contents → List ℕ
 contents_payload c = to_le_bytes w32 c.folder ++ (to_le_bytes w32 c.file ++ c.bytes)
 
 -- the block with the contents of one file
-abbrev pub block_of_contents : Contents → Piece
+abbrev pub block_of_contents : Contents → BlockWithoutOffset
 block_of_contents c = record { kind = Kinds.Contents; payload = contents_payload c }
 
 -- the container of this schema: first a block with the canonical payload of the value v, then a block for the contents

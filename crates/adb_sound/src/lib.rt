@@ -10,7 +10,7 @@
 #![tactic(auto)]
 
 ghost use Rattle.adb_block.specs.Written.{block_bytes};
-ghost use Rattle.pkg_core.specs.adb_schema.Soundness.{payload_in, root_value_of_payload, schema_word};
+ghost use Rattle.pkg_core.specs.adb_schema.Soundness.{payload_in, root_value_of_payload, header_schema_if_root_table};
 ghost use Rattle.pkg_core.specs.adb_schema.declared.read.TheConstants.{PACKAGE_WORD};
 ghost use Rattle.adb_view.specs.declared.tables.Which.{Which};
 ghost use Rattle.adb_view.specs.declared.tables.Which.TheVariants as Tables;
@@ -21,7 +21,7 @@ ghost use Rattle.adb_view.specs.Plain.{Plain};
 ghost use Rattle.adb_write.specs.Canonical.{canonical};
 ghost use Rattle.adb_write.specs.File.{file_of};
 ghost use Rattle.pkg_core.specs.Contents.{Contents, expected_files_of_package};
-ghost use Rattle.pkg_core.specs.GoodContents.{AreContentsOfExpectedFiles};
+ghost use Rattle.pkg_core.specs.GoodContents.{MatchEachExpectedSizeAndKnownDigest};
 ghost use Rattle.pkg_core.specs.Whole.{container_fault, package_with_contents};
 ghost use Rattle.std.specs.List.{flat_map};
 ghost use Rattle.std.specs.Prelude.{◌≡◌, ◌≢◌, ◌<◌, ◌≤◌, ◌^◌, ℕ, List, length, map, Some, None};
@@ -34,7 +34,7 @@ use adb_write::{a_canonical_payload_is_read_back, a_canonical_payload_is_visited
 /// its value may be at the root. Such a container has no contents of files.
 pub fn a_container_of_a_good_value_is_sound()
     ensures { (which : Which) (schema : ℕ) (v : Plain)
-        → schema_word which ≡ Some schema → which ≢ Tables.Package → IsValidRootValueOfTable which v
+        → header_schema_if_root_table which ≡ Some schema → which ≢ Tables.Package → IsValidRootValueOfTable which v
         → container_fault (file_of schema (canonical v)) ≡ None }
 {
     // The laws that the proof needs; they have no effect at run time.
@@ -51,7 +51,7 @@ pub fn a_container_of_a_good_value_is_sound()
 pub fn a_package_of_a_good_value_and_its_contents_is_sound()
     ensures { (v : Plain) (contents : List Contents)
         → IsValidRootValueOfTable Tables.Package v
-        → AreContentsOfExpectedFiles (expected_files_of_package v) contents
+        → MatchEachExpectedSizeAndKnownDigest (expected_files_of_package v) contents
         → length (container_of_value_and_contents PACKAGE_WORD v contents) < 2 ^ 64
         → container_fault (container_of_value_and_contents PACKAGE_WORD v contents) ≡ None }
 {
@@ -81,12 +81,12 @@ pub fn contents_are_in_their_container()
 pub fn what_a_container_is_made_of_is_read_back()
     // The value of a container without contents is read back.
     ensures value { (which : Which) (schema : ℕ) (v : Plain)
-        → schema_word which ≡ Some schema → IsValidRootValueOfTable which v
+        → header_schema_if_root_table which ≡ Some schema → IsValidRootValueOfTable which v
         → root_value_of_payload which (payload_in (file_of schema (canonical v))) ≡ v }
     // The value and the contents of a package are read back.
     ensures contents { (v : Plain) (contents : List Contents)
         → IsValidRootValueOfTable Tables.Package v
-        → AreContentsOfExpectedFiles (expected_files_of_package v) contents
+        → MatchEachExpectedSizeAndKnownDigest (expected_files_of_package v) contents
         → length (container_of_value_and_contents PACKAGE_WORD v contents) < 2 ^ 64
         → package_with_contents (container_of_value_and_contents PACKAGE_WORD v contents)
         ≡ package_with_contents_from_parts v contents }

@@ -3,7 +3,7 @@ use Rattle.std.proofs.Common.{◌≡◌, ℕ, ◌+◌, ◌-◌, List, [], ◌∷
 use Rattle.std.specs.Prelude.{min}
 use Rattle.std.proofs.Math.Seq.{take-append_seam, drop-append_seam}
 use Rattle.adb_view.specs.Plain.{Plain, Plains}
-use Rattle.adb_write.specs.DepthFirst.{WritesValue, WritesValues}
+use Rattle.adb_write.specs.DepthFirst.{WritesValueDepthFirst, WritesValuesDepthFirst}
 use Rattle.adb_write.specs.Writing.{Writing, calls_all}
 use Rattle.adb_values.specs.Drafts.{DraftState, draft_from_parts, draft_with, draft_with_all, draft_with_open_list}
 use Rattle.adb_values.specs.LastList.{last_of, last_open_list_start, open_list_start_within}
@@ -56,7 +56,7 @@ start_of d before xs later o =
 -- the writer makes of them.
 pub closes : (v : Plain) (vs : Plains) (before old : DraftState) (tail : List ℕ) (word start : ℕ) (new : Writing) (words starts : List ℕ)
     → old ≡ draft_with_all vs (draft_with_open_list before) → start ≡ last_open_list_start old → tail ≡ drop start old.words
-    → (WritesValues before.writing vs tail old.writing → WritesValue before.writing v word new)
+    → (WritesValuesDepthFirst before.writing vs tail old.writing → WritesValueDepthFirst before.writing v word new)
     → words ≡ take start old.words ++ word ∷ [] → starts ≡ take (length old.starts - 1) old.starts
     → draft_from_parts new words starts ≡ draft_with v before
 closes v vs before old tail word start new words starts is at tail_at wrote words_is starts_is =

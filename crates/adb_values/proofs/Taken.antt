@@ -1,12 +1,12 @@
 -- A value that the writer wrote is one that the draft takes.
 use Rattle.std.proofs.Common.{◌≡◌, ℕ, List, [], ◌∷◌, ◌++◌, sym, ap, ◌∙◌, append_assoc, append-nil}
 use Rattle.adb_view.specs.Plain.{Plain, null, Plains, none, more}
-use Rattle.adb_write.specs.DepthFirst.{WritesValue}
+use Rattle.adb_write.specs.DepthFirst.{WritesValueDepthFirst}
 use Rattle.adb_write.specs.Writing.{Writing, calls, calls_all}
 use Rattle.adb_write.proofs.DepthFirst.{calls_none, calls_more, calls_null}
 use Rattle.adb_values.specs.Drafts.{draft_from_parts, draft_with, draft_with_all}
 
-pub takes : (v : Plain) (old new : Writing) (words more_words starts : List ℕ) (word : ℕ) → WritesValue old v word new → more_words ≡ words ++ word ∷ []
+pub takes : (v : Plain) (old new : Writing) (words more_words starts : List ℕ) (word : ℕ) → WritesValueDepthFirst old v word new → more_words ≡ words ++ word ∷ []
     → draft_from_parts new more_words starts ≡ draft_with v (draft_from_parts old words starts)
 unfolding draft_with
 takes v old new words more_words starts word wrote is =

@@ -3,7 +3,7 @@ use Rattle.std.proofs.Common.{◌≡◌, ℕ, Bool, true, false, List, [], ◌�
 use Rattle.adb_view.specs.Plain.{Plain, null, int, blob, arr, obj, Plains, none, more, array_or_null, blob_or_null, trimmed_object_or_null}
 use Rattle.adb_write.specs.Again.{HasAllItemsUnlessPastLimit, IsWordOfBlob}
 use Rattle.adb_write.specs.Canonical.{Cell, in_place, apart, blob_cell}
-use Rattle.adb_write.specs.DepthFirst.{WritesValue}
+use Rattle.adb_write.specs.DepthFirst.{WritesValueDepthFirst}
 use Rattle.adb_write.specs.Writing.{Writing, call, blob_call, arr_call, obj_call, calls, calls_all, is_past_limit}
 use Rattle.adb_write.proofs.DepthFirst.{calls_arr, calls_blob, calls_obj}
 use Rattle.adb_write.proofs.Kept.{LeavesWords, arr_keeps, blob_keeps, int_keeps, new_word, obj_keeps}
@@ -18,10 +18,10 @@ unfolding call
 over_call (in_place word) w o = rw o refl
 over_call (apart i) w o = rw o refl
 
-pub written_again : (b : List ℕ) (word x : ℕ) (w : Writing) → IsWordOfBlob w b word → (is_past_limit w ≡ false → x ≡ word) → (is_past_limit w ≡ true → x ≡ 0) → WritesValue w (blob_or_null b) x w
+pub written_again : (b : List ℕ) (word x : ℕ) (w : Writing) → IsWordOfBlob w b word → (is_past_limit w ≡ false → x ≡ word) → (is_past_limit w ≡ true → x ≡ 0) → WritesValueDepthFirst w (blob_or_null b) x w
 written_again b word x w is within over = go (is_past_limit w) refl
   where
-    go : (past : Bool) → is_past_limit w ≡ past → WritesValue w (blob_or_null b) x w
+    go : (past : Bool) → is_past_limit w ≡ past → WritesValueDepthFirst w (blob_or_null b) x w
     go true o = record { is = ap (λ (k : ℕ). (k, w)) (over o) ∙ sym (over_call (blob_cell b) w o) ∙ sym (calls_blob b w) }
     go false o = record { is = ap (λ (k : ℕ). (k, w)) (within o) ∙ sym (is o) ∙ sym (calls_blob b w) }
 

@@ -3,7 +3,7 @@
 -- order calls are made is described in the README of this crate.
 use Rattle.std.specs.Prelude.{ℕ, List, [], ◌∷◌, ◌++◌, length}
 use Rattle.adb_view.specs.Plain.{Plain, Plains, none, more}
-use Rattle.adb_write.specs.Writing.{Writing, empty_writing, calls}
+use Rattle.adb_write.specs.Writing.{Writing, empty_writing_counting_root, calls}
 
 -- the state of a draft. A list is open until all of its entries are added. Only the definitions below use the fields
 pub record DraftState : Type 0 where
@@ -20,7 +20,7 @@ draft_from_parts writing words starts = record { writing = writing; words = word
 
 -- a draft without a value
 abbrev pub empty_draft : DraftState
-empty_draft = draft_from_parts empty_writing [] []
+empty_draft = draft_from_parts empty_writing_counting_root [] []
 
 -- the draft d with one more value v, which is written depth first
 unfoldable pub draft_with : Plain → DraftState → DraftState

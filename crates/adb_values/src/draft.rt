@@ -9,7 +9,7 @@ ghost use Rattle.adb_values.specs.Drafts.{empty_draft, draft_with_open_list, dra
 ghost use Rattle.adb_values.specs.LastList.{last_open_list_start, last_word};
 ghost use Rattle.adb_values.specs.Words.{HasBlob};
 ghost use Rattle.adb_values.specs.Written.{IsWrittenAs};
-ghost use Rattle.adb_write.specs.Canonical.{payload_or_overflow, MOST_BYTES};
+ghost use Rattle.adb_write.specs.Canonical.{payload_or_counts_at_overflow, MOST_BYTES};
 ghost use Rattle.adb_write.specs.Writing.{is_past_limit};
 
 use adb_view::Val;
@@ -203,7 +203,7 @@ impl Draft {
     pub fn finish(self) -> Result<Vec<u8>, WriteFault>
         // If `v` is the only value of the draft, the result is its payload, or the overflow.
         ensures written { (v : Plain) → self ≡ draft_with v empty_draft
-            → IsWrittenAs (λ payload. payload.items) result (payload_or_overflow v) }
+            → IsWrittenAs (λ payload. payload.items) result (payload_or_counts_at_overflow v) }
         // If `v` is the only value of the draft, the payload is within the limit of bytes.
         ensures short { (v : Plain) → self ≡ draft_with v empty_draft
             → IfOk result (λ payload. length payload.items ≤ MOST_BYTES) }

@@ -6,7 +6,7 @@ use Rattle.std.specs.List.{list_all}
 use Rattle.std.proofs.lemmas.Bool.{eqb-true}
 use Rattle.std.proofs.lemmas.List.Folds.{list_all-append}
 use Rattle.adb_view.specs.Plain.{Plain, null, int, Plains, none, more, Shape, number, text, hash, array, object, Fields, no_fields, field, blob_or_null, array_or_null, trimmed_object_or_null, null_plain_if_null_word, option_of_ok_value, plains_if_first_and_rest, plains_of_all_words, plain_of, plains_of}
-use Rattle.adb_view.specs.Readers.{int_of, blob_of, run_entries_of_word, ARRAY, OBJECT}
+use Rattle.adb_view.specs.Readers.{int_of, blob_of, run_entries_of_kind_in_payload_at_word, ARRAY, OBJECT}
 use Rattle.adb_view.specs.Visits.{Visit, or_empty, visits_of_all_words, visits, field_visits, is_sound_visit}
 use Rattle.base_core.specs.declared.cause.Cause.{Cause}
 
@@ -32,9 +32,9 @@ pub blob_of-null : (p : List ℕ) → blob_of p 0 ≡ Ok []
 unfolding blob_of
 blob_of-null p = refl
 
-pub run_entries_of_word-null : (tag : ℕ) (p : List ℕ) → run_entries_of_word tag p 0 ≡ Ok []
-unfolding run_entries_of_word
-run_entries_of_word-null tag p = refl
+pub run_entries_of_kind_in_payload_at_word-null : (tag : ℕ) (p : List ℕ) → run_entries_of_kind_in_payload_at_word tag p 0 ≡ Ok []
+unfolding run_entries_of_kind_in_payload_at_word
+run_entries_of_kind_in_payload_at_word-null tag p = refl
 
 found-one : {A : Type 0} (f : A → Plain) (r : Result A Cause) → is_some (option_of_ok_value (λ x. Some (f x)) r) ≡ (is_none (result_err r) && true)
 found-one f (Ok x) = refl
@@ -75,11 +75,11 @@ mutual
   plain_of-found p text w = null_plain_if_null_word-is_some w _ (λ e. rw (e, blob_of-null p) refl) ∙ found-one blob_or_null (blob_of p w)
   plain_of-found p hash w = null_plain_if_null_word-is_some w _ (λ e. rw (e, blob_of-null p) refl) ∙ found-one blob_or_null (blob_of p w)
   plain_of-found p (array s) w =
-      null_plain_if_null_word-is_some w _ (λ e. rw (e, run_entries_of_word-null ARRAY p) refl)
-      ∙ found-entries p array_or_null (plains_of_all_words (plain_of p s)) (visits_of_all_words (visits p s)) (found-each p (plain_of p s) (visits p s) (plain_of-found p s)) refl (run_entries_of_word ARRAY p w)
+      null_plain_if_null_word-is_some w _ (λ e. rw (e, run_entries_of_kind_in_payload_at_word-null ARRAY p) refl)
+      ∙ found-entries p array_or_null (plains_of_all_words (plain_of p s)) (visits_of_all_words (visits p s)) (found-each p (plain_of p s) (visits p s) (plain_of-found p s)) refl (run_entries_of_kind_in_payload_at_word ARRAY p w)
   plain_of-found p (object schema fs) w =
-      null_plain_if_null_word-is_some w _ (λ e. rw (e, run_entries_of_word-null OBJECT p, no_fields_found p fs) refl)
-      ∙ found-entries p trimmed_object_or_null (plains_of p fs) (field_visits p fs) (plains_of-found p fs) (no_field_visits p fs) (run_entries_of_word OBJECT p w)
+      null_plain_if_null_word-is_some w _ (λ e. rw (e, run_entries_of_kind_in_payload_at_word-null OBJECT p, no_fields_found p fs) refl)
+      ∙ found-entries p trimmed_object_or_null (plains_of p fs) (field_visits p fs) (plains_of-found p fs) (no_field_visits p fs) (run_entries_of_kind_in_payload_at_word OBJECT p w)
 
   pub plains_of-found : (p : List ℕ) (fs : Fields) (ws : List ℕ) → is_some (plains_of p fs ws) ≡ all_sound p (field_visits p fs ws)
   plains_of-found p no_fields ws = refl

@@ -2,7 +2,7 @@
 use Rattle.std.proofs.Common.{ℕ, Bool, true, false, cond, eqb, List, [], ◌∷◌, Option, Some, None, option_map, Result, Ok, Err}
 use Rattle.std.specs.Prelude.{IfSome}
 use Rattle.adb_view.specs.Plain.{Plain, null, int, blob, arr, obj, Plains, none, more, Shape, number, text, hash, array, object, Fields, no_fields, field, blob_or_null, array_or_null, object_or_null, prepend_plain_unless_last_null, without_last_nulls, trimmed_object_or_null, null_plain_if_null_word, option_of_ok_value, plains_if_first_and_rest, plains_of_all_words, plain_of, plains_of}
-use Rattle.adb_view.specs.Readers.{int_of, blob_of, run_entries_of_word, ARRAY, OBJECT}
+use Rattle.adb_view.specs.Readers.{int_of, blob_of, run_entries_of_kind_in_payload_at_word, ARRAY, OBJECT}
 use Rattle.adb_view.specs.Shaped.{Each, HasShape, HaveShapes}
 use Rattle.base_core.specs.declared.cause.Cause.{Cause}
 
@@ -112,9 +112,9 @@ mutual
   plain_shape p text w = null_plain_if_null_word-all (HasShape text) w _ (shape_null text) (text_shape (blob_of p w))
   plain_shape p hash w = null_plain_if_null_word-all (HasShape hash) w _ (shape_null hash) (hash_shape (blob_of p w))
   plain_shape p (array s) w =
-      null_plain_if_null_word-all (HasShape (array s)) w _ (shape_null (array s)) (run_found (HasShape (array s)) (λ ws. option_map array_or_null (plains_of_all_words (plain_of p s) ws)) (λ ws. mapped (HasShape (array s)) (Each (HasShape s)) array_or_null (arr_value_shape s) (plains_of_all_words (plain_of p s) ws) (each_found (HasShape s) (plain_of p s) (plain_shape p s) ws)) (run_entries_of_word ARRAY p w))
+      null_plain_if_null_word-all (HasShape (array s)) w _ (shape_null (array s)) (run_found (HasShape (array s)) (λ ws. option_map array_or_null (plains_of_all_words (plain_of p s) ws)) (λ ws. mapped (HasShape (array s)) (Each (HasShape s)) array_or_null (arr_value_shape s) (plains_of_all_words (plain_of p s) ws) (each_found (HasShape s) (plain_of p s) (plain_shape p s) ws)) (run_entries_of_kind_in_payload_at_word ARRAY p w))
   plain_shape p (object n fs) w =
-      null_plain_if_null_word-all (HasShape (object n fs)) w _ (shape_null (object n fs)) (run_found (HasShape (object n fs)) (λ ws. option_map trimmed_object_or_null (plains_of p fs ws)) (λ ws. mapped (HasShape (object n fs)) (HaveShapes fs) trimmed_object_or_null (obj_value_shape n fs) (plains_of p fs ws) (plains_shape p fs ws)) (run_entries_of_word OBJECT p w))
+      null_plain_if_null_word-all (HasShape (object n fs)) w _ (shape_null (object n fs)) (run_found (HasShape (object n fs)) (λ ws. option_map trimmed_object_or_null (plains_of p fs ws)) (λ ws. mapped (HasShape (object n fs)) (HaveShapes fs) trimmed_object_or_null (obj_value_shape n fs) (plains_of p fs ws) (plains_shape p fs ws)) (run_entries_of_kind_in_payload_at_word OBJECT p w))
 
   pub plains_shape : (p : List ℕ) (fs : Fields) (ws : List ℕ) → IfSome (plains_of p fs ws) (HaveShapes fs)
   plains_shape p no_fields ws = shapes_none no_fields

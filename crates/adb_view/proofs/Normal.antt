@@ -5,7 +5,7 @@ use Rattle.std.proofs.lemmas.List.Elements.{All-head, All-tail, All-take, All-dr
 use Rattle.std.specs.Int.{Width, w32, w64, byte_len, from_le_bytes}
 use Rattle.adb_view.specs.Bytes.{number_at}
 use Rattle.adb_view.specs.Plain.{Plain, null, int, blob, arr, obj, Plains, none, more, Shape, number, text, hash, array, object, Fields, no_fields, field, blob_or_null, array_or_null, object_or_null, prepend_plain_unless_last_null, without_last_nulls, trimmed_object_or_null, option_of_ok_value, plains_if_first_and_rest, plains_of_all_words, plain_of, plains_of, IsNormal, AreNormal}
-use Rattle.adb_view.specs.Readers.{kind_of_word, low_28_bits, or_outside_cause, int_of, blob_of, run_entries_of_word, ARRAY, OBJECT}
+use Rattle.adb_view.specs.Readers.{kind_number_of_word, low_28_bits, or_outside_cause, int_of, blob_of, run_entries_of_kind_in_payload_at_word, ARRAY, OBJECT}
 use Rattle.adb_view.proofs.FoundShapes.{null_plain_if_null_word-all, mapped, run_found}
 use Rattle.base_core.specs.declared.cause.Cause.{Cause}
 
@@ -55,11 +55,11 @@ unfolding int_of
 int_of-fits p w n h e =
     elim (either (eqb w 0) _ _ _ e) [
       | inl zero_is ↦ let same : 0 ≡ n = cc in omega arith
-      | inr e1 ↦ elim (either (eqb (kind_of_word w) 1) _ _ _ e1) [
+      | inr e1 ↦ elim (either (eqb (kind_number_of_word w) 1) _ _ _ e1) [
         | inl low_is ↦ let same : low_28_bits w ≡ n = cc in low_fits w n same
-        | inr e2 ↦ elim (either (eqb (kind_of_word w) 2) _ _ _ e2) [
+        | inr e2 ↦ elim (either (eqb (kind_number_of_word w) 2) _ _ _ e2) [
           | inl four_is ↦ inside_fits w n _ (λ k. number_fits w32 p (low_28_bits w) k four_fit h) four_is
-          | inr e3 ↦ elim (either (eqb (kind_of_word w) 3) _ _ _ e3) [
+          | inr e3 ↦ elim (either (eqb (kind_number_of_word w) 3) _ _ _ e3) [
             | inl eight_is ↦ inside_fits w n _ (λ k. number_fits w64 p (low_28_bits w) k eight_fit h) eight_is
             | inr e4 ↦ absurd cc
           ]
@@ -155,8 +155,8 @@ mutual
   plain_of_normal p h number w = null_plain_if_null_word-all IsNormal w _ tt (int_normal (int_of p w) (λ n. int_of-fits p w n h))
   plain_of_normal p h text w = null_plain_if_null_word-all IsNormal w _ tt (blob_normal (blob_of p w))
   plain_of_normal p h hash w = null_plain_if_null_word-all IsNormal w _ tt (blob_normal (blob_of p w))
-  plain_of_normal p h (array s) w = null_plain_if_null_word-all IsNormal w _ tt (run_found IsNormal (λ ws. option_map array_or_null (plains_of_all_words (plain_of p s) ws)) (λ ws. mapped IsNormal AreNormal array_or_null arr_normal (plains_of_all_words (plain_of p s) ws) (each_normal (plain_of p s) (plain_of_normal p h s) ws)) (run_entries_of_word ARRAY p w))
-  plain_of_normal p h (object schema fs) w = null_plain_if_null_word-all IsNormal w _ tt (run_found IsNormal (λ ws. option_map trimmed_object_or_null (plains_of p fs ws)) (λ ws. mapped IsNormal AreNormal trimmed_object_or_null obj_normal (plains_of p fs ws) (plains_of_normal p h fs ws)) (run_entries_of_word OBJECT p w))
+  plain_of_normal p h (array s) w = null_plain_if_null_word-all IsNormal w _ tt (run_found IsNormal (λ ws. option_map array_or_null (plains_of_all_words (plain_of p s) ws)) (λ ws. mapped IsNormal AreNormal array_or_null arr_normal (plains_of_all_words (plain_of p s) ws) (each_normal (plain_of p s) (plain_of_normal p h s) ws)) (run_entries_of_kind_in_payload_at_word ARRAY p w))
+  plain_of_normal p h (object schema fs) w = null_plain_if_null_word-all IsNormal w _ tt (run_found IsNormal (λ ws. option_map trimmed_object_or_null (plains_of p fs ws)) (λ ws. mapped IsNormal AreNormal trimmed_object_or_null obj_normal (plains_of p fs ws) (plains_of_normal p h fs ws)) (run_entries_of_kind_in_payload_at_word OBJECT p w))
 
   pub plains_of_normal : (p : List ℕ) → AreBytes p → (fs : Fields) (ws : List ℕ) → IfSome (plains_of p fs ws) AreNormal
   plains_of_normal p h no_fields ws = tt

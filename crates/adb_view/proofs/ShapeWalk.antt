@@ -5,7 +5,7 @@ use Rattle.std.specs.Prelude.{is_some, is_none, slice_get}
 use Rattle.std.specs.Option.{option_or}
 use Rattle.std.specs.Result.{result_err}
 use Rattle.adb_view.specs.Plain.{Shape, number, text, hash, array, object, Fields, no_fields, field, plain_of, plains_of}
-use Rattle.adb_view.specs.Readers.{run_entries_of_word, ARRAY, OBJECT}
+use Rattle.adb_view.specs.Readers.{run_entries_of_kind_in_payload_at_word, ARRAY, OBJECT}
 use Rattle.adb_view.specs.Visits.{Visit, or_empty, visits_of_all_words, visits, field_visits, word_fault_under_shape, is_sound_visit, MOST_VALUES}
 use Rattle.adb_view.specs.Schema.{shape_of}
 use Rattle.adb_view.specs.Values.{is_sound}
@@ -68,8 +68,8 @@ mutual
   walk-counted p number n w = sym (bind_ok (walk_visit p n number w))
   walk-counted p text n w = sym (bind_ok (walk_visit p n text w))
   walk-counted p hash n w = sym (bind_ok (walk_visit p n hash w))
-  walk-counted p (array s) n w = bind_same (walk_visit p n (array s) w) _ _ (λ m. walk_each_word-counted p (walk p s) (visits p s) (walk-counted p s) m (or_empty (run_entries_of_word ARRAY p w)))
-  walk-counted p (object which fs) n w = bind_same (walk_visit p n (object which fs) w) _ _ (λ m. fields_walk-counted p fs m (or_empty (run_entries_of_word OBJECT p w)))
+  walk-counted p (array s) n w = bind_same (walk_visit p n (array s) w) _ _ (λ m. walk_each_word-counted p (walk p s) (visits p s) (walk-counted p s) m (or_empty (run_entries_of_kind_in_payload_at_word ARRAY p w)))
+  walk-counted p (object which fs) n w = bind_same (walk_visit p n (object which fs) w) _ _ (λ m. fields_walk-counted p fs m (or_empty (run_entries_of_kind_in_payload_at_word OBJECT p w)))
 
   pub fields_walk-counted : (p : List ℕ) (fs : Fields) (n : ℕ) (ws : List ℕ) → fields_walk p fs n ws ≡ counted p n (field_visits p fs ws)
   fields_walk-counted p no_fields n ws = refl

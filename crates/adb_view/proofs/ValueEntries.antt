@@ -1,7 +1,7 @@
 -- What is in a value that was made of its entries or of its bytes.
 use Rattle.std.proofs.Common.{◌≡◌, ℕ, zero, suc, List, [], ◌∷◌, refl, ◌∙◌}
 use Rattle.adb_view.specs.Plain.{Plain, null, int, blob, arr, obj, Plains, none, more, blob_or_null, array_or_null, object_or_null, trimmed_object_or_null, prepend_plain_unless_last_null, without_last_nulls}
-use Rattle.adb_view.specs.Values.{nth, entries_in, entry_in, text_in}
+use Rattle.adb_view.specs.Values.{nth, entries_in, entry_at_index, text_in}
 
 pub text_blob : (b : List ℕ) → text_in (blob_or_null b) ≡ b
 text_blob [] = refl
@@ -31,5 +31,5 @@ nth_trimmed none i = refl
 nth_trimmed (more v vs) zero = nth_keep v (without_last_nulls vs) zero
 nth_trimmed (more v vs) (suc i) = nth_keep v (without_last_nulls vs) (suc i) ∙ nth_trimmed vs i
 
-pub nth_obj : (vs : Plains) (i : ℕ) → entry_in (trimmed_object_or_null vs) i ≡ nth vs i
+pub nth_obj : (vs : Plains) (i : ℕ) → entry_at_index (trimmed_object_or_null vs) i ≡ nth vs i
 nth_obj vs i = (λ j. nth (entries_obj (without_last_nulls vs) j) i) ∙ nth_trimmed vs i

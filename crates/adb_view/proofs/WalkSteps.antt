@@ -4,7 +4,7 @@ use Rattle.std.proofs.lemmas.Bool.{lt-ltb, le-ltb, eqb-true}
 use Rattle.std.proofs.lemmas.Bool.Decides.{leb_tells}
 use Rattle.std.proofs.lemmas.List.{drop_more, drop_all}
 use Rattle.adb_view.specs.Plain.{Shape, number, text, hash, array, object}
-use Rattle.adb_view.specs.Readers.{int_of, blob_of, run_entries_of_word, ARRAY, OBJECT}
+use Rattle.adb_view.specs.Readers.{int_of, blob_of, run_entries_of_kind_in_payload_at_word, ARRAY, OBJECT}
 use Rattle.adb_view.specs.CountedWalk.{fields_walk}
 use Rattle.adb_view.specs.CountedWalk.{walk}
 use Rattle.adb_view.specs.CountedWalk.{walk_each_word}
@@ -24,7 +24,7 @@ use Rattle.adb_view.specs.declared.tables.Which.TheVariants.{Dep, Acl, PkgInfo, 
 use Rattle.adb_view.specs.declared.tables.Kind.TheVariants.{Int, Text, Hash, Obj, TextArr, ObjArr}
 use Rattle.adb_view.specs.declared.tables.Field.{Field}
 use Rattle.adb_view.specs.declared.tables.Kind.{Kind}
-use Rattle.adb_view.proofs.Found.{run_entries_of_word-null}
+use Rattle.adb_view.proofs.Found.{run_entries_of_kind_in_payload_at_word-null}
 
 -- ---- over a list
 
@@ -83,8 +83,8 @@ unfolding walk
 walk_full p number n w le = full_step p n number w le
 walk_full p text n w le = full_step p n text w le
 walk_full p hash n w le = full_step p n hash w le
-walk_full p (array s) n w le = ap (λ r. and_then r (λ m. walk_each_word (walk p s) m (or_empty (run_entries_of_word ARRAY p w)))) (full_step p n (array s) w le)
-walk_full p (object which fs) n w le = ap (λ r. and_then r (λ m. fields_walk p fs m (or_empty (run_entries_of_word OBJECT p w)))) (full_step p n (object which fs) w le)
+walk_full p (array s) n w le = ap (λ r. and_then r (λ m. walk_each_word (walk p s) m (or_empty (run_entries_of_kind_in_payload_at_word ARRAY p w)))) (full_step p n (array s) w le)
+walk_full p (object which fs) n w le = ap (λ r. and_then r (λ m. fields_walk p fs m (or_empty (run_entries_of_kind_in_payload_at_word OBJECT p w)))) (full_step p n (object which fs) w le)
 
 pub walk_int : (p : List ℕ) (n w : ℕ) → n < MOST_VALUES → walk p (shape_of Int) n w ≡ (and_then (int_of p w) (λ x. Ok (n + 1)))
 unfolding walk
@@ -98,22 +98,22 @@ pub walk_hash : (p : List ℕ) (n w : ℕ) → n < MOST_VALUES → walk p (shape
 unfolding walk
 walk_hash p n w lt = ap (λ s. walk p s n w) hash_shape ∙ ok_step n hash w p (blob_of p w) refl lt
 
-array_step : (p : List ℕ) (s : Shape) (n w : ℕ) → n < MOST_VALUES → walk p (array s) n w ≡ (and_then (run_entries_of_word ARRAY p w) (λ ws. walk_each_word (walk p s) (n + 1) ws))
+array_step : (p : List ℕ) (s : Shape) (n w : ℕ) → n < MOST_VALUES → walk p (array s) n w ≡ (and_then (run_entries_of_kind_in_payload_at_word ARRAY p w) (λ ws. walk_each_word (walk p s) (n + 1) ws))
 unfolding walk
-array_step p s n w lt = ap (λ r. and_then r (λ m. walk_each_word (walk p s) m (or_empty (run_entries_of_word ARRAY p w)))) (ok_step n (array s) w p (run_entries_of_word ARRAY p w) refl lt) ∙ bind_run (run_entries_of_word ARRAY p w) n (λ m ws. walk_each_word (walk p s) m ws)
+array_step p s n w lt = ap (λ r. and_then r (λ m. walk_each_word (walk p s) m (or_empty (run_entries_of_kind_in_payload_at_word ARRAY p w)))) (ok_step n (array s) w p (run_entries_of_kind_in_payload_at_word ARRAY p w) refl lt) ∙ bind_run (run_entries_of_kind_in_payload_at_word ARRAY p w) n (λ m ws. walk_each_word (walk p s) m ws)
 
-pub walk_texts : (p : List ℕ) (n w : ℕ) → n < MOST_VALUES → walk p (shape_of TextArr) n w ≡ (and_then (run_entries_of_word ARRAY p w) (λ ws. walk_each_word (walk p (shape_of Text)) (n + 1) ws))
+pub walk_texts : (p : List ℕ) (n w : ℕ) → n < MOST_VALUES → walk p (shape_of TextArr) n w ≡ (and_then (run_entries_of_kind_in_payload_at_word ARRAY p w) (λ ws. walk_each_word (walk p (shape_of Text)) (n + 1) ws))
 walk_texts p n w lt = ap (λ s. walk p s n w) texts_shape ∙ array_step p (shape_of Text) n w lt
 
-pub walk_objects : (p : List ℕ) (which : Which) (n w : ℕ) → n < MOST_VALUES → walk p (shape_of (ObjArr which)) n w ≡ (and_then (run_entries_of_word ARRAY p w) (λ ws. walk_each_word (walk p (shape_of (Obj which))) (n + 1) ws))
+pub walk_objects : (p : List ℕ) (which : Which) (n w : ℕ) → n < MOST_VALUES → walk p (shape_of (ObjArr which)) n w ≡ (and_then (run_entries_of_kind_in_payload_at_word ARRAY p w) (λ ws. walk_each_word (walk p (shape_of (Obj which))) (n + 1) ws))
 walk_objects p which n w lt = ap (λ s. walk p s n w) (objects_shape which) ∙ array_step p (shape_of (Obj which)) n w lt
 
-pub walk_object : (p : List ℕ) (which : Which) (n w : ℕ) → n < MOST_VALUES → walk p (shape_of (Obj which)) n w ≡ (and_then (run_entries_of_word OBJECT p w) (λ ws. fields_walk p (shapes_of (table which)) (n + 1) ws))
+pub walk_object : (p : List ℕ) (which : Which) (n w : ℕ) → n < MOST_VALUES → walk p (shape_of (Obj which)) n w ≡ (and_then (run_entries_of_kind_in_payload_at_word OBJECT p w) (λ ws. fields_walk p (shapes_of (table which)) (n + 1) ws))
 unfolding walk
 walk_object p which n w lt =
     ap (λ s. walk p s n w) (object_shape which)
-    ∙ ap (λ r. and_then r (λ m. fields_walk p (shapes_of (table which)) m (or_empty (run_entries_of_word OBJECT p w)))) (ok_step n (object (table_number which) (shapes_of (table which))) w p (run_entries_of_word OBJECT p w) refl lt)
-    ∙ bind_run (run_entries_of_word OBJECT p w) n (λ m ws. fields_walk p (shapes_of (table which)) m ws)
+    ∙ ap (λ r. and_then r (λ m. fields_walk p (shapes_of (table which)) m (or_empty (run_entries_of_kind_in_payload_at_word OBJECT p w)))) (ok_step n (object (table_number which) (shapes_of (table which))) w p (run_entries_of_kind_in_payload_at_word OBJECT p w) refl lt)
+    ∙ bind_run (run_entries_of_kind_in_payload_at_word OBJECT p w) n (λ m ws. fields_walk p (shapes_of (table which)) m ws)
 
 -- ---- depth
 
@@ -160,23 +160,23 @@ hash_ok p n w x lt e = walk_hash p n w lt ∙ bound_ok (blob_of p w) _ x e
 pub hash_err : (p : List ℕ) (n w : ℕ) (c : Cause) → n < MOST_VALUES → blob_of p w ≡ Err c → walk p (shape_of Hash) n w ≡ Err c
 hash_err p n w c lt e = walk_hash p n w lt ∙ bound_err (blob_of p w) _ c e
 
-pub texts_ok : (p : List ℕ) (n w : ℕ) (ws : List ℕ) → n < MOST_VALUES → run_entries_of_word ARRAY p w ≡ Ok ws → walk p (shape_of TextArr) n w ≡ walk_each_word (walk p (shape_of Text)) (n + 1) ws
-texts_ok p n w ws lt e = walk_texts p n w lt ∙ bound_ok (run_entries_of_word ARRAY p w) _ ws e
+pub texts_ok : (p : List ℕ) (n w : ℕ) (ws : List ℕ) → n < MOST_VALUES → run_entries_of_kind_in_payload_at_word ARRAY p w ≡ Ok ws → walk p (shape_of TextArr) n w ≡ walk_each_word (walk p (shape_of Text)) (n + 1) ws
+texts_ok p n w ws lt e = walk_texts p n w lt ∙ bound_ok (run_entries_of_kind_in_payload_at_word ARRAY p w) _ ws e
 
-pub texts_err : (p : List ℕ) (n w : ℕ) (c : Cause) → n < MOST_VALUES → run_entries_of_word ARRAY p w ≡ Err c → walk p (shape_of TextArr) n w ≡ Err c
-texts_err p n w c lt e = walk_texts p n w lt ∙ bound_err (run_entries_of_word ARRAY p w) _ c e
+pub texts_err : (p : List ℕ) (n w : ℕ) (c : Cause) → n < MOST_VALUES → run_entries_of_kind_in_payload_at_word ARRAY p w ≡ Err c → walk p (shape_of TextArr) n w ≡ Err c
+texts_err p n w c lt e = walk_texts p n w lt ∙ bound_err (run_entries_of_kind_in_payload_at_word ARRAY p w) _ c e
 
-pub objects_ok : (p : List ℕ) (which : Which) (n w : ℕ) (ws : List ℕ) → n < MOST_VALUES → run_entries_of_word ARRAY p w ≡ Ok ws → walk p (shape_of (ObjArr which)) n w ≡ walk_each_word (walk p (shape_of (Obj which))) (n + 1) ws
-objects_ok p which n w ws lt e = walk_objects p which n w lt ∙ bound_ok (run_entries_of_word ARRAY p w) _ ws e
+pub objects_ok : (p : List ℕ) (which : Which) (n w : ℕ) (ws : List ℕ) → n < MOST_VALUES → run_entries_of_kind_in_payload_at_word ARRAY p w ≡ Ok ws → walk p (shape_of (ObjArr which)) n w ≡ walk_each_word (walk p (shape_of (Obj which))) (n + 1) ws
+objects_ok p which n w ws lt e = walk_objects p which n w lt ∙ bound_ok (run_entries_of_kind_in_payload_at_word ARRAY p w) _ ws e
 
-pub objects_err : (p : List ℕ) (which : Which) (n w : ℕ) (c : Cause) → n < MOST_VALUES → run_entries_of_word ARRAY p w ≡ Err c → walk p (shape_of (ObjArr which)) n w ≡ Err c
-objects_err p which n w c lt e = walk_objects p which n w lt ∙ bound_err (run_entries_of_word ARRAY p w) _ c e
+pub objects_err : (p : List ℕ) (which : Which) (n w : ℕ) (c : Cause) → n < MOST_VALUES → run_entries_of_kind_in_payload_at_word ARRAY p w ≡ Err c → walk p (shape_of (ObjArr which)) n w ≡ Err c
+objects_err p which n w c lt e = walk_objects p which n w lt ∙ bound_err (run_entries_of_kind_in_payload_at_word ARRAY p w) _ c e
 
-pub object_ok : (p : List ℕ) (which : Which) (n w : ℕ) (ws : List ℕ) → n < MOST_VALUES → run_entries_of_word OBJECT p w ≡ Ok ws → walk p (shape_of (Obj which)) n w ≡ fields_walk p (shapes_of (table which)) (n + 1) ws
-object_ok p which n w ws lt e = walk_object p which n w lt ∙ bound_ok (run_entries_of_word OBJECT p w) _ ws e
+pub object_ok : (p : List ℕ) (which : Which) (n w : ℕ) (ws : List ℕ) → n < MOST_VALUES → run_entries_of_kind_in_payload_at_word OBJECT p w ≡ Ok ws → walk p (shape_of (Obj which)) n w ≡ fields_walk p (shapes_of (table which)) (n + 1) ws
+object_ok p which n w ws lt e = walk_object p which n w lt ∙ bound_ok (run_entries_of_kind_in_payload_at_word OBJECT p w) _ ws e
 
-pub object_err : (p : List ℕ) (which : Which) (n w : ℕ) (c : Cause) → n < MOST_VALUES → run_entries_of_word OBJECT p w ≡ Err c → walk p (shape_of (Obj which)) n w ≡ Err c
-object_err p which n w c lt e = walk_object p which n w lt ∙ bound_err (run_entries_of_word OBJECT p w) _ c e
+pub object_err : (p : List ℕ) (which : Which) (n w : ℕ) (c : Cause) → n < MOST_VALUES → run_entries_of_kind_in_payload_at_word OBJECT p w ≡ Err c → walk p (shape_of (Obj which)) n w ≡ Err c
+object_err p which n w c lt e = walk_object p which n w lt ∙ bound_err (run_entries_of_kind_in_payload_at_word OBJECT p w) _ c e
 
 -- ---- a leaf
 
@@ -185,13 +185,13 @@ leaf_step (Ok x) n e = refl
 leaf_step (Err c) n e = absurd cc
 
 null_object : (p : List ℕ) (which : Which) (n : ℕ) → n < MOST_VALUES → walk p (shape_of (Obj which)) n 0 ≡ Ok (n + 1)
-null_object p which n lt = walk_object p which n 0 lt ∙ ap (λ r. and_then r (λ ws. fields_walk p (shapes_of (table which)) (n + 1) ws)) (run_entries_of_word-null OBJECT p) ∙ no_words p (table which) (n + 1)
+null_object p which n lt = walk_object p which n 0 lt ∙ ap (λ r. and_then r (λ ws. fields_walk p (shapes_of (table which)) (n + 1) ws)) (run_entries_of_kind_in_payload_at_word-null OBJECT p) ∙ no_words p (table which) (n + 1)
 
 null_texts : (p : List ℕ) (n : ℕ) → n < MOST_VALUES → walk p (shape_of TextArr) n 0 ≡ Ok (n + 1)
-null_texts p n lt = walk_texts p n 0 lt ∙ ap (λ r. and_then r (λ ws. walk_each_word (walk p (shape_of Text)) (n + 1) ws)) (run_entries_of_word-null ARRAY p)
+null_texts p n lt = walk_texts p n 0 lt ∙ ap (λ r. and_then r (λ ws. walk_each_word (walk p (shape_of Text)) (n + 1) ws)) (run_entries_of_kind_in_payload_at_word-null ARRAY p)
 
 null_objects : (p : List ℕ) (which : Which) (n : ℕ) → n < MOST_VALUES → walk p (shape_of (ObjArr which)) n 0 ≡ Ok (n + 1)
-null_objects p which n lt = walk_objects p which n 0 lt ∙ ap (λ r. and_then r (λ ws. walk_each_word (walk p (shape_of (Obj which))) (n + 1) ws)) (run_entries_of_word-null ARRAY p)
+null_objects p which n lt = walk_objects p which n 0 lt ∙ ap (λ r. and_then r (λ ws. walk_each_word (walk p (shape_of (Obj which))) (n + 1) ws)) (run_entries_of_kind_in_payload_at_word-null ARRAY p)
 
 pub leaf_walk : (p : List ℕ) (kind : Kind) (n w : ℕ) → n < MOST_VALUES → is_sound_leaf p kind w ≡ true → walk p (shape_of kind) n w ≡ Ok (n + 1)
 leaf_walk p Int n w lt e = walk_int p n w lt ∙ leaf_step (int_of p w) n e

@@ -3,7 +3,7 @@
 use Rattle.std.specs.Prelude.{ℕ, ◌+◌, List, [], ◌∷◌, Option, Some, None, Result, Ok, Err}
 use Rattle.base_core.specs.Lists.{and_then}
 use Rattle.adb_view.specs.Plain.{Shape, number, text, hash, array, object, Fields, no_fields, field}
-use Rattle.adb_view.specs.Readers.{run_entries_of_word, ARRAY, OBJECT}
+use Rattle.adb_view.specs.Readers.{run_entries_of_kind_in_payload_at_word, ARRAY, OBJECT}
 use Rattle.adb_view.specs.Visits.{or_empty}
 use Rattle.adb_view.specs.Walk.{visit_fault}
 use Rattle.base_core.specs.declared.cause.Cause.{Cause}
@@ -31,9 +31,9 @@ unfoldable mutual
   walk p text n w = walk_visit p n text w
   walk p hash n w = walk_visit p n hash w
   walk p (array s) n w = and_then (walk_visit p n (array s) w)
-      (λ m. walk_each_word (walk p s) m (or_empty (run_entries_of_word ARRAY p w)))
+      (λ m. walk_each_word (walk p s) m (or_empty (run_entries_of_kind_in_payload_at_word ARRAY p w)))
   walk p (object schema fs) n w = and_then (walk_visit p n (object schema fs) w)
-      (λ m. fields_walk p fs m (or_empty (run_entries_of_word OBJECT p w)))
+      (λ m. fields_walk p fs m (or_empty (run_entries_of_kind_in_payload_at_word OBJECT p w)))
 
   -- the walk over those of an object's entries (`ws`) that have one of these fields, after n visits
   pub fields_walk : List ℕ → Fields → ℕ → List ℕ → Result ℕ Cause

@@ -15,5 +15,5 @@ abbrev pub object_entries : {N : ℕ} → Obj N → List ℕ
 object_entries object = array_entries object.entries
 
 -- the word of the entry at the position i, which counts from 1; past the last entry it is 0, which is NULL
-abbrev pub entry_at : List ℕ → ℕ → ℕ
-entry_at entries i = slice_index entries (i - 1)
+abbrev pub entry_word_at_position : List ℕ → ℕ → ℕ
+entry_word_at_position entries i = slice_index entries (i - 1)

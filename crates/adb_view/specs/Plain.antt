@@ -1,7 +1,7 @@
 -- Plain values, the shapes by which words are read, and the plain value of a word. All crates that read or write
 -- containers use them. The rules are in `docs/formats.md`, "Values" ("A table of fields gives each word a shape").
 use Rattle.std.specs.Prelude.{◌≡◌, ◌≢◌, ℕ, suc, ◌<◌, ◌^◌, List, [], ◌∷◌, Option, Some, None, option_map, option_and_then, Result, Ok, Err, ◌==◌, if◌then◌else◌}
-use Rattle.adb_view.specs.Readers.{int_of, blob_of, run_entries_of_word, ARRAY, OBJECT}
+use Rattle.adb_view.specs.Readers.{int_of, blob_of, run_entries_of_kind_in_payload_at_word, ARRAY, OBJECT}
 use Rattle.adb_view.specs.Head.{root_word_of_payload}
 use Rattle.base_core.specs.declared.cause.Cause.{Cause}
 
@@ -109,10 +109,10 @@ unfoldable mutual
       null_plain_if_null_word w (option_of_ok_value (λ b. Some (blob_or_null b)) (blob_of p w))
   plain_of p (array s) w = null_plain_if_null_word w
       (option_of_ok_value (λ ws. option_map array_or_null (plains_of_all_words (plain_of p s) ws))
-      (run_entries_of_word ARRAY p w))
+      (run_entries_of_kind_in_payload_at_word ARRAY p w))
   plain_of p (object schema fs) w = null_plain_if_null_word w
       (option_of_ok_value (λ ws. option_map trimmed_object_or_null (plains_of p fs ws))
-      (run_entries_of_word OBJECT p w))
+      (run_entries_of_kind_in_payload_at_word OBJECT p w))
 
   -- the plain values of an object's entries (`ws`), each by the shape of its field; entries past the fields are ignored
   pub plains_of : List ℕ → Fields → List ℕ → Option Plains

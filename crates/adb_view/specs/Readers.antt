@@ -7,8 +7,8 @@ use Rattle.base_core.specs.declared.cause.Cause.{Cause}
 use Rattle.base_core.specs.declared.cause.Cause.TheVariants.{Outside, WrongKind}
 
 -- the kind of a word: its top four bits
-abbrev pub kind_of_word : ℕ → ℕ
-kind_of_word word = word / 2 ^ 28
+abbrev pub kind_number_of_word : ℕ → ℕ
+kind_number_of_word word = word / 2 ^ 28
 
 -- the low 28 bits of a word: a number, or an offset from the payload's start
 abbrev pub low_28_bits : ℕ → ℕ
@@ -24,9 +24,9 @@ or_outside_cause word None = Err (Outside word)
 unfoldable pub int_of : List ℕ → ℕ → Result ℕ Cause
 int_of payload word =
     if word == 0 then Ok 0
-    else if kind_of_word word == 1 then Ok (low_28_bits word)
-    else if kind_of_word word == 2 then or_outside_cause word (number_at w32 payload (low_28_bits word))
-    else if kind_of_word word == 3 then or_outside_cause word (number_at w64 payload (low_28_bits word))
+    else if kind_number_of_word word == 1 then Ok (low_28_bits word)
+    else if kind_number_of_word word == 2 then or_outside_cause word (number_at w32 payload (low_28_bits word))
+    else if kind_number_of_word word == 3 then or_outside_cause word (number_at w64 payload (low_28_bits word))
     else Err (WrongKind word)
 
 -- the bytes of a blob at the offset `at` of the payload: the blob's length, a number of the width `w`, precedes them
@@ -40,11 +40,11 @@ length_prefixed_bytes_at w payload at =
 unfoldable pub blob_of : List ℕ → ℕ → Result (List ℕ) Cause
 blob_of payload word =
     if word == 0 then Ok []
-    else if kind_of_word word == 8 then or_outside_cause word
+    else if kind_number_of_word word == 8 then or_outside_cause word
     (length_prefixed_bytes_at w8 payload (low_28_bits word))
-    else if kind_of_word word == 9 then or_outside_cause word
+    else if kind_number_of_word word == 9 then or_outside_cause word
     (length_prefixed_bytes_at w16 payload (low_28_bits word))
-    else if kind_of_word word == 10 then or_outside_cause word
+    else if kind_number_of_word word == 10 then or_outside_cause word
     (length_prefixed_bytes_at w32 payload (low_28_bits word))
     else Err (WrongKind word)
 
@@ -62,10 +62,10 @@ run_entries_at payload at =
 
 -- the entries of the array or object to which `word` refers; the word must have the kind `kind` (13 or 14). NULL has
 -- no entries
-unfoldable pub run_entries_of_word : ℕ → List ℕ → ℕ → Result (List ℕ) Cause
-run_entries_of_word kind payload word =
+unfoldable pub run_entries_of_kind_in_payload_at_word : ℕ → List ℕ → ℕ → Result (List ℕ) Cause
+run_entries_of_kind_in_payload_at_word kind payload word =
     if word == 0 then Ok []
-    else if kind_of_word word == kind then or_outside_cause word (run_entries_at payload (low_28_bits word))
+    else if kind_number_of_word word == kind then or_outside_cause word (run_entries_at payload (low_28_bits word))
     else Err (WrongKind word)
 
 -- the kind of a word that points to an array

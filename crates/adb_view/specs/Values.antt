@@ -21,7 +21,7 @@ nth none i = null
 nth (more v vs) zero = v
 nth (more v vs) (suc i) = nth vs i
 
--- the entries of an array, or the fields of an object. Any other value has none, so *entry_in* gives Null for it
+-- the entries of an array, or the fields of an object. Any other value has none, so *entry_at_index* gives Null for it
 abbrev pub entries_in : Plain → Plains
 entries_in null = none
 entries_in (int n) = none
@@ -30,8 +30,8 @@ entries_in (arr vs) = vs
 entries_in (obj vs) = vs
 
 -- the field of an object, or the entry of an array, with the index i, which counts from 0; Null if there is none
-abbrev pub entry_in : Plain → ℕ → Plain
-entry_in v i = nth (entries_in v) i
+abbrev pub entry_at_index : Plain → ℕ → Plain
+entry_at_index v i = nth (entries_in v) i
 
 -- the integer of a value; 0 for Null, and for a value that is no integer
 abbrev pub int_in : Plain → ℕ

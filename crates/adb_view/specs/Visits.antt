@@ -3,7 +3,7 @@
 use Rattle.std.specs.Prelude.{ℕ, Bool, is_none, List, [], ◌∷◌, ◌++◌, Option, Result, Ok, Err}
 use Rattle.std.specs.Result.{result_err}
 use Rattle.adb_view.specs.Plain.{Shape, number, text, hash, array, object, Fields, no_fields, field}
-use Rattle.adb_view.specs.Readers.{int_of, blob_of, run_entries_of_word, ARRAY, OBJECT}
+use Rattle.adb_view.specs.Readers.{int_of, blob_of, run_entries_of_kind_in_payload_at_word, ARRAY, OBJECT}
 use Rattle.base_core.specs.declared.cause.Cause.{Cause}
 
 -- a visit of a walk: a word, and the shape that is demanded of it
@@ -31,9 +31,9 @@ unfoldable mutual
   visits p text w = record { shape = text; word = w } ∷ []
   visits p hash w = record { shape = hash; word = w } ∷ []
   visits p (array s) w = record { shape = array s; word = w } ∷
-      visits_of_all_words (visits p s) (or_empty (run_entries_of_word ARRAY p w))
+      visits_of_all_words (visits p s) (or_empty (run_entries_of_kind_in_payload_at_word ARRAY p w))
   visits p (object schema fs) w = record { shape = object schema fs; word = w } ∷
-      field_visits p fs (or_empty (run_entries_of_word OBJECT p w))
+      field_visits p fs (or_empty (run_entries_of_kind_in_payload_at_word OBJECT p w))
 
   -- the visits of those of an object's entries (`ws`) that have one of these fields
   pub field_visits : List ℕ → Fields → List ℕ → List Visit
@@ -51,8 +51,8 @@ abbrev pub word_fault_under_shape : List ℕ → Shape → ℕ → Option Cause
 word_fault_under_shape p number w = result_err (int_of p w)
 word_fault_under_shape p text w = result_err (blob_of p w)
 word_fault_under_shape p hash w = result_err (blob_of p w)
-word_fault_under_shape p (array s) w = result_err (run_entries_of_word ARRAY p w)
-word_fault_under_shape p (object schema fs) w = result_err (run_entries_of_word OBJECT p w)
+word_fault_under_shape p (array s) w = result_err (run_entries_of_kind_in_payload_at_word ARRAY p w)
+word_fault_under_shape p (object schema fs) w = result_err (run_entries_of_kind_in_payload_at_word OBJECT p w)
 
 -- whether the reader of a visit's shape accepts its word
 abbrev pub is_sound_visit : List ℕ → Visit → Bool

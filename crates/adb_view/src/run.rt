@@ -4,7 +4,7 @@
 
 ghost use Rattle.std.specs.Prelude.{◌≡◌, ◌≤◌, ◌<◌, ◌-◌, ◌*◌, ◌^◌, ◌==◌, length};
 ghost use Rattle.std.specs.Result.{result_ok};
-ghost use Rattle.adb_view.specs.Readers.{run_entries_of_word};
+ghost use Rattle.adb_view.specs.Readers.{run_entries_of_kind_in_payload_at_word};
 ghost use Rattle.adb_view.specs.Gives.{Finds, Gives};
 
 use crate::words::{Val, run, word_at};
@@ -21,13 +21,13 @@ pub struct Arr<'a> {
 
 #[tactic(auto, using(crate::proofs::RunWords::word_count))]
 impl<'a> Arr<'a> {
-    ghost use Rattle.adb_view.specs.Entries.{array_entries, entry_at};
+    ghost use Rattle.adb_view.specs.Entries.{array_entries, entry_word_at_position};
 
     /// The entries of the run to which the word `v` points. `v` must have the kind `kind`, that of
     /// an array or of an object. NULL has no entries.
-    #[tactic(auto, unfolding(crate::specs::Readers::run_entries_of_word, crate::specs::Bytes::words))]
+    #[tactic(auto, unfolding(crate::specs::Readers::run_entries_of_kind_in_payload_at_word, crate::specs::Bytes::words))]
     pub(crate) fn read(payload: &'a [u8], kind: u32, v: Val) -> Result<Arr<'a>, Cause>
-        ensures { Gives array_entries result (run_entries_of_word kind payload.now v) }
+        ensures { Gives array_entries result (run_entries_of_kind_in_payload_at_word kind payload.now v) }
     {
         if v.is_null() {
             return Ok(Arr { bytes: &[] });
@@ -43,9 +43,9 @@ impl<'a> Arr<'a> {
     }
 
     /// The entries that `read` returns, or None if `read` fails.
-    #[tactic(auto, unfolding(crate::specs::Readers::run_entries_of_word, crate::specs::Bytes::words))]
+    #[tactic(auto, unfolding(crate::specs::Readers::run_entries_of_kind_in_payload_at_word, crate::specs::Bytes::words))]
     pub(crate) fn find(payload: &'a [u8], kind: u32, v: Val) -> Option<Arr<'a>>
-        ensures { Finds array_entries result (result_ok (run_entries_of_word kind payload.now v)) }
+        ensures { Finds array_entries result (result_ok (run_entries_of_kind_in_payload_at_word kind payload.now v)) }
     {
         if v.is_null() {
             return Some(Arr { bytes: &[] });
@@ -83,7 +83,7 @@ impl<'a> Arr<'a> {
         requires from { 1 ≤ i }
         // The position is at most that of the last entry.
         requires to { i ≤ length (array_entries self.now) }
-        ensures { result ≡ entry_at (array_entries self.now) i }
+        ensures { result ≡ entry_word_at_position (array_entries self.now) i }
     {
         Val::of(word_at(self.bytes, i - 1))
     }
@@ -97,7 +97,7 @@ pub struct Obj<'a, const N: usize> {
 }
 
 impl<'a, const N: usize> Obj<'a, N> {
-    ghost use Rattle.adb_view.specs.Entries.{array_entries, entry_at, object_entries};
+    ghost use Rattle.adb_view.specs.Entries.{array_entries, entry_word_at_position, object_entries};
 
     /// The object with these entries as its fields; entries past the table's last field are
     /// ignored.
@@ -113,7 +113,7 @@ impl<'a, const N: usize> Obj<'a, N> {
         requires from { 1 ≤ i }
         // The number of the field is at most `N`.
         requires to { i ≤ N }
-        ensures { result ≡ entry_at (object_entries self.now) i }
+        ensures { result ≡ entry_word_at_position (object_entries self.now) i }
     {
         if i <= self.entries.len() {
             self.entries.get(i)

@@ -9,7 +9,7 @@ ghost use Rattle.adb_view.specs.Visits.{field_visits, visits, MOST_VALUES};
 ghost use Rattle.adb_view.specs.Adb.{payload_of};
 ghost use Rattle.adb_view.specs.Entries.{array_entries};
 ghost use Rattle.adb_view.specs.Gives.{Gives};
-ghost use Rattle.adb_view.specs.Readers.{run_entries_of_word, OBJECT};
+ghost use Rattle.adb_view.specs.Readers.{run_entries_of_kind_in_payload_at_word, OBJECT};
 ghost use Rattle.adb_view.specs.Head.{root_word_of_payload};
 ghost use Rattle.adb_view.specs.Schema.{table, shape_of, shapes_of, table_number};
 ghost use Rattle.adb_view.specs.Walk.{first_fault_of_numbered_visits, shape_fault};
@@ -38,7 +38,7 @@ use base_core::Cause;
 /// table.
 pub fn object_entries<'a>(adb: Adb<'a>, object: Val) -> Result<Arr<'a>, Cause>
     // The result has the words of the entries, or the cause of the definition.
-    ensures { Gives array_entries result (run_entries_of_word OBJECT
+    ensures { Gives array_entries result (run_entries_of_kind_in_payload_at_word OBJECT
         (payload_of adb.entry) object) }
 {
     Ok(adb.obj::<0>(object)?.entries())

@@ -3,7 +3,7 @@
 //! `docs/formats.md`, "Values".
 
 ghost use Rattle.std.specs.Prelude.{◌≡◌, ◌↔◌, IsTrue, ◌<◌, ◌≤◌, ◌-◌, ◌*◌, ◌/◌, ◌^◌, length, IfSome, slice_index, slice_range};
-ghost use Rattle.adb_view.specs.Readers.{kind_of_word, low_28_bits, length_prefixed_bytes_at, run_entries_at};
+ghost use Rattle.adb_view.specs.Readers.{kind_number_of_word, low_28_bits, length_prefixed_bytes_at, run_entries_at};
 ghost use Rattle.std.specs.Int.{byte_len};
 ghost use Rattle.adb_view.specs.Bytes.{bytes_at_with_len, number_at, words};
 ghost use Rattle.adb_view.specs.Gives.{Finds};
@@ -83,7 +83,7 @@ impl Val {
 
     /// The kind of the word: its top 4 bits.
     pub(crate) fn kind(self) -> u32
-        ensures { result ≡ kind_of_word self }
+        ensures { result ≡ kind_number_of_word self }
     {
         self.word / 0x1000_0000
     }

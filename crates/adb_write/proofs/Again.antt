@@ -8,12 +8,12 @@ use Rattle.std.proofs.lemmas.List.{take_at, drop_at, length-append, length-drop,
 use Rattle.std.proofs.lemmas.Slice.Eq.{bytes_eq-Decides}
 use Rattle.adb_view.specs.Plain.{Plain, null, int, blob, arr, obj, Plains, none, more, IsNormal, AreNormal, count_of}
 use Rattle.adb_view.specs.Readers.{ARRAY, OBJECT}
-use Rattle.adb_write.specs.Canonical.{padding_to_alignment_from_offset, Item, WrittenItem, Cell, in_place, apart, int_item, int_cell, blob_item, blob_cell, run_bytes, run_item, run_cell, words_without_last_nulls, Layout, empty_layout, end_offset, is_equal_item, word_of_written_item, word_and_layout_with_new_item, word_and_layout_with_item_unless_written, word_and_layout_with_item, word_and_layout_with_cell, word_and_layout_with_run, write, write_all, payload_with_root, MOST_BYTES}
+use Rattle.adb_write.specs.Canonical.{padding_to_alignment_from_offset, Item, WrittenItem, Cell, in_place, apart, int_item, int_cell, blob_item, blob_cell, run_bytes, array_or_object_item, array_or_object_cell, words_without_last_nulls, Layout, empty_layout_counting_root, payload_end_offset, is_equal_item, word_of_written_item, word_and_layout_with_new_item, word_and_layout_with_reused_or_new_item, word_and_layout_with_item, word_and_layout_with_cell, word_and_layout_with_array_or_object, write, write_all, payload_with_root_word_in_head, MOST_BYTES}
 use Rattle.adb_write.specs.Again.{len_of_length_field, HasLengthInFront, IsItemInBytes, HasItemsInBytes, item_len_from_front}
 use Rattle.adb_write.specs.Size.{entries_of, entries_of_all, with_value_count_raised}
 use Rattle.adb_write.proofs.Found.{equal_kind, equal_bytes, equal_within}
 use Rattle.adb_write.proofs.Placed.{wide8, wide16, wide32, wide64}
-use Rattle.adb_write.proofs.RoundTrip.{Grows-here, word_and_layout_with_run-grows, write-grows, write_all-grows, write_all-made, words_stay, item_within}
+use Rattle.adb_write.proofs.RoundTrip.{Grows-here, word_and_layout_with_array_or_object-grows, write-grows, write_all-grows, write_all-made, words_stay, item_within}
 use Rattle.adb_write.proofs.StoredWords.{blob_long, run_long}
 use Rattle.adb_write.proofs.Overflow.{entries_in, int_entries, blob_entries, run_entries, words_count}
 
@@ -73,10 +73,10 @@ blob_framed b few =
 run_front : (ws : List ℕ) → suc (length ws) < 2 ^ 32 → from_le_bytes w32 (take 4 (run_bytes ws)) ≡ suc (length ws)
 run_front ws few = ap (from_le_bytes w32) (take_at (to_le_bytes w32 (suc (length ws))) (flat_map (to_le_bytes w32) ws) 4 (wide32.len (suc (length ws)))) ∙ wide32.again (suc (length ws)) few
 
-array_framed : (ws : List ℕ) → suc (length ws) < 2 ^ 32 → HasLengthInFront (run_item ARRAY ws)
+array_framed : (ws : List ℕ) → suc (length ws) < 2 ^ 32 → HasLengthInFront (array_or_object_item ARRAY ws)
 array_framed ws few = record { some = omega (arith, run_long ws); long = omega (arith, run_long ws); len = omega (arith, run_long ws, run_front ws few) }
 
-object_framed : (ws : List ℕ) → suc (length ws) < 2 ^ 32 → HasLengthInFront (run_item OBJECT ws)
+object_framed : (ws : List ℕ) → suc (length ws) < 2 ^ 32 → HasLengthInFront (array_or_object_item OBJECT ws)
 object_framed ws few = record { some = omega (arith, run_long ws); long = omega (arith, run_long ws); len = omega (arith, run_long ws, run_front ws few) }
 
 -- ---- and so is each cell that fits
@@ -88,23 +88,23 @@ int_cell_framed n = go (ltb n (2 ^ 28))
     go true = tt
     go false = int_framed n
 
-pub blob_cell_framed : (b : List ℕ) (out : Layout) → end_offset (word_and_layout_with_cell (blob_cell b) out).1 ≤ MOST_BYTES → IsFramedCell (blob_cell b)
+pub blob_cell_framed : (b : List ℕ) (out : Layout) → payload_end_offset (word_and_layout_with_cell (blob_cell b) out).1 ≤ MOST_BYTES → IsFramedCell (blob_cell b)
 blob_cell_framed [] out fits = tt
 blob_cell_framed (x ∷ xs) out fits =
     let long = blob_long (x ∷ xs) in
     blob_framed (x ∷ xs) (omega (arith, item_within (blob_item (x ∷ xs)) out (omega arith)))
 
-pub array_cell_framed : (ws : List ℕ) (out : Layout) → end_offset (word_and_layout_with_run ARRAY ws out).1 ≤ MOST_BYTES → IsFramedCell (run_cell ARRAY ws)
+pub array_cell_framed : (ws : List ℕ) (out : Layout) → payload_end_offset (word_and_layout_with_array_or_object ARRAY ws out).1 ≤ MOST_BYTES → IsFramedCell (array_or_object_cell ARRAY ws)
 array_cell_framed [] out fits = tt
 array_cell_framed (w ∷ ws) out fits =
     let long = run_long (w ∷ ws) in
-    array_framed (w ∷ ws) (omega (arith, item_within (run_item ARRAY (w ∷ ws)) out (omega arith)))
+    array_framed (w ∷ ws) (omega (arith, item_within (array_or_object_item ARRAY (w ∷ ws)) out (omega arith)))
 
-pub object_cell_framed : (ws : List ℕ) (out : Layout) → end_offset (word_and_layout_with_run OBJECT ws out).1 ≤ MOST_BYTES → IsFramedCell (run_cell OBJECT ws)
+pub object_cell_framed : (ws : List ℕ) (out : Layout) → payload_end_offset (word_and_layout_with_array_or_object OBJECT ws out).1 ≤ MOST_BYTES → IsFramedCell (array_or_object_cell OBJECT ws)
 object_cell_framed [] out fits = tt
 object_cell_framed (w ∷ ws) out fits =
     let long = run_long (w ∷ ws) in
-    object_framed (w ∷ ws) (omega (arith, item_within (run_item OBJECT (w ∷ ws)) out (omega arith)))
+    object_framed (w ∷ ws) (omega (arith, item_within (array_or_object_item OBJECT (w ∷ ws)) out (omega arith)))
 
 -- ---- what a written item is stays the same where more is written
 
@@ -169,18 +169,18 @@ keeps_then a b c p q = record { found = λ i x f e. q.found i x f (p.found i x f
 -- ---- one item more
 
 abbrev added : Item → Layout → List ℕ
-added i out = replicate (padding_to_alignment_from_offset i.align (end_offset out)) 0 ++ i.bytes
+added i out = replicate (padding_to_alignment_from_offset i.align (payload_end_offset out)) 0 ++ i.bytes
 
 abbrev new_item : Item → Layout → WrittenItem
-new_item i out = record { kind = i.kind; offset = length out.body + padding_to_alignment_from_offset i.align (end_offset out) }
+new_item i out = record { kind = i.kind; offset = length out.body + padding_to_alignment_from_offset i.align (payload_end_offset out) }
 
 new_equal : (i : Item) (out : Layout) → is_equal_item (out.body ++ added i out) i (new_item i out) ≡ true
 new_equal i out =
-    let zeros : List ℕ = replicate (padding_to_alignment_from_offset i.align (end_offset out)) 0 in
-    let at : length (out.body ++ zeros) ≡ length out.body + padding_to_alignment_from_offset i.align (end_offset out) = omega (arith, length-append out.body zeros, length-replicate {A = ℕ} (padding_to_alignment_from_offset i.align (end_offset out)) 0) in
+    let zeros : List ℕ = replicate (padding_to_alignment_from_offset i.align (payload_end_offset out)) 0 in
+    let at : length (out.body ++ zeros) ≡ length out.body + padding_to_alignment_from_offset i.align (payload_end_offset out) = omega (arith, length-append out.body zeros, length-replicate {A = ℕ} (padding_to_alignment_from_offset i.align (payload_end_offset out)) 0) in
     is_equal (out.body ++ added i out) i (new_item i out) refl
-    (ap (λ (x : List ℕ). take (length i.bytes) (drop (length out.body + padding_to_alignment_from_offset i.align (end_offset out)) x)) (sym (append_assoc out.body zeros i.bytes))
-    ∙ ap (take (length i.bytes)) (drop_at (out.body ++ zeros) i.bytes (length out.body + padding_to_alignment_from_offset i.align (end_offset out)) at) ∙ take_all (length i.bytes) i.bytes (omega arith))
+    (ap (λ (x : List ℕ). take (length i.bytes) (drop (length out.body + padding_to_alignment_from_offset i.align (payload_end_offset out)) x)) (sym (append_assoc out.body zeros i.bytes))
+    ∙ ap (take (length i.bytes)) (drop_at (out.body ++ zeros) i.bytes (length out.body + padding_to_alignment_from_offset i.align (payload_end_offset out)) at) ∙ take_all (length i.bytes) i.bytes (omega arith))
 
 new_whole : (i : Item) (out : Layout) → HasLengthInFront i → HasItemsInBytes out → HasItemsInBytes (word_and_layout_with_new_item i out).1
 new_whole i out f w = record {
@@ -211,7 +211,7 @@ pub record Stays (out later : Layout) : Type 0 where
 put_item_stays : (i : Item) (out : Layout) → HasLengthInFront i → HasItemsInBytes out → Stays out (word_and_layout_with_item i out).1
 put_item_stays i out f w = go (find (is_equal_item out.body i) out.items) refl
   where
-    go : (found : Option WrittenItem) → find (is_equal_item out.body i) out.items ≡ found → Stays out (word_and_layout_with_item_unless_written found i out).1
+    go : (found : Option WrittenItem) → find (is_equal_item out.body i) out.items ≡ found → Stays out (word_and_layout_with_reused_or_new_item found i out).1
     go None e = record { whole = new_whole i out f w; keeps = new_keeps i out f w e }
     go (Some there) e = record { whole = record { all = w.all }; keeps = record { found = λ j x g h. h } }
 
@@ -228,7 +228,7 @@ pub record IsFoundAgain (i : Item) (r : ℕ × Layout) : Type 0 where
 pub put_item_found : (i : Item) (out : Layout) → IsFoundAgain i (word_and_layout_with_item i out)
 put_item_found i out = go (find (is_equal_item out.body i) out.items) refl
   where
-    go : (found : Option WrittenItem) → find (is_equal_item out.body i) out.items ≡ found → IsFoundAgain i (word_and_layout_with_item_unless_written found i out)
+    go : (found : Option WrittenItem) → find (is_equal_item out.body i) out.items ≡ found → IsFoundAgain i (word_and_layout_with_reused_or_new_item found i out)
     go None e =
         let t = new_equal i out in
         record { item = new_item i out; is = ap (λ (b : Bool). cond b (Some (new_item i out)) (find (is_equal_item (out.body ++ added i out) i) out.items)) t; word = omega arith }
@@ -246,7 +246,7 @@ cell_again : (c : Cell) (out later : Layout) → IsFramedCell c → Keeps (word_
 cell_again (in_place word) out later f k = ap (λ (l : Layout). (word, l)) (with_none later)
 cell_again (apart i) out later f k =
     let found = put_item_found i out in
-    ap (λ (o : Option WrittenItem). word_and_layout_with_item_unless_written o i later) (k.found i found.item f found.is) ∙ ap (λ (word : ℕ). (word, with_value_count_raised i.entries later)) found.word
+    ap (λ (o : Option WrittenItem). word_and_layout_with_reused_or_new_item o i later) (k.found i found.item f found.is) ∙ ap (λ (word : ℕ). (word, with_value_count_raised i.entries later)) found.word
 
 -- the entries of a cell, as a value counts them
 cell_counts : (c : Cell) (out later : Layout) (n : ℕ) → entries_in c ≡ n → IsFramedCell c → Keeps (word_and_layout_with_cell c out).1 later → word_and_layout_with_cell c later ≡ ((word_and_layout_with_cell c out).0, with_value_count_raised n later)
@@ -255,22 +255,22 @@ cell_counts c out later n e f k = cell_again c out later f k ∙ ap (λ (m : ℕ
 mutual
   unfolding write
 
-  write_stays : (v : Plain) (out : Layout) → HasItemsInBytes out → end_offset (write v out).1 ≤ MOST_BYTES → Stays out (write v out).1
+  write_stays : (v : Plain) (out : Layout) → HasItemsInBytes out → payload_end_offset (write v out).1 ≤ MOST_BYTES → Stays out (write v out).1
   write_stays null out w fits = record { whole = w; keeps = keeps_itself out }
   write_stays (int n) out w fits = put_cell_stays (int_cell n) out (int_cell_framed n) w
   write_stays (blob b) out w fits = put_cell_stays (blob_cell b) out (blob_cell_framed b out fits) w
   write_stays (arr vs) out w fits =
       let r = write_all vs out in
-      let s = write_all_stays vs out w (le_trans (Grows-here _ _ (word_and_layout_with_run-grows ARRAY r.0 r.1)) fits) in
-      let t = put_cell_stays (run_cell ARRAY r.0) r.1 (array_cell_framed r.0 r.1 fits) s.whole in
-      record { whole = t.whole; keeps = keeps_then out r.1 (word_and_layout_with_run ARRAY r.0 r.1).1 s.keeps t.keeps }
+      let s = write_all_stays vs out w (le_trans (Grows-here _ _ (word_and_layout_with_array_or_object-grows ARRAY r.0 r.1)) fits) in
+      let t = put_cell_stays (array_or_object_cell ARRAY r.0) r.1 (array_cell_framed r.0 r.1 fits) s.whole in
+      record { whole = t.whole; keeps = keeps_then out r.1 (word_and_layout_with_array_or_object ARRAY r.0 r.1).1 s.keeps t.keeps }
   write_stays (obj vs) out w fits =
       let r = write_all vs out in
-      let s = write_all_stays vs out w (le_trans (Grows-here _ _ (word_and_layout_with_run-grows OBJECT (words_without_last_nulls r.0) r.1)) fits) in
-      let t = put_cell_stays (run_cell OBJECT (words_without_last_nulls r.0)) r.1 (object_cell_framed (words_without_last_nulls r.0) r.1 fits) s.whole in
-      record { whole = t.whole; keeps = keeps_then out r.1 (word_and_layout_with_run OBJECT (words_without_last_nulls r.0) r.1).1 s.keeps t.keeps }
+      let s = write_all_stays vs out w (le_trans (Grows-here _ _ (word_and_layout_with_array_or_object-grows OBJECT (words_without_last_nulls r.0) r.1)) fits) in
+      let t = put_cell_stays (array_or_object_cell OBJECT (words_without_last_nulls r.0)) r.1 (object_cell_framed (words_without_last_nulls r.0) r.1 fits) s.whole in
+      record { whole = t.whole; keeps = keeps_then out r.1 (word_and_layout_with_array_or_object OBJECT (words_without_last_nulls r.0) r.1).1 s.keeps t.keeps }
 
-  write_all_stays : (vs : Plains) (out : Layout) → HasItemsInBytes out → end_offset (write_all vs out).1 ≤ MOST_BYTES → Stays out (write_all vs out).1
+  write_all_stays : (vs : Plains) (out : Layout) → HasItemsInBytes out → payload_end_offset (write_all vs out).1 ≤ MOST_BYTES → Stays out (write_all vs out).1
   write_all_stays none out w fits = record { whole = w; keeps = keeps_itself out }
   write_all_stays (more v vs) out w fits =
       let s = write_stays v out w (le_trans (Grows-here _ _ (write_all-grows vs (write v out).1)) fits) in
@@ -280,36 +280,36 @@ mutual
 mutual
   unfolding write IsNormal entries_of
 
-  write_again : (v : Plain) (out later : Layout) → IsNormal v → HasItemsInBytes out → end_offset (write v out).1 ≤ MOST_BYTES → Keeps (write v out).1 later → write v later ≡ ((write v out).0, with_value_count_raised (entries_of v) later)
+  write_again : (v : Plain) (out later : Layout) → IsNormal v → HasItemsInBytes out → payload_end_offset (write v out).1 ≤ MOST_BYTES → Keeps (write v out).1 later → write v later ≡ ((write v out).0, with_value_count_raised (entries_of v) later)
   write_again null out later n w fits k = ap (λ (l : Layout). (0, l)) (with_none later)
   write_again (int m) out later n w fits k = cell_counts (int_cell m) out later 0 (int_entries m) (int_cell_framed m) k
   write_again (blob b) out later n w fits k = cell_counts (blob_cell b) out later 0 (blob_entries b) (blob_cell_framed b out fits) k
   write_again (arr vs) out later n w fits k =
       let r = write_all vs out in
-      let within = le_trans (Grows-here _ _ (word_and_layout_with_run-grows ARRAY r.0 r.1)) fits in
+      let within = le_trans (Grows-here _ _ (word_and_layout_with_array_or_object-grows ARRAY r.0 r.1)) fits in
       let s = write_all_stays vs out w within in
       let f = array_cell_framed r.0 r.1 fits in
-      let t = put_cell_stays (run_cell ARRAY r.0) r.1 f s.whole in
-      let all = write_all_again vs out later n.1 w within (keeps_then r.1 (word_and_layout_with_run ARRAY r.0 r.1).1 later t.keeps k) in
+      let t = put_cell_stays (array_or_object_cell ARRAY r.0) r.1 f s.whole in
+      let all = write_all_again vs out later n.1 w within (keeps_then r.1 (word_and_layout_with_array_or_object ARRAY r.0 r.1).1 later t.keeps k) in
       let further : Layout = with_value_count_raised (entries_of_all vs) later in
-      ap (λ (q : List ℕ × Layout). word_and_layout_with_run ARRAY q.0 q.1) all
-      ∙ cell_counts (run_cell ARRAY r.0) r.1 further (count_of vs) (run_entries ARRAY r.0 ∙ words_count vs out) f (record { found = k.found })
-      ∙ ap (λ (l : Layout). ((word_and_layout_with_run ARRAY r.0 r.1).0, l)) (with_both (entries_of_all vs) (count_of vs) later)
+      ap (λ (q : List ℕ × Layout). word_and_layout_with_array_or_object ARRAY q.0 q.1) all
+      ∙ cell_counts (array_or_object_cell ARRAY r.0) r.1 further (count_of vs) (run_entries ARRAY r.0 ∙ words_count vs out) f (record { found = k.found })
+      ∙ ap (λ (l : Layout). ((word_and_layout_with_array_or_object ARRAY r.0 r.1).0, l)) (with_both (entries_of_all vs) (count_of vs) later)
   write_again (obj vs) out later n w fits k =
       let r = write_all vs out in
-      let within = le_trans (Grows-here _ _ (word_and_layout_with_run-grows OBJECT (words_without_last_nulls r.0) r.1)) fits in
+      let within = le_trans (Grows-here _ _ (word_and_layout_with_array_or_object-grows OBJECT (words_without_last_nulls r.0) r.1)) fits in
       let s = write_all_stays vs out w within in
       let made = write_all-made vs out n.2 within in
-      let stay : words_without_last_nulls r.0 ≡ r.0 = words_stay (payload_with_root 0 r.1) vs r.0 n.1 (made.0 0) in
+      let stay : words_without_last_nulls r.0 ≡ r.0 = words_stay (payload_with_root_word_in_head 0 r.1) vs r.0 n.1 (made.0 0) in
       let f = object_cell_framed (words_without_last_nulls r.0) r.1 fits in
-      let t = put_cell_stays (run_cell OBJECT (words_without_last_nulls r.0)) r.1 f s.whole in
-      let all = write_all_again vs out later n.2 w within (keeps_then r.1 (word_and_layout_with_run OBJECT (words_without_last_nulls r.0) r.1).1 later t.keeps k) in
+      let t = put_cell_stays (array_or_object_cell OBJECT (words_without_last_nulls r.0)) r.1 f s.whole in
+      let all = write_all_again vs out later n.2 w within (keeps_then r.1 (word_and_layout_with_array_or_object OBJECT (words_without_last_nulls r.0) r.1).1 later t.keeps k) in
       let further : Layout = with_value_count_raised (entries_of_all vs) later in
-      ap (λ (q : List ℕ × Layout). word_and_layout_with_run OBJECT (words_without_last_nulls q.0) q.1) all
-      ∙ cell_counts (run_cell OBJECT (words_without_last_nulls r.0)) r.1 further (count_of vs) (run_entries OBJECT (words_without_last_nulls r.0) ∙ ap length stay ∙ words_count vs out) f (record { found = k.found })
-      ∙ ap (λ (l : Layout). ((word_and_layout_with_run OBJECT (words_without_last_nulls r.0) r.1).0, l)) (with_both (entries_of_all vs) (count_of vs) later)
+      ap (λ (q : List ℕ × Layout). word_and_layout_with_array_or_object OBJECT (words_without_last_nulls q.0) q.1) all
+      ∙ cell_counts (array_or_object_cell OBJECT (words_without_last_nulls r.0)) r.1 further (count_of vs) (run_entries OBJECT (words_without_last_nulls r.0) ∙ ap length stay ∙ words_count vs out) f (record { found = k.found })
+      ∙ ap (λ (l : Layout). ((word_and_layout_with_array_or_object OBJECT (words_without_last_nulls r.0) r.1).0, l)) (with_both (entries_of_all vs) (count_of vs) later)
 
-  write_all_again : (vs : Plains) (out later : Layout) → AreNormal vs → HasItemsInBytes out → end_offset (write_all vs out).1 ≤ MOST_BYTES → Keeps (write_all vs out).1 later → write_all vs later ≡ ((write_all vs out).0, with_value_count_raised (entries_of_all vs) later)
+  write_all_again : (vs : Plains) (out later : Layout) → AreNormal vs → HasItemsInBytes out → payload_end_offset (write_all vs out).1 ≤ MOST_BYTES → Keeps (write_all vs out).1 later → write_all vs later ≡ ((write_all vs out).0, with_value_count_raised (entries_of_all vs) later)
   write_all_again none out later n w fits k = ap (λ (l : Layout). ([], l)) (with_none later)
   write_all_again (more v vs) out later n w fits k =
       let within = le_trans (Grows-here _ _ (write_all-grows vs (write v out).1)) fits in
@@ -324,17 +324,17 @@ mutual
 
 -- ---- the law
 
-pub nothing_whole : HasItemsInBytes empty_layout
+pub nothing_whole : HasItemsInBytes empty_layout_counting_root
 nothing_whole = record { all = tt }
 
-pub stored_once : (before v since : Plain) → IsNormal v → end_offset (write since (write v (write before empty_layout).1).1).1 ≤ MOST_BYTES
-    → write v (write since (write v (write before empty_layout).1).1).1 ≡ ((write v (write before empty_layout).1).0, with_value_count_raised (entries_of v) (write since (write v (write before empty_layout).1).1).1)
+pub stored_once : (before v since : Plain) → IsNormal v → payload_end_offset (write since (write v (write before empty_layout_counting_root).1).1).1 ≤ MOST_BYTES
+    → write v (write since (write v (write before empty_layout_counting_root).1).1).1 ≡ ((write v (write before empty_layout_counting_root).1).0, with_value_count_raised (entries_of v) (write since (write v (write before empty_layout_counting_root).1).1).1)
 stored_once before v since n fits =
-    let a : Layout = (write before empty_layout).1 in
+    let a : Layout = (write before empty_layout_counting_root).1 in
     let b : Layout = (write v a).1 in
-    let fits_b : end_offset b ≤ MOST_BYTES = le_trans (Grows-here _ _ (write-grows since b)) fits in
-    let fits_a : end_offset a ≤ MOST_BYTES = le_trans (Grows-here _ _ (write-grows v a)) fits_b in
-    let s = write_stays before empty_layout nothing_whole fits_a in
+    let fits_b : payload_end_offset b ≤ MOST_BYTES = le_trans (Grows-here _ _ (write-grows since b)) fits in
+    let fits_a : payload_end_offset a ≤ MOST_BYTES = le_trans (Grows-here _ _ (write-grows v a)) fits_b in
+    let s = write_stays before empty_layout_counting_root nothing_whole fits_a in
     let t = write_stays v a s.whole fits_b in
     let u = write_stays since b t.whole fits in
     write_again v a (write since b).1 n s.whole fits_b u.keeps

@@ -2,7 +2,7 @@
 use Rattle.std.proofs.Common.{◌≡◌, ℕ, ◌+◌, ◌-◌, ◌*◌, ◌^◌, ◌<◌, ◌≤◌, List, [], ◌∷◌, ◌++◌, length, take, drop, replicate, refl, sym, ap, subst, ◌∙◌, append_assoc, arith}
 use Rattle.std.specs.List.{concat}
 use Rattle.std.proofs.lemmas.List.{append-nil, length-append, length-replicate, length-drop, drop-drop, drop_at, take_at}
-use Rattle.adb_view.specs.Readers.{kind_of_word, low_28_bits}
+use Rattle.adb_view.specs.Readers.{kind_number_of_word, low_28_bits}
 use Rattle.adb_write.specs.Canonical.{padding_to_alignment_from_offset, Item, WrittenItem, MOST_BYTES}
 use Rattle.adb_write.specs.Items.{item_of, HasNumbersInRange}
 use Rattle.adb_write.specs.declared.item.Parts.{Parts}
@@ -52,7 +52,7 @@ appended p new pages new_pages parts slot bytes g w head agree gap_is rising sto
     let behind : List ℕ = locators_from_slot pages slot.page slot.index in
     let whole : before ++ behind ≡ concat pages = parts_at pages slot.page slot.index in
     let at : bytes + g < 2 ^ 28 = omega arith in
-    let kind : kind_of_word (word_of_locator w) ≡ i.kind = ap kind_of_word word_is ∙ word_kind i.kind (bytes + g) at in
+    let kind : kind_number_of_word (word_of_locator w) ≡ i.kind = ap kind_number_of_word word_is ∙ word_kind i.kind (bytes + g) at in
     let low : low_28_bits (word_of_locator w) ≡ bytes + g = ap low_28_bits word_is ∙ word_low i.kind (bytes + g) at in
     let behind_head : 8 ≤ low_28_bits (word_of_locator w) = omega arith in
     let h : Grown p (p ++ q) g i.bytes = grown p bytes g i.bytes head agree in
@@ -60,7 +60,7 @@ appended p new pages new_pages parts slot bytes g w head agree gap_is rising sto
     let small = parts_small parts room (omega arith) in
     let old_stored : AreStored p (before ++ behind) = subst (AreStored p) (sym whole) stored in
     let old_rising : HaveRisingKeys p (before ++ behind) = subst (HaveRisingKeys p) (sym whole) rising in
-    let first : written_item w ≡ written_at i (drop 8 p) = same_item (kind_of_word (word_of_locator w)) i.kind (low_28_bits (word_of_locator w) - 8) (length (drop 8 p) + padding_to_alignment_from_offset i.align (8 + length (drop 8 p))) kind (omega (arith, ap (padding_to_alignment_from_offset i.align) agree)) in
+    let first : written_item w ≡ written_at i (drop 8 p) = same_item (kind_number_of_word (word_of_locator w)) i.kind (low_28_bits (word_of_locator w) - 8) (length (drop 8 p) + padding_to_alignment_from_offset i.align (8 + length (drop 8 p))) kind (omega (arith, ap (padding_to_alignment_from_offset i.align) agree)) in
     record {
       rising = subst (λ (x : List ℕ). HaveRisingKeys x (concat new_pages)) (sym new_is) (subst (HaveRisingKeys (p ++ q)) (sym words_are) (rising_new p q (key_of parts) w before behind old_stored old_rising (parts_key (p ++ q) w parts small print kind behind_head there) between.lower between.higher));
       stored = subst (λ (x : List ℕ). AreStored x (concat new_pages)) (sym new_is) (subst (AreStored (p ++ q)) (sym words_are) (stored_with p q w before behind old_stored (parts_stored (p ++ q) w parts small print kind behind_head there)));

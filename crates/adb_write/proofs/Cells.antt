@@ -4,7 +4,7 @@ use Rattle.std.specs.List.{flat_map}
 use Rattle.std.specs.Int.{w8, w16, w32, w64, to_le_bytes}
 use Rattle.std.proofs.lemmas.Bool.{le-ltb, ne_eqb}
 use Rattle.std.proofs.lemmas.List.{take_more}
-use Rattle.adb_write.specs.Canonical.{Item, apart, int_item, int_cell, blob_item, blob_cell, run_item, run_bytes, run_cell, prepend_unless_last_null, words_without_last_nulls}
+use Rattle.adb_write.specs.Canonical.{Item, apart, int_item, int_cell, blob_item, blob_cell, array_or_object_item, run_bytes, array_or_object_cell, prepend_unless_last_null, words_without_last_nulls}
 
 -- ---- the number in an item's front, and what follows it
 
@@ -19,7 +19,7 @@ pub blob_filled : (b : List ℕ) → eqb (length b) 0 ≡ false → apart (blob_
 blob_filled [] some = absurd cc
 blob_filled (x ∷ xs) some = refl
 
-pub run_is : (kind : ℕ) (ws : List ℕ) → 0 < length ws → apart (run_item kind ws) ≡ run_cell kind ws
+pub run_is : (kind : ℕ) (ws : List ℕ) → 0 < length ws → apart (array_or_object_item kind ws) ≡ array_or_object_cell kind ws
 run_is kind [] some = absurd (omega arith)
 run_is kind (w ∷ ws) some = refl
 

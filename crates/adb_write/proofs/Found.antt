@@ -6,7 +6,7 @@ use Rattle.std.specs.Int.{w32, to_le_bytes}
 use Rattle.std.proofs.lemmas.Bool.{eqb-true, and_parts}
 use Rattle.std.proofs.lemmas.List.{length-take, length-drop, drop-drop, drop_at}
 use Rattle.std.proofs.lemmas.Slice.Eq.{bytes_eq-Decides}
-use Rattle.adb_write.specs.Canonical.{Item, WrittenItem, Layout, is_equal_item, payload_with_root}
+use Rattle.adb_write.specs.Canonical.{Item, WrittenItem, Layout, is_equal_item, payload_with_root_word_in_head}
 use Rattle.adb_write.proofs.Placed.{Stands}
 
 -- what is found passes the test
@@ -39,11 +39,11 @@ pub equal_within : (body : List ℕ) (at : ℕ) (bytes : List ℕ) → 0 < lengt
 equal_within body at bytes some e = omega (arith, ap length e, length-take (length bytes) (drop at body), length-drop at body)
 
 pub equal_stands : (out : Layout) (i : Item) (there : WrittenItem) (root : ℕ) → 0 < length i.bytes → is_equal_item out.body i there ≡ true
-    → Stands (payload_with_root root out) (8 + there.offset) (i.bytes ++ drop (length i.bytes) (drop there.offset out.body))
+    → Stands (payload_with_root_word_in_head root out) (8 + there.offset) (i.bytes ++ drop (length i.bytes) (drop there.offset out.body))
 equal_stands out i there root some e =
     let bytes = equal_bytes out.body i there e in
     let within = equal_within out.body there.offset i.bytes some bytes in
     record {
       inside = omega arith;
-      is = sym (drop-drop there.offset 8 (payload_with_root root out)) ∙ ap (drop there.offset) (drop_at (0 ∷ 0 ∷ 0 ∷ 0 ∷ to_le_bytes w32 root) out.body 8 refl) ∙ sym (take-append-drop (length i.bytes) (drop there.offset out.body)) ∙ ap (λ (x : List ℕ). x ++ drop (length i.bytes) (drop there.offset out.body)) bytes;
+      is = sym (drop-drop there.offset 8 (payload_with_root_word_in_head root out)) ∙ ap (drop there.offset) (drop_at (0 ∷ 0 ∷ 0 ∷ 0 ∷ to_le_bytes w32 root) out.body 8 refl) ∙ sym (take-append-drop (length i.bytes) (drop there.offset out.body)) ∙ ap (λ (x : List ℕ). x ++ drop (length i.bytes) (drop there.offset out.body)) bytes;
     }

@@ -2,8 +2,8 @@
 use Rattle.std.proofs.Common.{◌≡◌, ℕ, ◌+◌, ◌<◌, ◌≤◌, Bool, true, false, cond, List, [], ◌∷◌, ◌++◌, length, replicate, Option, Some, None, refl, sym, ap, subst, ◌∙◌, length-append, arith}
 use Rattle.std.specs.Prelude.{find}
 use Rattle.adb_view.specs.Readers.{ARRAY, OBJECT}
-use Rattle.adb_write.specs.Canonical.{padding_to_alignment_from_offset, Item, WrittenItem, Cell, in_place, apart, int_cell, blob_item, blob_cell, run_cell, words_without_last_nulls, Layout, end_offset, is_equal_item, word_of_written_item, word_and_layout_with_item_unless_written, word_and_layout_with_item, layout_counts, exceeds_a_limit, MOST_BYTES}
-use Rattle.adb_write.specs.Writing.{Writing, empty_writing, writing_from_parts, is_past_limit, layout_of, writing_of, unless_past_limit, call, int_call, blob_call, arr_call, obj_call}
+use Rattle.adb_write.specs.Canonical.{padding_to_alignment_from_offset, Item, WrittenItem, Cell, in_place, apart, int_cell, blob_item, blob_cell, array_or_object_cell, words_without_last_nulls, Layout, payload_end_offset, is_equal_item, word_of_written_item, word_and_layout_with_reused_or_new_item, word_and_layout_with_item, layout_counts, exceeds_a_limit, MOST_BYTES}
+use Rattle.adb_write.specs.Writing.{Writing, empty_writing_counting_root, writing_from_parts, is_past_limit, layout_of, writing_of, unless_past_limit, call, int_call, blob_call, arr_call, obj_call}
 use Rattle.adb_write.specs.Again.{HasAllItemsUnlessPastLimit, HasLengthInFront, HasItemsInBytes, HasAllItemsInBytes, IsWordOfBlob}
 use Rattle.adb_write.proofs.Again.{array_cell_framed, blob_cell_framed, blob_framed, int_cell_framed, IsFoundAgain, IsFramedCell, Keeps, nothing_whole, object_cell_framed, put_cell_stays, put_item_found}
 use Rattle.adb_write.proofs.AnyOrder.{call_stored, fits_of}
@@ -48,20 +48,20 @@ blob_is_framed : (b : List ℕ) (w : Writing) → is_past_limit (blob_call b w).
 blob_is_framed [] w o = tt
 blob_is_framed (x ∷ xs) w o = blob_cell_framed (x ∷ xs) (layout_of w) (call_stored (blob_cell (x ∷ xs)) w o).fits
 
-array_is_framed : (ws : List ℕ) (w : Writing) → is_past_limit (call (run_cell ARRAY ws) w).1 ≡ false → IsFramedCell (run_cell ARRAY ws)
+array_is_framed : (ws : List ℕ) (w : Writing) → is_past_limit (call (array_or_object_cell ARRAY ws) w).1 ≡ false → IsFramedCell (array_or_object_cell ARRAY ws)
 array_is_framed [] w o = tt
-array_is_framed (x ∷ xs) w o = array_cell_framed (x ∷ xs) (layout_of w) (call_stored (run_cell ARRAY (x ∷ xs)) w o).fits
+array_is_framed (x ∷ xs) w o = array_cell_framed (x ∷ xs) (layout_of w) (call_stored (array_or_object_cell ARRAY (x ∷ xs)) w o).fits
 
-object_is_framed : (ws : List ℕ) (w : Writing) → is_past_limit (call (run_cell OBJECT ws) w).1 ≡ false → IsFramedCell (run_cell OBJECT ws)
+object_is_framed : (ws : List ℕ) (w : Writing) → is_past_limit (call (array_or_object_cell OBJECT ws) w).1 ≡ false → IsFramedCell (array_or_object_cell OBJECT ws)
 object_is_framed [] w o = tt
-object_is_framed (x ∷ xs) w o = object_cell_framed (x ∷ xs) (layout_of w) (call_stored (run_cell OBJECT (x ∷ xs)) w o).fits
+object_is_framed (x ∷ xs) w o = object_cell_framed (x ∷ xs) (layout_of w) (call_stored (array_or_object_cell OBJECT (x ∷ xs)) w o).fits
 
 -- ---- an item that is found is written again for nothing
 
 found_call : (i : Item) (there : WrittenItem) (w : Writing) → HasAllItemsInBytes w → is_past_limit w ≡ false → i.entries ≡ 0 → find (is_equal_item w.body i) w.items ≡ Some there → ◌≡◌ {A = ℕ × Writing} (call (apart i) w) (word_of_written_item there, w)
 unfolding call
 found_call i there w g o none found =
-    let put : ◌≡◌ {A = ℕ × Layout} (word_and_layout_with_item i (layout_of w)) (word_of_written_item there, record (layout_of w) { values = w.values + i.entries }) = ap (λ (f : Option WrittenItem). word_and_layout_with_item_unless_written f i (layout_of w)) found in
+    let put : ◌≡◌ {A = ℕ × Layout} (word_and_layout_with_item i (layout_of w)) (word_of_written_item there, record (layout_of w) { values = w.values + i.entries }) = ap (λ (f : Option WrittenItem). word_and_layout_with_reused_or_new_item f i (layout_of w)) found in
     let same : w.values + i.entries ≡ w.values = omega (arith, none) in
     let again : ◌≡◌ {A = ℕ × Layout} (word_and_layout_with_item i (layout_of w)) (word_of_written_item there, layout_of w) = put ∙ ap (λ (n : ℕ). (word_of_written_item there, record (layout_of w) { values = n })) same in
     let fine : exceeds_a_limit (8 + length w.body, w.values) ≡ false = ap (λ (n : ℕ). exceeds_a_limit (n, w.values)) (sym g.bytes) ∙ o in
@@ -76,14 +76,14 @@ call_step i w o = rw o refl
 -- an item that is not found changes the writer
 new_call : (i : Item) (w : Writing) (word : ℕ) → is_past_limit w ≡ false → 0 < length i.bytes → find (is_equal_item w.body i) w.items ≡ None → ◌≡◌ {A = ℕ × Writing} (call (apart i) w) (word, w) → ⊥
 new_call i w word o some absent e =
-    let put : ◌≡◌ {A = ℕ × Layout} (word_and_layout_with_item i (layout_of w)) (word_and_layout_with_item_unless_written None i (layout_of w)) = ap (λ (f : Option WrittenItem). word_and_layout_with_item_unless_written f i (layout_of w)) absent in
-    go (exceeds_a_limit (layout_counts (word_and_layout_with_item_unless_written None i (layout_of w)).1)) refl (sym (ap (unless_past_limit w) put) ∙ sym (call_step i w o) ∙ e)
+    let put : ◌≡◌ {A = ℕ × Layout} (word_and_layout_with_item i (layout_of w)) (word_and_layout_with_reused_or_new_item None i (layout_of w)) = ap (λ (f : Option WrittenItem). word_and_layout_with_reused_or_new_item f i (layout_of w)) absent in
+    go (exceeds_a_limit (layout_counts (word_and_layout_with_reused_or_new_item None i (layout_of w)).1)) refl (sym (ap (unless_past_limit w) put) ∙ sym (call_step i w o) ∙ e)
   where
-    go : (b : Bool) → exceeds_a_limit (layout_counts (word_and_layout_with_item_unless_written None i (layout_of w)).1) ≡ b
-        → ◌≡◌ {A = ℕ × Writing} (cond {A = ℕ × Writing} b (0, record (writing_of (word_and_layout_with_item_unless_written None i (layout_of w)).1) { body = w.body; items = w.items }) ((word_and_layout_with_item_unless_written None i (layout_of w)).0, writing_of (word_and_layout_with_item_unless_written None i (layout_of w)).1)) (word, w) → ⊥
+    go : (b : Bool) → exceeds_a_limit (layout_counts (word_and_layout_with_reused_or_new_item None i (layout_of w)).1) ≡ b
+        → ◌≡◌ {A = ℕ × Writing} (cond {A = ℕ × Writing} b (0, record (writing_of (word_and_layout_with_reused_or_new_item None i (layout_of w)).1) { body = w.body; items = w.items }) ((word_and_layout_with_reused_or_new_item None i (layout_of w)).0, writing_of (word_and_layout_with_reused_or_new_item None i (layout_of w)).1)) (word, w) → ⊥
     go true q f = let over : true ≡ is_past_limit w = sym q ∙ ap (λ (r : ℕ × Writing). is_past_limit r.1) f in absurd cc
     go false q f =
-        let zeros : List ℕ = replicate (padding_to_alignment_from_offset i.align (end_offset (layout_of w))) 0 in
+        let zeros : List ℕ = replicate (padding_to_alignment_from_offset i.align (payload_end_offset (layout_of w))) 0 in
         let len : length (w.body ++ (zeros ++ i.bytes)) ≡ length w.body = ap (λ (r : ℕ × Writing). length r.1.body) f in
         absurd (omega (arith, len, some, length-append w.body (zeros ++ i.bytes), length-append zeros i.bytes))
 
@@ -142,12 +142,12 @@ pub blob_keeps : (b : List ℕ) (w : Writing) → HasAllItemsUnlessPastLimit w �
 blob_keeps b w h = kept (blob_cell b) w (blob_is_framed b w) h
 
 pub arr_keeps : (ws : List ℕ) (w : Writing) → HasAllItemsUnlessPastLimit w → LeavesWords w (arr_call ws w).1
-arr_keeps ws w h = kept (run_cell ARRAY ws) w (array_is_framed ws w) h
+arr_keeps ws w h = kept (array_or_object_cell ARRAY ws) w (array_is_framed ws w) h
 
 pub obj_keeps : (ws : List ℕ) (w : Writing) → HasAllItemsUnlessPastLimit w → LeavesWords w (obj_call ws w).1
-obj_keeps ws w h = kept (run_cell OBJECT (words_without_last_nulls ws)) w (object_is_framed (words_without_last_nulls ws) w) h
+obj_keeps ws w h = kept (array_or_object_cell OBJECT (words_without_last_nulls ws)) w (object_is_framed (words_without_last_nulls ws) w) h
 
-pub empty_whole : HasAllItemsUnlessPastLimit empty_writing
+pub empty_whole : HasAllItemsUnlessPastLimit empty_writing_counting_root
 empty_whole o = record { whole = nothing_whole; bytes = refl }
 
 -- the answer is the blob's word from then on

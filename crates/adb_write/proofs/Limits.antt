@@ -4,8 +4,8 @@ use Rattle.std.proofs.Common.{◌≡◌, ℕ, Bool, true, false, cond, List, [],
 use Rattle.std.specs.Prelude.{find}
 use Rattle.adb_view.specs.Plain.{Plain, null, int, blob, arr, obj, Plains, none, more}
 use Rattle.adb_view.specs.Readers.{ARRAY, OBJECT}
-use Rattle.adb_write.specs.Canonical.{Cell, in_place, apart, int_cell, blob_cell, run_cell, words_without_last_nulls, Layout, empty_layout, word_and_layout_with_cell, word_and_layout_with_run, write, write_all, payload_with_root, canonical, ByteAndValueCounts, layout_counts, exceeds_a_limit, counts_after_values, trace_all, overflow_of, payload_unless_overflow, payload_or_overflow}
-use Rattle.adb_write.specs.Writing.{Writing, empty_writing, writing_counts, is_past_limit, writing_of, call, finish_result, calls, calls_all}
+use Rattle.adb_write.specs.Canonical.{Cell, in_place, apart, int_cell, blob_cell, array_or_object_cell, words_without_last_nulls, Layout, empty_layout_counting_root, word_and_layout_with_cell, word_and_layout_with_array_or_object, write, write_all, payload_with_root_word_in_head, canonical, ByteAndValueCounts, layout_counts, exceeds_a_limit, counts_after_values, trace_all, counts_at_first_overflow, payload_unless_overflow, payload_or_counts_at_overflow}
+use Rattle.adb_write.specs.Writing.{Writing, empty_writing_counting_root, writing_counts, is_past_limit, writing_of, call, finish_result, calls, calls_all}
 
 find-none : (xs ys : List ByteAndValueCounts) → find exceeds_a_limit xs ≡ None → find exceeds_a_limit (xs ++ ys) ≡ find exceeds_a_limit ys
 find-none [] ys e = refl
@@ -39,10 +39,10 @@ mutual
   calls-over (blob b) w o = ap (λ (r : ℕ × Writing). r.1) (call-over (blob_cell b) w o)
   calls-over (arr vs) w o =
       let s = calls_all-over vs w o in
-      ap (λ (r : ℕ × Writing). r.1) (call-over (run_cell ARRAY (calls_all vs w).0) (calls_all vs w).1 (rw s o)) ∙ s
+      ap (λ (r : ℕ × Writing). r.1) (call-over (array_or_object_cell ARRAY (calls_all vs w).0) (calls_all vs w).1 (rw s o)) ∙ s
   calls-over (obj vs) w o =
       let s = calls_all-over vs w o in
-      ap (λ (r : ℕ × Writing). r.1) (call-over (run_cell OBJECT (words_without_last_nulls (calls_all vs w).0)) (calls_all vs w).1 (rw s o)) ∙ s
+      ap (λ (r : ℕ × Writing). r.1) (call-over (array_or_object_cell OBJECT (words_without_last_nulls (calls_all vs w).0)) (calls_all vs w).1 (rw s o)) ∙ s
 
   calls_all-over : (vs : Plains) (w : Writing) → is_past_limit w ≡ true → (calls_all vs w).1 ≡ w
   calls_all-over none w o = refl
@@ -82,8 +82,8 @@ then_ends xs ys r s r' s' (inr b) f g =
 
 -- a run over what was written
 run_ends : (kind : ℕ) (f : List ℕ → List ℕ) (r : List ℕ × Writing) (s : List ℕ × Layout) → r.0 ≡ s.0 → r.1 ≡ writing_of s.1 → Within s.1
-    → Ends (layout_counts (word_and_layout_with_run kind (f s.0) s.1).1 ∷ []) (call (run_cell kind (f r.0)) r.1) (word_and_layout_with_run kind (f s.0) s.1)
-run_ends kind f r s words state fine = rw (words, state) (call-ends (run_cell kind (f s.0)) s.1 fine)
+    → Ends (layout_counts (word_and_layout_with_array_or_object kind (f s.0) s.1).1 ∷ []) (call (array_or_object_cell kind (f r.0)) r.1) (word_and_layout_with_array_or_object kind (f s.0) s.1)
+run_ends kind f r s words state fine = rw (words, state) (call-ends (array_or_object_cell kind (f s.0)) s.1 fine)
 
 cons_ends : (v : Plain) (vs : Plains) (out : Layout) → (calls v (writing_of out)).0 ≡ (write v out).0 → (calls v (writing_of out)).1 ≡ writing_of (write v out).1
     → Ends (trace_all vs (write v out).1) (calls_all vs (writing_of (write v out).1)) (write_all vs (write v out).1)
@@ -105,11 +105,11 @@ mutual
   calls-end (arr vs) out w =
       then_ends (trace_all vs out) (layout_counts (write (arr vs) out).1 ∷ []) (calls_all vs (writing_of out)) (write_all vs out) (calls (arr vs) (writing_of out)) (write (arr vs) out) (calls_all-end vs out w)
       (λ words state fine. run_ends ARRAY (λ ws. ws) (calls_all vs (writing_of out)) (write_all vs out) words state fine)
-      (λ o. ap (λ (r : ℕ × Writing). r.1) (call-over (run_cell ARRAY (calls_all vs (writing_of out)).0) (calls_all vs (writing_of out)).1 o))
+      (λ o. ap (λ (r : ℕ × Writing). r.1) (call-over (array_or_object_cell ARRAY (calls_all vs (writing_of out)).0) (calls_all vs (writing_of out)).1 o))
   calls-end (obj vs) out w =
       then_ends (trace_all vs out) (layout_counts (write (obj vs) out).1 ∷ []) (calls_all vs (writing_of out)) (write_all vs out) (calls (obj vs) (writing_of out)) (write (obj vs) out) (calls_all-end vs out w)
       (λ words state fine. run_ends OBJECT words_without_last_nulls (calls_all vs (writing_of out)) (write_all vs out) words state fine)
-      (λ o. ap (λ (r : ℕ × Writing). r.1) (call-over (run_cell OBJECT (words_without_last_nulls (calls_all vs (writing_of out)).0)) (calls_all vs (writing_of out)).1 o))
+      (λ o. ap (λ (r : ℕ × Writing). r.1) (call-over (array_or_object_cell OBJECT (words_without_last_nulls (calls_all vs (writing_of out)).0)) (calls_all vs (writing_of out)).1 o))
 
   pub calls_all-end : (vs : Plains) (out : Layout) → Within out → Ends (trace_all vs out) (calls_all vs (writing_of out)) (write_all vs out)
   calls_all-end none out w = inl (refl, refl, refl, w)
@@ -120,19 +120,19 @@ mutual
 
 -- ---- the law
 
-pub start_fine : Within empty_layout
+pub start_fine : Within empty_layout_counting_root
 start_fine = record { fine = refl }
 
-pub calls-written : (v : Plain) → finish_result (calls v empty_writing).0 (calls v empty_writing).1 ≡ payload_or_overflow v
-unfolding payload_or_overflow
-calls-written v = go (calls-end v empty_layout start_fine)
+pub calls-written : (v : Plain) → finish_result (calls v empty_writing_counting_root).0 (calls v empty_writing_counting_root).1 ≡ payload_or_counts_at_overflow v
+unfolding payload_or_counts_at_overflow
+calls-written v = go (calls-end v empty_layout_counting_root start_fine)
   where
-    fitting : (r : ℕ × Writing) (s : ℕ × Layout) → r.0 ≡ s.0 → r.1 ≡ writing_of s.1 → Within s.1 → finish_result r.0 r.1 ≡ Ok (payload_with_root s.0 s.1)
+    fitting : (r : ℕ × Writing) (s : ℕ × Layout) → r.0 ≡ s.0 → r.1 ≡ writing_of s.1 → Within s.1 → finish_result r.0 r.1 ≡ Ok (payload_with_root_word_in_head s.0 s.1)
     fitting r s word state w = let fine = w.fine in rw (word, state, fine) refl
 
     past : (word : ℕ) (w : Writing) → is_past_limit w ≡ true → finish_result word w ≡ Err (writing_counts w)
     past word w o = rw o refl
 
-    go : Ends (counts_after_values v empty_layout) (calls v empty_writing) (write v empty_layout) → finish_result (calls v empty_writing).0 (calls v empty_writing).1 ≡ payload_unless_overflow (canonical v) (overflow_of v)
-    go (inl a) = fitting (calls v empty_writing) (write v empty_layout) a.1 a.2 a.3 ∙ ap (payload_unless_overflow (canonical v)) (sym a.0)
-    go (inr b) = past (calls v empty_writing).0 (calls v empty_writing).1 b.3 ∙ ap Err b.2 ∙ ap (payload_unless_overflow (canonical v)) (sym b.1)
+    go : Ends (counts_after_values v empty_layout_counting_root) (calls v empty_writing_counting_root) (write v empty_layout_counting_root) → finish_result (calls v empty_writing_counting_root).0 (calls v empty_writing_counting_root).1 ≡ payload_unless_overflow (canonical v) (counts_at_first_overflow v)
+    go (inl a) = fitting (calls v empty_writing_counting_root) (write v empty_layout_counting_root) a.1 a.2 a.3 ∙ ap (payload_unless_overflow (canonical v)) (sym a.0)
+    go (inr b) = past (calls v empty_writing_counting_root).0 (calls v empty_writing_counting_root).1 b.3 ∙ ap Err b.2 ∙ ap (payload_unless_overflow (canonical v)) (sym b.1)

@@ -6,10 +6,10 @@ use Rattle.std.proofs.lemmas.Bool.{cases_lt, lt-ltb, le-ltb, ltb-true, or_cases}
 use Rattle.std.proofs.Math.Bool.{or-true}
 use Rattle.adb_view.specs.Plain.{Plain, null, int, blob, arr, obj, Plains, none, more, IsNormal, AreNormal, count_of}
 use Rattle.adb_view.specs.Readers.{ARRAY, OBJECT}
-use Rattle.adb_write.specs.Canonical.{Item, WrittenItem, Cell, in_place, apart, int_cell, blob_cell, run_cell, words_without_last_nulls, Layout, empty_layout, end_offset, is_equal_item, word_and_layout_with_item_unless_written, word_and_layout_with_cell, write, write_all, payload_with_root, ByteAndValueCounts, layout_counts, exceeds_a_limit, counts_after_values, trace_all, overflow_of, canonical, payload_unless_overflow, payload_or_overflow, MOST_BYTES, MOST_VALUES}
+use Rattle.adb_write.specs.Canonical.{Item, WrittenItem, Cell, in_place, apart, int_cell, blob_cell, array_or_object_cell, words_without_last_nulls, Layout, empty_layout_counting_root, payload_end_offset, is_equal_item, word_and_layout_with_reused_or_new_item, word_and_layout_with_cell, write, write_all, payload_with_root_word_in_head, ByteAndValueCounts, layout_counts, exceeds_a_limit, counts_after_values, trace_all, counts_at_first_overflow, canonical, payload_unless_overflow, payload_or_counts_at_overflow, MOST_BYTES, MOST_VALUES}
 use Rattle.adb_write.specs.Size.{payload_size_of, entries_of, entries_of_all, value_count}
-use Rattle.adb_write.specs.Writing.{empty_writing, calls}
-use Rattle.adb_write.proofs.RoundTrip.{Grows-here, stored-grows, word_and_layout_with_run-grows, write_all-grows, write_all-made, words_stay}
+use Rattle.adb_write.specs.Writing.{empty_writing_counting_root, calls}
+use Rattle.adb_write.proofs.RoundTrip.{Grows-here, stored-grows, word_and_layout_with_array_or_object-grows, write_all-grows, write_all-made, words_stay}
 use Rattle.adb_write.proofs.Limits.{Ends, calls-end, start_fine}
 
 -- ---- the number of values that were written
@@ -18,7 +18,7 @@ abbrev pub entries_in : Cell → ℕ
 entries_in (in_place w) = 0
 entries_in (apart i) = i.entries
 
-unless_values : (found : Option WrittenItem) (i : Item) (out : Layout) → (word_and_layout_with_item_unless_written found i out).1.values ≡ out.values + i.entries
+unless_values : (found : Option WrittenItem) (i : Item) (out : Layout) → (word_and_layout_with_reused_or_new_item found i out).1.values ≡ out.values + i.entries
 unless_values None i out = refl
 unless_values (Some there) i out = refl
 
@@ -43,7 +43,7 @@ blob_entries (x ∷ xs) = go (ltb (length (x ∷ xs)) (2 ^ 8)) (ltb (length (x �
     go false true = refl
     go false false = refl
 
-pub run_entries : (kind : ℕ) (ws : List ℕ) → entries_in (run_cell kind ws) ≡ length ws
+pub run_entries : (kind : ℕ) (ws : List ℕ) → entries_in (array_or_object_cell kind ws) ≡ length ws
 run_entries kind [] = refl
 run_entries kind (w ∷ ws) = refl
 
@@ -55,23 +55,23 @@ words_count (more v vs) out = ap suc (words_count vs (write v out).1)
 mutual
   unfolding write IsNormal entries_of
 
-  write_values : (v : Plain) (out : Layout) → IsNormal v → end_offset (write v out).1 ≤ MOST_BYTES → (write v out).1.values ≡ out.values + entries_of v
+  write_values : (v : Plain) (out : Layout) → IsNormal v → payload_end_offset (write v out).1 ≤ MOST_BYTES → (write v out).1.values ≡ out.values + entries_of v
   write_values null out n fits = omega arith
   write_values (int k) out n fits = stored_values (int_cell k) out ∙ ap (λ (e : ℕ). out.values + e) (int_entries k)
   write_values (blob b) out n fits = stored_values (blob_cell b) out ∙ ap (λ (e : ℕ). out.values + e) (blob_entries b)
   write_values (arr vs) out n fits =
       let r = write_all vs out in
-      let g = word_and_layout_with_run-grows ARRAY r.0 r.1 in
-      omega (arith, stored_values (run_cell ARRAY r.0) r.1, run_entries ARRAY r.0, words_count vs out, write_all_values vs out n.1 (le_trans (Grows-here _ _ g) fits))
+      let g = word_and_layout_with_array_or_object-grows ARRAY r.0 r.1 in
+      omega (arith, stored_values (array_or_object_cell ARRAY r.0) r.1, run_entries ARRAY r.0, words_count vs out, write_all_values vs out n.1 (le_trans (Grows-here _ _ g) fits))
   write_values (obj vs) out n fits =
       let r = write_all vs out in
-      let g = word_and_layout_with_run-grows OBJECT (words_without_last_nulls r.0) r.1 in
+      let g = word_and_layout_with_array_or_object-grows OBJECT (words_without_last_nulls r.0) r.1 in
       let within = le_trans (Grows-here _ _ g) fits in
       let all = write_all-made vs out n.2 within in
-      let stay : words_without_last_nulls r.0 ≡ r.0 = words_stay (payload_with_root 0 r.1) vs r.0 n.1 (all.0 0) in
-      omega (arith, stored_values (run_cell OBJECT (words_without_last_nulls r.0)) r.1, run_entries OBJECT (words_without_last_nulls r.0), ap length stay, words_count vs out, write_all_values vs out n.2 within)
+      let stay : words_without_last_nulls r.0 ≡ r.0 = words_stay (payload_with_root_word_in_head 0 r.1) vs r.0 n.1 (all.0 0) in
+      omega (arith, stored_values (array_or_object_cell OBJECT (words_without_last_nulls r.0)) r.1, run_entries OBJECT (words_without_last_nulls r.0), ap length stay, words_count vs out, write_all_values vs out n.2 within)
 
-  write_all_values : (vs : Plains) (out : Layout) → AreNormal vs → end_offset (write_all vs out).1 ≤ MOST_BYTES → (write_all vs out).1.values ≡ out.values + entries_of_all vs
+  write_all_values : (vs : Plains) (out : Layout) → AreNormal vs → payload_end_offset (write_all vs out).1 ≤ MOST_BYTES → (write_all vs out).1.values ≡ out.values + entries_of_all vs
   write_all_values none out n fits = omega arith
   write_all_values (more v vs) out n fits =
       let g = write_all-grows vs (write v out).1 in
@@ -96,8 +96,8 @@ mutual
   write_more null out e = e
   write_more (int n) out e = stored_more (int_cell n) out e
   write_more (blob b) out e = stored_more (blob_cell b) out e
-  write_more (arr vs) out e = stored_more (run_cell ARRAY (write_all vs out).0) (write_all vs out).1 (write_all_more vs out e)
-  write_more (obj vs) out e = stored_more (run_cell OBJECT (words_without_last_nulls (write_all vs out).0)) (write_all vs out).1 (write_all_more vs out e)
+  write_more (arr vs) out e = stored_more (array_or_object_cell ARRAY (write_all vs out).0) (write_all vs out).1 (write_all_more vs out e)
+  write_more (obj vs) out e = stored_more (array_or_object_cell OBJECT (words_without_last_nulls (write_all vs out).0)) (write_all vs out).1 (write_all_more vs out e)
 
   write_all_more : (vs : Plains) (out : Layout) → exceeds_a_limit (layout_counts out) ≡ true → exceeds_a_limit (layout_counts (write_all vs out).1) ≡ true
   write_all_more none out e = e
@@ -127,12 +127,12 @@ mutual
   trace_over (blob b) out c e = find_one (layout_counts (write (blob b) out).1) c e
   trace_over (arr vs) out c e =
       elim (find_either (trace_all vs out) (layout_counts (write (arr vs) out).1 ∷ []) c e) [
-        | inl a ↦ stored_more (run_cell ARRAY (write_all vs out).0) (write_all vs out).1 (trace_all_over vs out c a)
+        | inl a ↦ stored_more (array_or_object_cell ARRAY (write_all vs out).0) (write_all vs out).1 (trace_all_over vs out c a)
         | inr a ↦ find_one (layout_counts (write (arr vs) out).1) c a
       ]
   trace_over (obj vs) out c e =
       elim (find_either (trace_all vs out) (layout_counts (write (obj vs) out).1 ∷ []) c e) [
-        | inl a ↦ stored_more (run_cell OBJECT (words_without_last_nulls (write_all vs out).0)) (write_all vs out).1 (trace_all_over vs out c a)
+        | inl a ↦ stored_more (array_or_object_cell OBJECT (words_without_last_nulls (write_all vs out).0)) (write_all vs out).1 (trace_all_over vs out c a)
         | inr a ↦ find_one (layout_counts (write (obj vs) out).1) c a
       ]
 
@@ -146,36 +146,36 @@ mutual
 
 -- ---- the law
 
-overflow_final : (v : Plain) → is_some (overflow_of v) ≡ exceeds_a_limit (layout_counts (write v empty_layout).1)
-overflow_final v = go (calls-end v empty_layout start_fine)
+overflow_final : (v : Plain) → is_some (counts_at_first_overflow v) ≡ exceeds_a_limit (layout_counts (write v empty_layout_counting_root).1)
+overflow_final v = go (calls-end v empty_layout_counting_root start_fine)
   where
-    go : Ends (counts_after_values v empty_layout) (calls v empty_writing) (write v empty_layout) → is_some (overflow_of v) ≡ exceeds_a_limit (layout_counts (write v empty_layout).1)
+    go : Ends (counts_after_values v empty_layout_counting_root) (calls v empty_writing_counting_root) (write v empty_layout_counting_root) → is_some (counts_at_first_overflow v) ≡ exceeds_a_limit (layout_counts (write v empty_layout_counting_root).1)
     go (inl a) = let w = a.3 in ap is_some a.0 ∙ sym w.fine
-    go (inr b) = ap is_some b.1 ∙ sym (trace_over v empty_layout b.0 b.1)
+    go (inr b) = ap is_some b.1 ∙ sym (trace_over v empty_layout_counting_root b.0 b.1)
 
-pub overflow_exact : (v : Plain) → IsNormal v → is_some (overflow_of v) ≡ exceeds_a_limit (payload_size_of v, value_count v)
+pub overflow_exact : (v : Plain) → IsNormal v → is_some (counts_at_first_overflow v) ≡ exceeds_a_limit (payload_size_of v, value_count v)
 overflow_exact v n = overflow_final v ∙ same
   where
-    size : end_offset (write v empty_layout).1 ≡ payload_size_of v
+    size : payload_end_offset (write v empty_layout_counting_root).1 ≡ payload_size_of v
     size = omega arith
 
-    same : exceeds_a_limit (layout_counts (write v empty_layout).1) ≡ exceeds_a_limit (payload_size_of v, value_count v)
-    same = elim (cases_lt MOST_BYTES (end_offset (write v empty_layout).1)) [
+    same : exceeds_a_limit (layout_counts (write v empty_layout_counting_root).1) ≡ exceeds_a_limit (payload_size_of v, value_count v)
+    same = elim (cases_lt MOST_BYTES (payload_end_offset (write v empty_layout_counting_root).1)) [
       | inl a ↦
           let s = size in
-          let t : ltb MOST_BYTES (end_offset (write v empty_layout).1) ≡ true = lt-ltb _ _ a in
+          let t : ltb MOST_BYTES (payload_end_offset (write v empty_layout_counting_root).1) ≡ true = lt-ltb _ _ a in
           let u : ltb MOST_BYTES (payload_size_of v) ≡ true = lt-ltb _ _ (omega arith) in
           rw (t, u) refl
       | inr a ↦
-          let values : (write v empty_layout).1.values ≡ value_count v = write_values v empty_layout n a in
+          let values : (write v empty_layout_counting_root).1.values ≡ value_count v = write_values v empty_layout_counting_root n a in
           rw (size, values) refl
     ]
 
 -- ---- up to both limits
 
-pub fits_written : (v : Plain) → IsNormal v → payload_size_of v < 2 ^ 28 → value_count v ≤ 2 ^ 22 → payload_or_overflow v ≡ Ok (canonical v)
-unfolding payload_or_overflow
-fits_written v n size values = ap (payload_unless_overflow (canonical v)) (nothing (overflow_of v) (overflow_exact v n ∙ fine))
+pub fits_written : (v : Plain) → IsNormal v → payload_size_of v < 2 ^ 28 → value_count v ≤ 2 ^ 22 → payload_or_counts_at_overflow v ≡ Ok (canonical v)
+unfolding payload_or_counts_at_overflow
+fits_written v n size values = ap (payload_unless_overflow (canonical v)) (nothing (counts_at_first_overflow v) (overflow_exact v n ∙ fine))
   where
     fine : exceeds_a_limit (payload_size_of v, value_count v) ≡ false
     fine =
@@ -187,6 +187,6 @@ fits_written v n size values = ap (payload_unless_overflow (canonical v)) (nothi
     nothing None e = refl
     nothing (Some c) e = absurd cc
 
-pub larger_refused : (v : Plain) → IsNormal v → (2 ^ 28 ≤ payload_size_of v) ⊎ (2 ^ 22 < value_count v) → is_some (overflow_of v) ≡ true
+pub larger_refused : (v : Plain) → IsNormal v → (2 ^ 28 ≤ payload_size_of v) ⊎ (2 ^ 22 < value_count v) → is_some (counts_at_first_overflow v) ≡ true
 larger_refused v n (inl size) = overflow_exact v n ∙ (let t : ltb MOST_BYTES (payload_size_of v) ≡ true = lt-ltb _ _ (omega arith) in rw t refl)
 larger_refused v n (inr values) = overflow_exact v n ∙ (let t : ltb MOST_VALUES (value_count v) ≡ true = lt-ltb _ _ (omega arith) in rw t (or-true (ltb MOST_BYTES (payload_size_of v))))

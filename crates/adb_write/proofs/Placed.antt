@@ -7,8 +7,8 @@ use Rattle.std.proofs.lemmas.List.{take_at, drop_at, length-append, length-drop,
 use Rattle.std.proofs.lemmas.List.Concat.{flat_map-cons}
 use Rattle.std.proofs.lemmas.Nat.{from_le_bytes-to_le_bytes_2, from_le_bytes-to_le_bytes_4, from_le_bytes-to_le_bytes_8}
 use Rattle.adb_view.specs.Bytes.{bytes_at_with_len, number_at, words}
-use Rattle.adb_view.specs.Readers.{kind_of_word, low_28_bits, length_prefixed_bytes_at, run_entries_at_with_word_count, run_entries_at}
-use Rattle.adb_write.specs.Canonical.{padding_to_alignment_from_offset, Item, Layout, end_offset, word_and_layout_with_new_item, payload_with_root, run_bytes}
+use Rattle.adb_view.specs.Readers.{kind_number_of_word, low_28_bits, length_prefixed_bytes_at, run_entries_at_with_word_count, run_entries_at}
+use Rattle.adb_write.specs.Canonical.{padding_to_alignment_from_offset, Item, Layout, payload_end_offset, word_and_layout_with_new_item, payload_with_root_word_in_head, run_bytes}
 
 -- the payload ends with these bytes, which begin at the offset
 pub record Stands (p : List ℕ) (at : ℕ) (bytes : List ℕ) : Type 0 where
@@ -96,19 +96,19 @@ Stands-append p q at bytes s = record { inside = (let i = s.inside in omega (ari
 
 -- where the item goes
 abbrev pub place : Item → Layout → ℕ
-place i out = end_offset out + padding_to_alignment_from_offset i.align (end_offset out)
+place i out = payload_end_offset out + padding_to_alignment_from_offset i.align (payload_end_offset out)
 
-pub placed_stands : (i : Item) (out : Layout) (root : ℕ) → Stands (payload_with_root root (word_and_layout_with_new_item i out).1) (place i out) i.bytes
+pub placed_stands : (i : Item) (out : Layout) (root : ℕ) → Stands (payload_with_root_word_in_head root (word_and_layout_with_new_item i out).1) (place i out) i.bytes
 placed_stands i out root =
-    let zeros : List ℕ = replicate (padding_to_alignment_from_offset i.align (end_offset out)) 0 in
-    let regroup : payload_with_root root (word_and_layout_with_new_item i out).1 ≡ (payload_with_root root out ++ zeros) ++ i.bytes = sym (append_assoc (payload_with_root root out) zeros i.bytes) in
-    let len : length (payload_with_root root out ++ zeros) ≡ place i out = omega (arith, length-append (payload_with_root root out) zeros, length-replicate {A = ℕ} (padding_to_alignment_from_offset i.align (end_offset out)) 0) in
+    let zeros : List ℕ = replicate (padding_to_alignment_from_offset i.align (payload_end_offset out)) 0 in
+    let regroup : payload_with_root_word_in_head root (word_and_layout_with_new_item i out).1 ≡ (payload_with_root_word_in_head root out ++ zeros) ++ i.bytes = sym (append_assoc (payload_with_root_word_in_head root out) zeros i.bytes) in
+    let len : length (payload_with_root_word_in_head root out ++ zeros) ≡ place i out = omega (arith, length-append (payload_with_root_word_in_head root out) zeros, length-replicate {A = ℕ} (padding_to_alignment_from_offset i.align (payload_end_offset out)) 0) in
     record {
-      inside = omega (arith, ap length regroup, length-append (payload_with_root root out ++ zeros) i.bytes);
-      is = ap (drop (place i out)) regroup ∙ drop_at (payload_with_root root out ++ zeros) i.bytes (place i out) len;
+      inside = omega (arith, ap length regroup, length-append (payload_with_root_word_in_head root out ++ zeros) i.bytes);
+      is = ap (drop (place i out)) regroup ∙ drop_at (payload_with_root_word_in_head root out ++ zeros) i.bytes (place i out) len;
     }
 
-pub word_kind : (kind at : ℕ) → at < 2 ^ 28 → kind_of_word (kind * 2 ^ 28 + at) ≡ kind
+pub word_kind : (kind at : ℕ) → at < 2 ^ 28 → kind_number_of_word (kind * 2 ^ 28 + at) ≡ kind
 word_kind kind at lt = omega arith
 
 pub word_low : (kind at : ℕ) → at < 2 ^ 28 → low_28_bits (kind * 2 ^ 28 + at) ≡ at

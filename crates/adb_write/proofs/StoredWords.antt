@@ -10,7 +10,7 @@ use Rattle.std.proofs.lemmas.List.{length-append, length-drop, take-append-le, d
 use Rattle.std.proofs.lemmas.List.Concat.{flat_map-cons}
 use Rattle.std.proofs.lemmas.Slice.Eq.{bytes_eq-Decides}
 use Rattle.std.proofs.lemmas.Map.Lookups.{exact_bytes}
-use Rattle.adb_view.specs.Readers.{kind_of_word, low_28_bits, int_of, blob_of, ARRAY, OBJECT}
+use Rattle.adb_view.specs.Readers.{kind_number_of_word, low_28_bits, int_of, blob_of, ARRAY, OBJECT}
 use Rattle.adb_view.specs.Visits.{or_empty}
 use Rattle.adb_write.specs.Canonical.{Item, int_item, blob_item, run_bytes, is_equal_item, MOST_BYTES}
 use Rattle.adb_write.specs.Items.{list_kind, item_of, HasNumbersInRange}
@@ -23,7 +23,7 @@ use Rattle.adb_write.specs.WriterState.{Stored, stored_int, stored_blob, stored_
 use Rattle.adb_write.proofs.Rising.{cmp}
 use Rattle.adb_write.proofs.Placed.{words_len}
 use Rattle.adb_write.proofs.Found.{equal_kind, equal_bytes, equal_within}
-use Rattle.adb_write.proofs.RoundTrip.{Leads, int_of-32, int_of-64, blob_of-8, blob_of-16, blob_of-32, run_entries_of_word-placed}
+use Rattle.adb_write.proofs.RoundTrip.{Leads, int_of-32, int_of-64, blob_of-8, blob_of-16, blob_of-32, run_entries_of_kind_in_payload_at_word-placed}
 
 -- ---- kinds
 
@@ -89,8 +89,8 @@ read_content p w (stored_blob b) small l =
     let t : ltb (blob_item b).kind 8 ≡ false = le-ltb _ _ k.0 in
     let u : ltb (blob_item b).kind 13 ≡ true = lt-ltb _ _ (omega arith) in
     rw (t, u) (ap or_empty (read_blob p w b small l))
-read_content p w (stored_list Array ws) small l = ap (λ r. reverse (or_empty r)) (run_entries_of_word-placed ARRAY p w ws small.0 small.1 l)
-read_content p w (stored_list Object ws) small l = ap (λ r. reverse (or_empty r)) (run_entries_of_word-placed OBJECT p w ws small.0 small.1 l)
+read_content p w (stored_list Array ws) small l = ap (λ r. reverse (or_empty r)) (run_entries_of_kind_in_payload_at_word-placed ARRAY p w ws small.0 small.1 l)
+read_content p w (stored_list Object ws) small l = ap (λ r. reverse (or_empty r)) (run_entries_of_kind_in_payload_at_word-placed OBJECT p w ws small.0 small.1 l)
 
 -- ---- what a word of the pages leads to
 
@@ -232,7 +232,7 @@ parts_fingerprint (Blob b) = refl
 parts_fingerprint (Listed kind ws) = refl
 
 -- a word of this kind, at whose offset the bytes stand
-parts_placed : (p : List ℕ) (w : ℕ) (parts : Parts) → HasNumbersThatFit (stored_of parts) → kind_of_word w ≡ (item_of parts).kind → 8 ≤ low_28_bits w → take (length (item_of parts).bytes) (drop (low_28_bits w) p) ≡ (item_of parts).bytes → IsStoredAt p (stored_of parts) w
+parts_placed : (p : List ℕ) (w : ℕ) (parts : Parts) → HasNumbersThatFit (stored_of parts) → kind_number_of_word w ≡ (item_of parts).kind → 8 ≤ low_28_bits w → take (length (item_of parts).bytes) (drop (low_28_bits w) p) ≡ (item_of parts).bytes → IsStoredAt p (stored_of parts) w
 parts_placed p w parts small kind head there = record {
   small = small;
   kind = kind ∙ sym (parts_kind parts);
@@ -240,17 +240,17 @@ parts_placed p w parts small kind head there = record {
   there = subst (λ (b : List ℕ). take (length b) (drop (low_28_bits w) p) ≡ b) (sym (parts_bytes parts)) there;
 }
 
-pub parts_stored : (p : List ℕ) (l : ℕ) (parts : Parts) → HasNumbersThatFit (stored_of parts) → fingerprint_of_locator l ≡ fingerprint_of parts → kind_of_word (word_of_locator l) ≡ (item_of parts).kind → 8 ≤ low_28_bits (word_of_locator l)
+pub parts_stored : (p : List ℕ) (l : ℕ) (parts : Parts) → HasNumbersThatFit (stored_of parts) → fingerprint_of_locator l ≡ fingerprint_of parts → kind_number_of_word (word_of_locator l) ≡ (item_of parts).kind → 8 ≤ low_28_bits (word_of_locator l)
     → take (length (item_of parts).bytes) (drop (low_28_bits (word_of_locator l)) p) ≡ (item_of parts).bytes → IsStored p l
 parts_stored p l parts small print kind head there =
     record { what = stored_of parts; fingerprint = print ∙ sym (parts_fingerprint parts); stored = parts_placed p (word_of_locator l) parts small kind head there }
 
-parts_content_key : (p : List ℕ) (w : ℕ) (parts : Parts) → HasNumbersThatFit (stored_of parts) → kind_of_word w ≡ (item_of parts).kind → 8 ≤ low_28_bits w → take (length (item_of parts).bytes) (drop (low_28_bits w) p) ≡ (item_of parts).bytes → kind_and_comparison_numbers_at p w ≡ kind_and_comparison_numbers parts
+parts_content_key : (p : List ℕ) (w : ℕ) (parts : Parts) → HasNumbersThatFit (stored_of parts) → kind_number_of_word w ≡ (item_of parts).kind → 8 ≤ low_28_bits w → take (length (item_of parts).bytes) (drop (low_28_bits w) p) ≡ (item_of parts).bytes → kind_and_comparison_numbers_at p w ≡ kind_and_comparison_numbers parts
 parts_content_key p w parts small kind head there =
     placed_key p (stored_of parts) w (parts_placed p w parts small kind head there)
     ∙ ap (λ (k : ℕ). k ∷ content_of_stored (stored_of parts)) (parts_kind parts) ∙ ap (λ (c : List ℕ). (item_of parts).kind ∷ c) (parts_content parts)
 
-pub parts_key : (p : List ℕ) (l : ℕ) (parts : Parts) → HasNumbersThatFit (stored_of parts) → fingerprint_of_locator l ≡ fingerprint_of parts → kind_of_word (word_of_locator l) ≡ (item_of parts).kind → 8 ≤ low_28_bits (word_of_locator l)
+pub parts_key : (p : List ℕ) (l : ℕ) (parts : Parts) → HasNumbersThatFit (stored_of parts) → fingerprint_of_locator l ≡ fingerprint_of parts → kind_number_of_word (word_of_locator l) ≡ (item_of parts).kind → 8 ≤ low_28_bits (word_of_locator l)
     → take (length (item_of parts).bytes) (drop (low_28_bits (word_of_locator l)) p) ≡ (item_of parts).bytes → key_of_locator p l ≡ key_of parts
 parts_key p l parts small print kind head there =
     ap (λ (f : ℕ). f ∷ kind_and_comparison_numbers_at p (word_of_locator l)) print ∙ ap (λ (c : List ℕ). fingerprint_of parts ∷ c) (parts_content_key p (word_of_locator l) parts small kind head there)
@@ -281,7 +281,7 @@ equal_key p l parts s room few e =
     let there : take (length (item_of parts).bytes) (drop (low_28_bits w) p) ≡ (item_of parts).bytes = ap (take (length (item_of parts).bytes)) (sym (there_is p w head)) ∙ bytes in
     let ends = equal_within p (low_28_bits w) (item_of parts).bytes (parts_some parts) there in
     let small = parts_small parts room (omega arith) in
-    let kind : kind_of_word w ≡ (item_of parts).kind = equal_kind (drop 8 p) (item_of parts) (written_item l) e in
+    let kind : kind_number_of_word w ≡ (item_of parts).kind = equal_kind (drop 8 p) (item_of parts) (written_item l) e in
     let same : kind_and_comparison_numbers parts ≡ (item_of_stored s.what).kind ∷ content_of_stored s.what = sym (parts_content_key p w parts small kind head there) ∙ placed_key p s.what w s.stored in
     let kinds : (item_of parts).kind ≡ (item_of_stored s.what).kind = cc in
     let contents : comparison_numbers parts ≡ content_of_stored s.what = cc in
@@ -310,6 +310,6 @@ key_equal p l parts s e =
     let bytes : (item_of parts).bytes ≡ (item_of_stored s.what).bytes = same_bytes parts s.what kinds contents in
     let there : take (length (item_of parts).bytes) (drop (low_28_bits w - 8) (drop 8 p)) ≡ (item_of parts).bytes =
     ap (take (length (item_of parts).bytes)) (there_is p w s.stored.behind_head) ∙ ap (λ (b : List ℕ). take (length b) (drop (low_28_bits w) p)) bytes ∙ s.stored.there ∙ sym bytes in
-    let a : eqb (kind_of_word w) (item_of parts).kind ≡ true = eq-eqb _ _ (s.stored.kind ∙ sym kinds) in
+    let a : eqb (kind_number_of_word w) (item_of parts).kind ≡ true = eq-eqb _ _ (s.stored.kind ∙ sym kinds) in
     let b : bytes_eq (take (length (item_of parts).bytes) (drop (low_28_bits w - 8) (drop 8 p))) (item_of parts).bytes ≡ true = (bytes_eq-Decides _ _).1 there in
     rw (a, b) refl

@@ -2,18 +2,18 @@
 use Rattle.std.proofs.Common.{◌≡◌, ℕ, suc, ◌+◌, ◌≤◌, List, [], ◌∷◌, length, Result, refl, ap, ◌∙◌, arith}
 use Rattle.std.proofs.lemmas.List.{length-append}
 use Rattle.adb_view.specs.Plain.{Plain, null, int, blob, arr, obj, Plains, none, more, Shape, number, text, hash, array, object, Fields, no_fields, field, IsNormal, count_of}
-use Rattle.adb_view.specs.Readers.{run_entries_of_word, ARRAY, OBJECT}
+use Rattle.adb_view.specs.Readers.{run_entries_of_kind_in_payload_at_word, ARRAY, OBJECT}
 use Rattle.adb_view.specs.Head.{root_word_of_payload}
 use Rattle.adb_view.specs.Visits.{Visit, visits, field_visits, visits_of_all_words, or_empty}
-use Rattle.adb_write.specs.Canonical.{empty_layout, write, canonical, MOST_BYTES}
+use Rattle.adb_write.specs.Canonical.{empty_layout_counting_root, write, canonical, MOST_BYTES}
 use Rattle.adb_write.specs.Size.{payload_size_of, entries_of, entries_of_all, value_count}
 use Rattle.base_core.specs.declared.cause.Cause.{Cause}
 use Rattle.adb_view.specs.Shaped.{Each, HasShape, HaveShapes}
 use Rattle.adb_write.specs.Denotes.{Holds, HoldAll}
 use Rattle.adb_write.proofs.RoundTrip.{write-made, root_again}
 
-null_run : (kind : ℕ) (p : List ℕ) (w : ℕ) → w ≡ 0 → or_empty (run_entries_of_word kind p w) ≡ []
-unfolding run_entries_of_word
+null_run : (kind : ℕ) (p : List ℕ) (w : ℕ) → w ≡ 0 → or_empty (run_entries_of_kind_in_payload_at_word kind p w) ≡ []
+unfolding run_entries_of_kind_in_payload_at_word
 null_run kind p w e = rw e refl
 
 each_visited : (p : List ℕ) (f : ℕ → List Visit) (P : Plain → Type 0) → ((v : Plain) (w : ℕ) → P v → Holds p v w → length (f w) ≡ suc (entries_of v)) → (vs : Plains) (ws : List ℕ) → Each P vs → HoldAll p vs ws → length (visits_of_all_words f ws) ≡ count_of vs + entries_of_all vs
@@ -71,6 +71,6 @@ mutual
 
 pub canonical_visited : (s : Shape) (v : Plain) → IsNormal v → HasShape s v → payload_size_of v ≤ MOST_BYTES → length (visits (canonical v) s (root_word_of_payload (canonical v))) ≡ value_count v
 canonical_visited s v n h fits =
-    let r = write v empty_layout in
-    let made = write-made v empty_layout n (omega arith) in
+    let r = write v empty_layout_counting_root in
+    let made = write-made v empty_layout_counting_root n (omega arith) in
     ap (λ (w : ℕ). length (visits (canonical v) s w)) (root_again r.0 r.1 made.small) ∙ visited (canonical v) s v r.0 h (made.holds r.0) ∙ omega arith

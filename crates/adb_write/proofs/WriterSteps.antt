@@ -2,7 +2,7 @@
 use Rattle.std.proofs.Common.{◌≡◌, ◌<◌, ℕ, ◌+◌, ◌*◌, ◌^◌, Bool, true, false, List, [], ◌∷◌, ◌++◌, length, replicate, if◌then◌else◌, Option, Some, None, Result, Ok, Err, OnErr, refl, sym, ap, ◌∙◌, arith}
 use Rattle.std.specs.Prelude.{find, option_map}
 use Rattle.std.proofs.lemmas.List.{length-append, length-replicate}
-use Rattle.adb_write.specs.Canonical.{padding_to_alignment_from_offset, Item, WrittenItem, apart, in_place, is_equal_item, word_of_written_item, blob_cell, run_cell, Layout, word_and_layout_with_new_item, word_and_layout_with_item_unless_written, word_and_layout_with_item, layout_counts, exceeds_a_limit}
+use Rattle.adb_write.specs.Canonical.{padding_to_alignment_from_offset, Item, WrittenItem, apart, in_place, is_equal_item, word_of_written_item, blob_cell, array_or_object_cell, Layout, word_and_layout_with_new_item, word_and_layout_with_reused_or_new_item, word_and_layout_with_item, layout_counts, exceeds_a_limit}
 use Rattle.adb_write.specs.Writing.{Writing, Grows, layout_of, writing_of, unless_past_limit, call, writing_from_parts}
 use Rattle.adb_write.specs.WriterState.{IsWordOfEqualItem}
 
@@ -27,7 +27,7 @@ call_steps i w fine = rw fine refl
 
 call_step_found : (i : Item) (w : Writing) (there : WrittenItem) → exceeds_a_limit (w.bytes, w.values) ≡ false → find (is_equal_item w.body i) w.items ≡ Some there
     → call (apart i) w ≡ unless_past_limit w (word_of_written_item there, record (layout_of w) { values = w.values + i.entries })
-call_step_found i w there fine found = call_steps i w fine ∙ ap (λ (o : Option WrittenItem). unless_past_limit w (word_and_layout_with_item_unless_written o i (layout_of w))) found
+call_step_found i w there fine found = call_steps i w fine ∙ ap (λ (o : Option WrittenItem). unless_past_limit w (word_and_layout_with_reused_or_new_item o i (layout_of w))) found
 
 pub repeat_stops : (i : Item) (body : List ℕ) (items : List WrittenItem) (bytes values : ℕ) (there : WrittenItem) → exceeds_a_limit (bytes, values) ≡ false → bytes ≡ 8 + length body
     → find (is_equal_item body i) items ≡ Some there → exceeds_a_limit (bytes, values + i.entries) ≡ true
@@ -55,7 +55,7 @@ written_at i body = record { kind = i.kind; offset = length body + padding_to_al
 
 call_step_new : (i : Item) (w : Writing) → exceeds_a_limit (w.bytes, w.values) ≡ false → find (is_equal_item w.body i) w.items ≡ None
     → call (apart i) w ≡ unless_past_limit w (word_and_layout_with_new_item i (layout_of w))
-call_step_new i w fine none = call_steps i w fine ∙ ap (λ (o : Option WrittenItem). unless_past_limit w (word_and_layout_with_item_unless_written o i (layout_of w))) none
+call_step_new i w fine none = call_steps i w fine ∙ ap (λ (o : Option WrittenItem). unless_past_limit w (word_and_layout_with_reused_or_new_item o i (layout_of w))) none
 
 placed_counts : (i : Item) (body : List ℕ) (items : List WrittenItem) (bytes values : ℕ) → bytes ≡ 8 + length body → layout_counts (word_and_layout_with_new_item i (layout_of (writing_from_parts body items bytes values))).1 ≡ (end_of i bytes, values + i.entries)
 placed_counts i body items bytes values e =
@@ -107,7 +107,7 @@ pub blob_null : (b : List ℕ) (w : Writing) → length b ≡ 0 → call (blob_c
 blob_null [] w e = call_null w
 blob_null (x ∷ xs) w e = absurd (omega arith)
 
-pub run_null : (kind : ℕ) (ws : List ℕ) (w : Writing) → length ws ≡ 0 → call (run_cell kind ws) w ≡ (0, w)
+pub run_null : (kind : ℕ) (ws : List ℕ) (w : Writing) → length ws ≡ 0 → call (array_or_object_cell kind ws) w ≡ (0, w)
 run_null kind [] w e = call_null w
 run_null kind (x ∷ xs) w e = absurd (omega arith)
 

@@ -60,13 +60,13 @@ run_bytes ws = to_le_bytes w32 (suc (length ws)) ++ flat_map (to_le_bytes w32) w
 
 -- the item of an array or an object with these words as entries; `kind` is the kind of the words that point to it (13
 -- for an array, 14 for an object)
-abbrev pub run_item : ℕ → List ℕ → Item
-run_item kind ws = record { kind = kind; align = 4; bytes = run_bytes ws; entries = length ws }
+abbrev pub array_or_object_item : ℕ → List ℕ → Item
+array_or_object_item kind ws = record { kind = kind; align = 4; bytes = run_bytes ws; entries = length ws }
 
 -- an array or an object with these words as it is written (`kind` as above); without words it is NULL
-abbrev pub run_cell : ℕ → List ℕ → Cell
-run_cell kind [] = in_place 0
-run_cell kind (w ∷ ws) = apart (run_item kind (w ∷ ws))
+abbrev pub array_or_object_cell : ℕ → List ℕ → Cell
+array_or_object_cell kind [] = in_place 0
+array_or_object_cell kind (w ∷ ws) = apart (array_or_object_item kind (w ∷ ws))
 
 -- words with one more in front; this word is dropped if it is NULL (0) and would be the last one
 abbrev pub prepend_unless_last_null : ℕ → List ℕ → List ℕ
@@ -97,12 +97,12 @@ pub record Layout : Type 0 where
   pub values : ℕ
 
 -- the layout before anything is written: the root alone counts as a value
-abbrev pub empty_layout : Layout
-empty_layout = record { body = []; items = []; values = 1 }
+abbrev pub empty_layout_counting_root : Layout
+empty_layout_counting_root = record { body = []; items = []; values = 1 }
 
 -- the offset of the payload's end, including the head of 8 bytes
-abbrev pub end_offset : Layout → ℕ
-end_offset out = 8 + length out.body
+abbrev pub payload_end_offset : Layout → ℕ
+payload_end_offset out = 8 + length out.body
 
 -- whether the written item `there` is equal to the item i: it has the same kind and, in the bytes `body` of the layout,
 -- the same bytes
@@ -118,12 +118,12 @@ word_of_written_item there = there.kind * 2 ^ 28 + (8 + there.offset)
 -- zeros before it
 abbrev pub word_and_layout_with_new_item : Item → Layout → ℕ × Layout
 word_and_layout_with_new_item i out = (
-  i.kind * 2 ^ 28 + (end_offset out + padding_to_alignment_from_offset i.align (end_offset out)),
+  i.kind * 2 ^ 28 + (payload_end_offset out + padding_to_alignment_from_offset i.align (payload_end_offset out)),
   record {
-    body = out.body ++ (replicate (padding_to_alignment_from_offset i.align (end_offset out)) 0 ++ i.bytes);
+    body = out.body ++ (replicate (padding_to_alignment_from_offset i.align (payload_end_offset out)) 0 ++ i.bytes);
     items = (record {
       kind = i.kind;
-      offset = length out.body + padding_to_alignment_from_offset i.align (end_offset out);
+      offset = length out.body + padding_to_alignment_from_offset i.align (payload_end_offset out);
     }) ∷ out.items;
     values = out.values + i.entries;
   },
@@ -131,15 +131,15 @@ word_and_layout_with_new_item i out = (
 
 -- the word of the item i, and the layout with this item. If an equal item was written (`there`), the word of that item
 -- is returned, no bytes are added, and only the entries are counted
-abbrev pub word_and_layout_with_item_unless_written : Option WrittenItem → Item → Layout → ℕ × Layout
-word_and_layout_with_item_unless_written None i out = word_and_layout_with_new_item i out
-word_and_layout_with_item_unless_written (Some there) i out =
+abbrev pub word_and_layout_with_reused_or_new_item : Option WrittenItem → Item → Layout → ℕ × Layout
+word_and_layout_with_reused_or_new_item None i out = word_and_layout_with_new_item i out
+word_and_layout_with_reused_or_new_item (Some there) i out =
     (word_of_written_item there, record out { values = out.values + i.entries })
 
 -- the word of the item i, and the layout with this item, which is written unless an equal item was written before
 abbrev pub word_and_layout_with_item : Item → Layout → ℕ × Layout
 word_and_layout_with_item i out =
-    word_and_layout_with_item_unless_written (find (is_equal_item out.body i) out.items) i out
+    word_and_layout_with_reused_or_new_item (find (is_equal_item out.body i) out.items) i out
 
 -- the word of a value, and the layout with the value's item, if the word does not contain the value itself
 abbrev pub word_and_layout_with_cell : Cell → Layout → ℕ × Layout
@@ -147,8 +147,8 @@ word_and_layout_with_cell (in_place w) out = (w, out)
 word_and_layout_with_cell (apart i) out = word_and_layout_with_item i out
 
 -- the word of an array or an object with these words (`kind` is 13 or 14), and the layout with this list
-abbrev pub word_and_layout_with_run : ℕ → List ℕ → Layout → ℕ × Layout
-word_and_layout_with_run kind ws out = word_and_layout_with_cell (run_cell kind ws) out
+abbrev pub word_and_layout_with_array_or_object : ℕ → List ℕ → Layout → ℕ × Layout
+word_and_layout_with_array_or_object kind ws out = word_and_layout_with_cell (array_or_object_cell kind ws) out
 
 -- the word of a value, and the layout with this value: its entries are written in order, then its own item
 unfoldable mutual
@@ -156,9 +156,9 @@ unfoldable mutual
   write null out = (0, out)
   write (int n) out = word_and_layout_with_cell (int_cell n) out
   write (blob b) out = word_and_layout_with_cell (blob_cell b) out
-  write (arr vs) out = word_and_layout_with_run ARRAY (write_all vs out).0 (write_all vs out).1
+  write (arr vs) out = word_and_layout_with_array_or_object ARRAY (write_all vs out).0 (write_all vs out).1
   write (obj vs) out =
-      word_and_layout_with_run OBJECT (words_without_last_nulls (write_all vs out).0) (write_all vs out).1
+      word_and_layout_with_array_or_object OBJECT (words_without_last_nulls (write_all vs out).0) (write_all vs out).1
 
   -- the words of values that are written in order, and the layout with these values
   pub write_all : Plains → Layout → List ℕ × Layout
@@ -168,12 +168,12 @@ unfoldable mutual
 
 -- the payload of a layout; `root` is the word of the root. First four bytes 0 (the version 0, and three ignored bytes),
 -- then the root's word, then the bytes of the layout
-abbrev pub payload_with_root : ℕ → Layout → List ℕ
-payload_with_root root out = 0 ∷ 0 ∷ 0 ∷ 0 ∷ (to_le_bytes w32 root ++ out.body)
+abbrev pub payload_with_root_word_in_head : ℕ → Layout → List ℕ
+payload_with_root_word_in_head root out = 0 ∷ 0 ∷ 0 ∷ 0 ∷ (to_le_bytes w32 root ++ out.body)
 
 -- the canonical payload of a value
 abbrev pub canonical : Plain → List ℕ
-canonical v = payload_with_root (write v empty_layout).0 (write v empty_layout).1
+canonical v = payload_with_root_word_in_head (write v empty_layout_counting_root).0 (write v empty_layout_counting_root).1
 
 -- ---- limits
 
@@ -187,7 +187,7 @@ ByteAndValueCounts = ℕ × ℕ
 
 -- the two counts of a layout: bytes, including the head, and values
 abbrev pub layout_counts : Layout → ByteAndValueCounts
-layout_counts out = (end_offset out, out.values)
+layout_counts out = (payload_end_offset out, out.values)
 
 -- whether one of the two counts is above its limit (*MOST_BYTES*, *MOST_VALUES*)
 abbrev pub exceeds_a_limit : ByteAndValueCounts → Bool
@@ -208,8 +208,8 @@ unfoldable mutual
   trace_all (more v vs) out = counts_after_values v out ++ trace_all vs (write v out).1
 
 -- the two counts just after the first value in `v` that brings one of them above its limit; None if no value does
-abbrev pub overflow_of : Plain → Option ByteAndValueCounts
-overflow_of v = find exceeds_a_limit (counts_after_values v empty_layout)
+abbrev pub counts_at_first_overflow : Plain → Option ByteAndValueCounts
+counts_at_first_overflow v = find exceeds_a_limit (counts_after_values v empty_layout_counting_root)
 
 -- the payload, unless there are counts at which a value overflows
 abbrev pub payload_unless_overflow : List ℕ → Option ByteAndValueCounts → Result (List ℕ) ByteAndValueCounts
@@ -217,5 +217,5 @@ payload_unless_overflow payload None = Ok payload
 payload_unless_overflow payload (Some counts) = Err counts
 
 -- the result of writing a value: its canonical payload, or the counts at which it overflows
-unfoldable pub payload_or_overflow : Plain → Result (List ℕ) ByteAndValueCounts
-payload_or_overflow v = payload_unless_overflow (canonical v) (overflow_of v)
+unfoldable pub payload_or_counts_at_overflow : Plain → Result (List ℕ) ByteAndValueCounts
+payload_or_counts_at_overflow v = payload_unless_overflow (canonical v) (counts_at_first_overflow v)

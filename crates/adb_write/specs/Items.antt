@@ -4,7 +4,7 @@ use Rattle.std.specs.Prelude.{ℕ, ◌<◌, ◌^◌, List, []}
 use Rattle.std.specs.List.{flat_map}
 use Rattle.std.specs.Int.{w32, to_le_bytes}
 use Rattle.adb_view.specs.Readers.{ARRAY, OBJECT}
-use Rattle.adb_write.specs.Canonical.{Item, int_item, blob_item, run_item}
+use Rattle.adb_write.specs.Canonical.{Item, int_item, blob_item, array_or_object_item}
 use Rattle.adb_write.specs.declared.item.Width.{Width}
 use Rattle.adb_write.specs.declared.item.Width.TheVariants.{One, Two, Four, Eight}
 use Rattle.adb_write.specs.declared.item.ListKind.{ListKind}
@@ -34,7 +34,7 @@ content_bytes (Listed kind ws) = flat_map (to_le_bytes w32) ws.now
 abbrev pub item_of : Parts → Item
 item_of (Int n) = int_item n
 item_of (Blob b) = blob_item b.now
-item_of (Listed kind ws) = run_item (list_kind kind) ws.now
+item_of (Listed kind ws) = array_or_object_item (list_kind kind) ws.now
 
 -- an integer in a `Parts` has 64 bits, as in the program
 abbrev pub HasNumbersInRange : Parts → Type 0

@@ -7,7 +7,7 @@ use Rattle.std.specs.Cmp.Lexicographic.{slice_cmp}
 use Rattle.std.specs.Hash.FoldHasher.{initial, write, finish}
 use Rattle.std.specs.List.Sorted.{IsStrictlySortedBy}
 use Rattle.base_core.specs.declared.cause.Cause.{Cause}
-use Rattle.adb_view.specs.Readers.{kind_of_word, int_of, blob_of, run_entries_of_word}
+use Rattle.adb_view.specs.Readers.{kind_number_of_word, int_of, blob_of, run_entries_of_kind_in_payload_at_word}
 use Rattle.adb_view.specs.Visits.{or_empty}
 use Rattle.adb_write.specs.Items.{item_of}
 use Rattle.adb_write.specs.declared.item.Parts.{Parts}
@@ -39,12 +39,12 @@ abbrev pub comparison_numbers_at : ℕ → List ℕ → ℕ → List ℕ
 comparison_numbers_at kind payload word =
     if nat_lt kind 8 then single_or_empty (int_of payload word)
     else if nat_lt kind 13 then or_empty (blob_of payload word)
-    else reverse (or_empty (run_entries_of_word kind payload word))
+    else reverse (or_empty (run_entries_of_kind_in_payload_at_word kind payload word))
 
 -- the part of the key after the fingerprint, for the item to which the word points: the item's kind, and its content
 abbrev pub kind_and_comparison_numbers_at : List ℕ → ℕ → List ℕ
 kind_and_comparison_numbers_at payload word =
-    kind_of_word word ∷ comparison_numbers_at (kind_of_word word) payload word
+    kind_number_of_word word ∷ comparison_numbers_at (kind_number_of_word word) payload word
 
 -- ---- the fingerprint of an item: it distinguishes most items, so that the payload is not read
 

@@ -3,8 +3,8 @@
 -- this crate.
 use Rattle.std.specs.Prelude.{◌≡◌, ℕ, ◌+◌, ◌-◌, ◌^◌, ◌<◌, ◌≤◌, ◌⊎◌, ◌%◌, suc, false, List, [], ◌∷◌, length, take, drop, replicate, nat_lt, find, option_map, Some, Result, Ok, Err, if◌then◌else◌}
 use Rattle.std.specs.List.{AllByRecursion, concat}
-use Rattle.adb_view.specs.Readers.{kind_of_word, low_28_bits}
-use Rattle.adb_write.specs.Canonical.{Item, WrittenItem, is_equal_item, word_of_written_item, int_item, blob_item, run_item, ByteAndValueCounts, exceeds_a_limit}
+use Rattle.adb_view.specs.Readers.{kind_number_of_word, low_28_bits}
+use Rattle.adb_write.specs.Canonical.{Item, WrittenItem, is_equal_item, word_of_written_item, int_item, blob_item, array_or_object_item, ByteAndValueCounts, exceeds_a_limit}
 use Rattle.adb_write.specs.Writing.{Writing, is_past_limit}
 use Rattle.adb_write.specs.Items.{list_kind}
 use Rattle.adb_write.specs.Keys.{HaveRisingKeys, blob_fingerprint, fingerprint_of_locator, list_fingerprint, word_of_locator}
@@ -30,7 +30,7 @@ pub data Stored : Type 0 where
 abbrev pub item_of_stored : Stored → Item
 item_of_stored (stored_int n) = int_item n
 item_of_stored (stored_blob b) = blob_item b
-item_of_stored (stored_list kind ws) = run_item (list_kind kind) ws
+item_of_stored (stored_list kind ws) = array_or_object_item (list_kind kind) ws
 
 -- the fingerprint of this item
 abbrev pub fingerprint_of_stored : Stored → ℕ
@@ -49,7 +49,7 @@ pub record IsStoredAt (payload : List ℕ) (what : Stored) (word : ℕ) : Type 0
   -- the numbers of the item have at most the allowed bits
   pub small : HasNumbersThatFit what
   -- the word has the kind of the item
-  pub kind : kind_of_word word ≡ (item_of_stored what).kind
+  pub kind : kind_number_of_word word ≡ (item_of_stored what).kind
   -- the offset in the word is after the head
   pub behind_head : 8 ≤ low_28_bits word
   -- the bytes of the item are at this offset
@@ -74,7 +74,7 @@ AreStored payload locators = AllByRecursion (IsStored payload) locators
 -- the written item that a locator names
 abbrev pub written_item : ℕ → WrittenItem
 written_item locator = record {
-  kind = kind_of_word (word_of_locator locator);
+  kind = kind_number_of_word (word_of_locator locator);
   offset = low_28_bits (word_of_locator locator) - 8;
 }
 

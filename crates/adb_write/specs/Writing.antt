@@ -4,7 +4,7 @@
 use Rattle.std.specs.Prelude.{ℕ, ◌<◌, Bool, List, [], ◌∷◌, length, Result, Ok, Err, if◌then◌else◌}
 use Rattle.adb_view.specs.Plain.{Plain, null, int, blob, arr, obj, Plains, none, more}
 use Rattle.adb_view.specs.Readers.{ARRAY, OBJECT}
-use Rattle.adb_write.specs.Canonical.{WrittenItem, Cell, in_place, apart, int_cell, blob_cell, run_cell, words_without_last_nulls, Layout, word_and_layout_with_cell, ByteAndValueCounts, layout_counts, exceeds_a_limit, payload_with_root}
+use Rattle.adb_write.specs.Canonical.{WrittenItem, Cell, in_place, apart, int_cell, blob_cell, array_or_object_cell, words_without_last_nulls, Layout, word_and_layout_with_cell, ByteAndValueCounts, layout_counts, exceeds_a_limit, payload_with_root_word_in_head}
 
 -- the state of a writer: the written bytes and items, and the counts of bytes and values. The counts are those of the
 -- written values. If a value exceeded a limit, they are the counts just after this value
@@ -24,8 +24,8 @@ writing_from_parts body items bytes values =
     record { body = body; items = items; bytes = bytes; values = values }
 
 -- the writer that has written nothing: it counts the 8 bytes of the head, and the root as the only value
-abbrev pub empty_writing : Writing
-empty_writing = writing_from_parts [] [] 8 1
+abbrev pub empty_writing_counting_root : Writing
+empty_writing_counting_root = writing_from_parts [] [] 8 1
 
 -- the two counts of a writer: its bytes and its values
 abbrev pub writing_counts : Writing → ByteAndValueCounts
@@ -74,17 +74,17 @@ blob_call b w = call (blob_cell b) w
 
 -- the word that the call `arr` returns for an array with these words, and the writer afterwards
 abbrev pub arr_call : List ℕ → Writing → ℕ × Writing
-arr_call ws w = call (run_cell ARRAY ws) w
+arr_call ws w = call (array_or_object_cell ARRAY ws) w
 
 -- the word that the call `obj` returns for an object with these words, and the writer afterwards; NULLs at the end of
 -- the words are dropped
 abbrev pub obj_call : List ℕ → Writing → ℕ × Writing
-obj_call ws w = call (run_cell OBJECT (words_without_last_nulls ws)) w
+obj_call ws w = call (array_or_object_cell OBJECT (words_without_last_nulls ws)) w
 
 -- the result of `finish`: the payload whose root has the word `root`, or the two counts if the writer passed a limit
 abbrev pub finish_result : ℕ → Writing → Result (List ℕ) ByteAndValueCounts
 finish_result root w =
-    if is_past_limit w then Err (writing_counts w) else Ok (payload_with_root root (layout_of w))
+    if is_past_limit w then Err (writing_counts w) else Ok (payload_with_root_word_in_head root (layout_of w))
 
 -- the word of a value after the calls that write this value depth first, and the writer afterwards. Each word that a
 -- call returns is used once

@@ -10,7 +10,7 @@ ghost use Rattle.std.specs.Cmp.Lexicographic.{slice_cmp};
 ghost use Rattle.adb_view.specs.Adb.{payload_of};
 ghost use Rattle.adb_view.specs.Entries.{array_entries};
 ghost use Rattle.adb_view.specs.Gives.{Gives};
-ghost use Rattle.adb_view.specs.Readers.{run_entries_of_word};
+ghost use Rattle.adb_view.specs.Readers.{run_entries_of_kind_in_payload_at_word};
 ghost use Rattle.adb_view.specs.Visits.{or_empty};
 ghost use Rattle.adb_write.specs.Items.{width_len, list_kind, content_bytes, item_of};
 ghost use Rattle.adb_write.specs.Keys.{low_words, kind_and_comparison_numbers, kind_and_comparison_numbers_at, blob_fingerprint, blob_hash, fingerprint_of, key_of_locator, key_with_fingerprint, list_fingerprint, low_nibbles};
@@ -368,7 +368,7 @@ fn list_fingerprint(words: &[Val]) -> u64
 fn compare_list(adb: &Adb<'_>, list: ListKind, words: &[Val], word: Val) -> Ordering
     // The order is that of the two lists of words, both reversed.
     ensures { result ≡ slice_cmp nat_cmp (reverse (low_words words.now))
-        (reverse (or_empty (run_entries_of_word (list_kind list) (payload_of adb.now) word))) }
+        (reverse (or_empty (run_entries_of_kind_in_payload_at_word (list_kind list) (payload_of adb.now) word))) }
 {
     match entries(adb, list, word) {
         Ok(found) => compare_words(words, &found),
@@ -381,7 +381,7 @@ fn compare_list(adb: &Adb<'_>, list: ListKind, words: &[Val], word: Val) -> Orde
 /// object.
 fn entries<'a>(adb: &Adb<'a>, list: ListKind, word: Val) -> Result<Arr<'a>, Cause>
     // The result has the words of the entries, or the cause, that the definition gives.
-    ensures { Gives array_entries result (run_entries_of_word (list_kind list)
+    ensures { Gives array_entries result (run_entries_of_kind_in_payload_at_word (list_kind list)
         (payload_of adb.now) word) }
 {
     match list {

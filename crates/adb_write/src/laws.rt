@@ -7,10 +7,10 @@ ghost use Rattle.adb_view.specs.Head.{root_word_of_payload};
 ghost use Rattle.adb_view.specs.Visits.{visits};
 ghost use Rattle.adb_block.specs.Container.{IsContainerWithBlocks};
 ghost use Rattle.adb_write.specs.File.{adb_block_of_payload, file_of};
-ghost use Rattle.adb_write.specs.Canonical.{Layout, empty_layout, end_offset, write, canonical, exceeds_a_limit, overflow_of, payload_or_overflow, payload_with_root, MOST_BYTES};
+ghost use Rattle.adb_write.specs.Canonical.{Layout, empty_layout_counting_root, payload_end_offset, write, canonical, exceeds_a_limit, counts_at_first_overflow, payload_or_counts_at_overflow, payload_with_root_word_in_head, MOST_BYTES};
 ghost use Rattle.adb_write.specs.Size.{payload_size_of, entries_of, value_count, with_value_count_raised};
-ghost use Rattle.adb_write.specs.Writing.{Writing, empty_writing, is_past_limit, layout_of, int_call, blob_call, arr_call, obj_call, finish_result};
-ghost use Rattle.adb_write.specs.DepthFirst.{WritesValue, WritesValues, push};
+ghost use Rattle.adb_write.specs.Writing.{Writing, empty_writing_counting_root, is_past_limit, layout_of, int_call, blob_call, arr_call, obj_call, finish_result};
+ghost use Rattle.adb_write.specs.DepthFirst.{WritesValueDepthFirst, WritesValuesDepthFirst, push};
 ghost use Rattle.adb_view.specs.Shaped.{HasShape};
 ghost use Rattle.adb_write.specs.Denotes.{Denotes, AllDenoteValuesUnlessPastLimit};
 
@@ -30,38 +30,38 @@ pub fn a_canonical_payload_is_read_back()
 /// list, and an object without a value, are Null.
 pub fn values_are_written_depth_first()
     // Null takes no call, and has the word 0.
-    ensures null { (w : Writing) → WritesValue w null 0 w }
+    ensures null { (w : Writing) → WritesValueDepthFirst w null 0 w }
     // The call `int` writes the integer.
     ensures int { (n : ℕ) (a : Writing) (x : ℕ) (b : Writing) → (x, b) ≡ int_call n a
-        → WritesValue a (int n) x b }
+        → WritesValueDepthFirst a (int n) x b }
     // The call `blob` writes the blob.
     ensures blob { (bytes : List ℕ) (a : Writing) (x : ℕ) (b : Writing)
-        → (x, b) ≡ blob_call bytes a → WritesValue a (blob_or_null bytes) x b }
+        → (x, b) ≡ blob_call bytes a → WritesValueDepthFirst a (blob_or_null bytes) x b }
     // After the values `vs` were written, the call `arr` with their words `xs` writes their array.
     ensures arr { (vs : Plains) (xs : List ℕ) (a b : Writing) (x : ℕ) (c : Writing)
-        → WritesValues a vs xs b → (x, c) ≡ arr_call xs b → WritesValue a (array_or_null vs) x c }
+        → WritesValuesDepthFirst a vs xs b → (x, c) ≡ arr_call xs b → WritesValueDepthFirst a (array_or_null vs) x c }
     // After the values `vs` were written, the call `obj` with their words `xs` writes their object.
     ensures obj { (vs : Plains) (xs : List ℕ) (a b : Writing) (x : ℕ) (c : Writing)
-        → WritesValues a vs xs b → (x, c) ≡ obj_call xs b
-        → WritesValue a (trimmed_object_or_null vs) x c }
+        → WritesValuesDepthFirst a vs xs b → (x, c) ≡ obj_call xs b
+        → WritesValueDepthFirst a (trimmed_object_or_null vs) x c }
 
     // The empty list of values takes no call.
-    ensures none { (w : Writing) → WritesValues w none [] w }
+    ensures none { (w : Writing) → WritesValuesDepthFirst w none [] w }
     // A value, and then the values `vs`, are written in order.
     ensures more { (v : Plain) (vs : Plains) (x : ℕ) (xs : List ℕ) (a b c : Writing)
-        → WritesValue a v x b → WritesValues b vs xs c → WritesValues a (more v vs) (x ∷ xs) c }
+        → WritesValueDepthFirst a v x b → WritesValuesDepthFirst b vs xs c → WritesValuesDepthFirst a (more v vs) (x ∷ xs) c }
     // The values `vs`, and then one more value, are written in order.
     ensures push { (v : Plain) (vs : Plains) (x : ℕ) (xs : List ℕ) (a b c : Writing)
-        → WritesValues a vs xs b → WritesValue b v x c
-        → WritesValues a (push vs v) (xs ++ x ∷ []) c }
+        → WritesValuesDepthFirst a vs xs b → WritesValueDepthFirst b v x c
+        → WritesValuesDepthFirst a (push vs v) (xs ++ x ∷ []) c }
 {}
 
 /// A writer that wrote one value depth first, and nothing else, ends with the canonical payload of
 /// this value. If a limit was passed, it ends with the counts just after the first value that
 /// exceeded the limit.
 pub fn a_value_written_depth_first_is_canonical()
-    ensures { (v : Plain) (root : ℕ) (w : Writing) → WritesValue empty_writing v root w
-        → finish_result root w ≡ payload_or_overflow v }
+    ensures { (v : Plain) (root : ℕ) (w : Writing) → WritesValueDepthFirst empty_writing_counting_root v root w
+        → finish_result root w ≡ payload_or_counts_at_overflow v }
 {}
 
 /// A word that represents a value in a writer still represents this value after each further call,
@@ -109,7 +109,7 @@ pub fn an_answer_denotes_its_value()
 pub fn a_word_is_read_as_its_value()
     ensures { (shape : Shape) (v : Plain) (word : ℕ) (w : Writing)
         → Denotes w v word → is_past_limit w ≡ false → IsNormal v → HasShape shape v
-        → (root : ℕ) → plain_of (payload_with_root root (layout_of w)) shape word ≡ Some v }
+        → (root : ℕ) → plain_of (payload_with_root_word_in_head root (layout_of w)) shape word ≡ Some v }
 {}
 
 /// A finished payload is read back as the value that its root represents, if this value is normal
@@ -124,7 +124,7 @@ pub fn a_finished_payload_is_read_back()
 /// exceeds the limit of a payload.
 pub fn a_value_overflows_exactly_past_a_limit()
     ensures { (v : Plain) → IsNormal v
-        → is_some (overflow_of v) ≡ exceeds_a_limit (payload_size_of v, value_count v) }
+        → is_some (counts_at_first_overflow v) ≡ exceeds_a_limit (payload_size_of v, value_count v) }
 {}
 
 /// A normal value is written if and only if it is within both limits. The payload must have fewer
@@ -133,20 +133,20 @@ pub fn a_value_overflows_exactly_past_a_limit()
 pub fn a_value_is_written_up_to_both_limits()
     // A value within both limits is written, in the canonical layout.
     ensures written { (v : Plain) → IsNormal v → payload_size_of v < 2 ^ 28 → value_count v ≤ 2 ^ 22
-        → payload_or_overflow v ≡ Ok (canonical v) }
+        → payload_or_counts_at_overflow v ≡ Ok (canonical v) }
     // A value that exceeds a limit overflows.
     ensures refused { (v : Plain) → IsNormal v → (2 ^ 28 ≤ payload_size_of v)
         ⊎ (2 ^ 22 < value_count v)
-        → is_some (overflow_of v) ≡ true }
+        → is_some (counts_at_first_overflow v) ≡ true }
 {}
 
 /// A value is stored once. If it is written again, after any other value (`since`) was written, its
 /// word is the same and no byte and no item is added. Only its entries are counted.
 pub fn a_value_is_stored_once()
     ensures { (before v since : Plain) → IsNormal v
-        → let first : ℕ × Layout = write v (write before empty_layout).1
+        → let first : ℕ × Layout = write v (write before empty_layout_counting_root).1
         in let later : Layout = (write since first.1).1
-        in end_offset later ≤ MOST_BYTES
+        in payload_end_offset later ≤ MOST_BYTES
         → write v later ≡ (first.0, with_value_count_raised (entries_of v) later) }
 {}
 

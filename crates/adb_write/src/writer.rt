@@ -4,10 +4,10 @@
 //! container below "In a container each block is padded".
 
 ghost use Rattle.std.specs.Prelude.{◌≡◌, ◌<◌, ◌≤◌, ◌+◌, ◌^◌, false, IfOk, OnErr, length};
-ghost use Rattle.adb_write.specs.Canonical.{MOST_BYTES, exceeds_a_limit, padding_to_alignment_from_offset, in_place, apart, run_cell, words_without_last_nulls};
+ghost use Rattle.adb_write.specs.Canonical.{MOST_BYTES, exceeds_a_limit, padding_to_alignment_from_offset, in_place, apart, array_or_object_cell, words_without_last_nulls};
 ghost use Rattle.adb_view.specs.Plain.{Plains, int, blob_or_null, array_or_null, trimmed_object_or_null};
-ghost use Rattle.adb_write.specs.DepthFirst.{WritesValue, WritesValues};
-ghost use Rattle.adb_write.specs.Writing.{Writing, Grows, empty_writing, is_past_limit, call, int_call, blob_call, arr_call, obj_call, finish_result};
+ghost use Rattle.adb_write.specs.DepthFirst.{WritesValueDepthFirst, WritesValuesDepthFirst};
+ghost use Rattle.adb_write.specs.Writing.{Writing, Grows, empty_writing_counting_root, is_past_limit, call, int_call, blob_call, arr_call, obj_call, finish_result};
 ghost use Rattle.adb_write.specs.Items.{list_kind, item_of, HasNumbersInRange};
 ghost use Rattle.adb_write.specs.WriterState.{IsFinishResult, IsWordOfEqualItem};
 ghost use Rattle.adb_write.specs.File.{file_of};
@@ -121,7 +121,7 @@ impl Model for Writer {
 impl Writer {
     /// A writer that has written nothing.
     pub fn new(alloc: Global) -> Writer
-        ensures { result ≡ empty_writing }
+        ensures { result ≡ empty_writing_counting_root }
     {
         Writer {
             store: Store::new(alloc),
@@ -139,7 +139,7 @@ impl Writer {
     ///
     /// Out of memory.
     pub fn with_capacity(alloc: Global, bytes: usize) -> Result<Writer, AllocError>
-        ensures { IfOk result (λ writer. writer ≡ empty_writing) }
+        ensures { IfOk result (λ writer. writer ≡ empty_writing_counting_root) }
     {
         let store = Store::with_capacity(alloc, bytes)?;
         Ok(Writer {
@@ -163,7 +163,7 @@ impl Writer {
         // On Ok, the call returns the word and makes the change that the layout defines.
         ensures ok { IfOk result (λ word. (word, self.new) ≡ int_call n self.old) }
         // On Ok, the value is written depth first, and has the returned word.
-        ensures written { IfOk result (λ word. WritesValue self.old (int n) word self.new) }
+        ensures written { IfOk result (λ word. WritesValueDepthFirst self.old (int n) word self.new) }
         // After an error, nothing has changed.
         ensures err { OnErr result (self.new ≡ self.old) }
         // Only a call that would add bytes can fail.
@@ -184,7 +184,7 @@ impl Writer {
         ensures ok { IfOk result (λ word. (word, self.new) ≡ blob_call bytes.now self.old) }
         // On Ok, the value is written depth first, and has the returned word.
         ensures written { IfOk result
-            (λ word. WritesValue self.old (blob_or_null bytes.now) word self.new) }
+            (λ word. WritesValueDepthFirst self.old (blob_or_null bytes.now) word self.new) }
         // After an error, nothing has changed.
         ensures err { OnErr result (self.new ≡ self.old) }
         // Only a call that would add bytes can fail.
@@ -203,8 +203,8 @@ impl Writer {
         ensures ok { IfOk result (λ word. (word, self.new) ≡ arr_call entries.now self.old) }
         // If the entries were written depth first just before, so is the list with them.
         ensures written { IfOk result (λ word. (vs : Plains) (before : Writing)
-            → WritesValues before vs entries.now self.old
-            → WritesValue before (array_or_null vs) word self.new) }
+            → WritesValuesDepthFirst before vs entries.now self.old
+            → WritesValueDepthFirst before (array_or_null vs) word self.new) }
         // After an error, nothing has changed.
         ensures err { OnErr result (self.new ≡ self.old) }
         // Only a call that would add bytes can fail.
@@ -220,8 +220,8 @@ impl Writer {
         ensures ok { IfOk result (λ word. (word, self.new) ≡ obj_call fields.now self.old) }
         // If the entries were written depth first just before, so is the list with them.
         ensures written { IfOk result (λ word. (vs : Plains) (before : Writing)
-            → WritesValues before vs fields.now self.old
-            → WritesValue before (trimmed_object_or_null vs) word self.new) }
+            → WritesValuesDepthFirst before vs fields.now self.old
+            → WritesValueDepthFirst before (trimmed_object_or_null vs) word self.new) }
         // After an error, nothing has changed.
         ensures err { OnErr result (self.new ≡ self.old) }
         // Only a call that would add bytes can fail.
@@ -257,12 +257,12 @@ impl Writer {
     fn list(&mut self, kind: ListKind, words: &[Val]) -> Result<Val, AllocError>
         // On Ok, the call returns the word and makes the change that the layout defines.
         ensures ok { IfOk result
-            (λ word. (word, self.new) ≡ call (run_cell (list_kind kind) words.now) self.old) }
+            (λ word. (word, self.new) ≡ call (array_or_object_cell (list_kind kind) words.now) self.old) }
         // After an error, nothing has changed.
         ensures err { OnErr result (self.new ≡ self.old) }
         // Only a call that would add bytes can fail.
         ensures wants { OnErr result
-            (Grows self.old (call (run_cell (list_kind kind) words.now) self.old).1) }
+            (Grows self.old (call (array_or_object_cell (list_kind kind) words.now) self.old).1) }
     {
         if words.is_empty() {
             return Ok(Val::of(0));

@@ -15,7 +15,7 @@ use Rattle.change_outcome.specs.make_info.Reads.{Reads}
 use Rattle.change_outcome.specs.package_files.Runs.{AreReadsOfTreeIfObservable}
 use Rattle.change_outcome.specs.package_changes.Placed.{PlacedName}
 use Rattle.change_outcome.proofs.package_changes.Lists.{left_at}
-use Rattle.change_outcome.specs.candidate_core.Rank.{SealedPool}
+use Rattle.change_outcome.specs.candidate_core.Rank.{SelectionProblem}
 use Rattle.report_core.specs.declared.refusal.Refusal as Refusals
 use Rattle.added_packages.specs.Arrivals.{AreReadMembersThoseFound, IsMemberRead}
 use Rattle.added_packages.specs.NameReads.{FindsTreeFileOrFound, IsAnswerByRead, IsByRead, IsNameRead, member_of_name_by_read}
@@ -75,7 +75,7 @@ are_more h before [] (m ∷ found) r o are is = absurd are
 are_more h before (r ∷ reads) [] p o are is = absurd are
 are_more h before (r ∷ reads) (m ∷ found) p o are is = (are.0, are_more h before reads found p o are.1 is)
 
-module _ (before : List Plain) (pool : SealedPool) (repositories : List Repository) (no_scripts : Bool) where
+module _ (before : List Plain) (pool : SelectionProblem) (repositories : List Repository) (no_scripts : Bool) where
   -- what names come to, of which the first has this number
   abbrev pub names_read : Reads → ℕ → List PlacedName → Result (List MemberFound) Refusals.Refusal
   names_read read n [] = Ok []

@@ -16,8 +16,8 @@ use Rattle.dep_core.specs.Repositories.{Repository}
 use Rattle.change_outcome.specs.make_info.Reads.{Reads}
 use Rattle.change_outcome.specs.package_files.Runs.{HoldsOfSomeReadsOfTree}
 use Rattle.change_outcome.specs.package_changes.Changes.{change_of_name, is_candidate_named, names_before_and_selected}
-use Rattle.change_outcome.specs.package_changes.Placed.{PlacedName, ReplacementWithCandidatePlaces, candidates_at, candidate_at_new_place, package_at_old_place, placed_name_of, placed_names_of, replacement_of}
-use Rattle.change_outcome.specs.candidate_core.Rank.{SealedPool}
+use Rattle.change_outcome.specs.package_changes.Placed.{PlacedName, ReplacementWithSelectionAsPlaces, candidates_at, candidate_at_new_place, package_at_old_place, placed_name_of, placed_names_of, replacement_of}
+use Rattle.change_outcome.specs.candidate_core.Rank.{SelectionProblem}
 use Rattle.report_core.specs.declared.refusal.Refusal as Refusals
 use Rattle.added_packages.specs.Answered.{DenotesUnlessDisk}
 use Rattle.added_packages.specs.Arrivals.{AreReadMembersThoseFound, CanBeMembers}
@@ -28,12 +28,12 @@ use Rattle.added_packages.proofs.ReadMembers.{can_be}
 
 -- where the places of a name lead
 pub record PlacesLead : Type 0 where
-  pub name : (p : ReplacementWithCandidatePlaces) (name : List ℕ) → (placed_name_of p name).name ≡ name
-  pub change : (p : ReplacementWithCandidatePlaces) (name : List ℕ) → (placed_name_of p name).change ≡ change_of_name (replacement_of p) name
-  pub old : (p : ReplacementWithCandidatePlaces) (name : List ℕ) → package_at_old_place p.before (placed_name_of p name) ≡ find (is_package_named name) p.before
-  pub new : (p : ReplacementWithCandidatePlaces) (name : List ℕ) → candidate_at_new_place p.pool (placed_name_of p name) ≡ find (is_candidate_named name) (candidates_at p.pool p.trace)
+  pub name : (p : ReplacementWithSelectionAsPlaces) (name : List ℕ) → (placed_name_of p name).name ≡ name
+  pub change : (p : ReplacementWithSelectionAsPlaces) (name : List ℕ) → (placed_name_of p name).change ≡ change_of_name (replacement_of p) name
+  pub old : (p : ReplacementWithSelectionAsPlaces) (name : List ℕ) → package_at_old_place p.before (placed_name_of p name) ≡ find (is_package_named name) p.before
+  pub new : (p : ReplacementWithSelectionAsPlaces) (name : List ℕ) → candidate_at_new_place p.pool (placed_name_of p name) ≡ find (is_candidate_named name) (candidates_at p.pool p.trace)
 
-module _ (law : PlacesLead) (p : ReplacementWithCandidatePlaces) (repositories : List Repository) (no_scripts : Bool) where
+module _ (law : PlacesLead) (p : ReplacementWithSelectionAsPlaces) (repositories : List Repository) (no_scripts : Bool) where
   one_name : (read : Reads) (n : ℕ) (name : List ℕ) → member_of_name_after (replacement_of p) read repositories no_scripts n name ≡ member_of_name_by_read p.before p.pool repositories no_scripts (placed_name_of p name) read n
   one_name read n name =
       let e0 : name ≡ (placed_name_of p name).name = sym (law.name p name) in
@@ -103,7 +103,7 @@ module _ (law : PlacesLead) (p : ReplacementWithCandidatePlaces) (repositories :
         }
 
 -- the packages that were read can be members
-pub can_be_members : PlacesLead → (p : ReplacementWithCandidatePlaces) (repositories : List Repository) (no_scripts : Bool) (h : List TreeState) (names : List PlacedName) → names ≡ placed_names_of p → (i : ℕ) (reads : List MemberRead) → length names ≤ i
+pub can_be_members : PlacesLead → (p : ReplacementWithSelectionAsPlaces) (repositories : List Repository) (no_scripts : Bool) (h : List TreeState) (names : List PlacedName) → names ≡ placed_names_of p → (i : ℕ) (reads : List MemberRead) → length names ≤ i
     → IsReadTo p.before p.pool repositories no_scripts h (first_index_read_number + length repositories) names i reads → length p.pool.candidates ≤ MOST_MEMBERS → CanBeMembers p.before reads
 can_be_members law p repositories no_scripts h names are i reads past so_far few =
     let all = read_all p.before p.pool repositories no_scripts h (first_index_read_number + length repositories) names i reads past so_far in

@@ -6,7 +6,7 @@ use Rattle.std.specs.Cmp.Lexicographic.{bytes_decides}
 use Rattle.std.proofs.lemmas.Cmp.{nat_list_cmp_total, tied_itself}
 use Rattle.change_outcome.specs.adb_fields.Repeated.{package_name}
 use Rattle.adb_view.specs.Plain.{Plain}
-use Rattle.base_core.specs.Listed.{AreSortedDistinctNames}
+use Rattle.base_core.specs.Listed.{AreSortedDistinctTexts}
 use Rattle.base_core.specs.declared.cause.Cause.{Cause}
 use Rattle.base_core.proofs.Rising.{IsIn, Rises, order, pairs_from_rises}
 use Rattle.change_outcome.proofs.change_files.InOrder.{order_rises}
@@ -21,10 +21,10 @@ use Rattle.dep_core.specs.Repositories.{Repository}
 use Rattle.change_outcome.specs.file_owners.Replaces.{package_version_text}
 use Rattle.change_outcome.specs.make_info.Reads.{Reads}
 use Rattle.change_outcome.specs.package_changes.Changes.{Replacement, change_between, change_of_name, is_candidate_named, names_before_and_selected}
-use Rattle.change_outcome.specs.package_changes.Placed.{ReplacementWithCandidatePlaces, candidates_at, replacement_of}
+use Rattle.change_outcome.specs.package_changes.Placed.{ReplacementWithSelectionAsPlaces, candidates_at, replacement_of}
 use Rattle.package_verifier.specs.pkg_core.Whole.{package_fault}
 use Rattle.change_outcome.specs.candidate_core.Candidates.{Candidate}
-use Rattle.change_outcome.specs.candidate_core.Rank.{SealedPool, candidate_at}
+use Rattle.change_outcome.specs.candidate_core.Rank.{SelectionProblem, candidate_at}
 use Rattle.report_core.specs.Reports.{Change, Purge}
 use Rattle.report_core.specs.declared.refusal.Refusal as Refusals
 
@@ -121,7 +121,7 @@ in_pool [] n c is = absurd (cc)
 in_pool (d ∷ cs) zero c is = inl (let same : d ≡ c = cc in ap (λ (x : Candidate). x.name) (sym same))
 in_pool (d ∷ cs) (suc n) c is = inr (in_pool cs n c is)
 
-pub at_places : (pool : SealedPool) (places : List ℕ) (q : List ℕ) → IsIn q (names_of_selected (candidates_at pool places)) → IsIn q (names_of_selected pool.candidates)
+pub at_places : (pool : SelectionProblem) (places : List ℕ) (q : List ℕ) → IsIn q (names_of_selected (candidates_at pool places)) → IsIn q (names_of_selected pool.candidates)
 at_places pool [] q here = absurd here
 at_places pool (n ∷ places) q here = go (candidate_at pool n) refl here (at_places pool places q)
   where
@@ -186,7 +186,7 @@ names_of_members (m ∷ found) = ap (λ z. member_name m.member ∷ z) (names_of
 
 pub members_rise : (r : Replacement) (read : Reads) (repositories : List Repository) (no_scripts : Bool) (found : List MemberFound) → members_after r read repositories no_scripts ≡ Ok found → AreMembersInNameOrder (found_members found)
 members_rise r read repositories no_scripts found is =
-    subst AreSortedDistinctNames (sym (names_of_members found)) (pairs_from_rises _ (after_named r read repositories no_scripts found is).rises)
+    subst AreSortedDistinctTexts (sym (names_of_members found)) (pairs_from_rises _ (after_named r read repositories no_scripts found is).rises)
 
 -- ---- few
 
@@ -227,7 +227,7 @@ count_candidates : (cs : List Candidate) → length (names_of_selected cs) ≡ l
 count_candidates [] = refl
 count_candidates (c ∷ cs) = ap suc (count_candidates cs)
 
-pub members_few : (p : ReplacementWithCandidatePlaces) (read : Reads) (repositories : List Repository) (no_scripts : Bool) (found : List MemberFound) → members_after (replacement_of p) read repositories no_scripts ≡ Ok found → length found ≤ length p.pool.candidates
+pub members_few : (p : ReplacementWithSelectionAsPlaces) (read : Reads) (repositories : List Repository) (no_scripts : Bool) (found : List MemberFound) → members_after (replacement_of p) read repositories no_scripts ≡ Ok found → length found ≤ length p.pool.candidates
 members_few p read repositories no_scripts found is =
     let are = after_named (replacement_of p) read repositories no_scripts found is in
     let most = no_more (found_names found) (names_of_selected p.pool.candidates) are.rises (λ q here. at_places p.pool p.trace q (are.selected q here)) in

@@ -10,7 +10,7 @@ use Rattle.dep_core.specs.Repositories.{Repository}
 use Rattle.change_outcome.specs.make_info.Reads.{Reads}
 use Rattle.change_outcome.specs.package_changes.Placed.{PlacedName, candidate_at_new_place, package_at_old_place}
 use Rattle.change_outcome.specs.candidate_core.Candidates.{Candidate}
-use Rattle.change_outcome.specs.candidate_core.Rank.{SealedPool}
+use Rattle.change_outcome.specs.candidate_core.Rank.{SelectionProblem}
 use Rattle.report_core.specs.Reports.{Change}
 use Rattle.report_core.specs.declared.refusal.Refusal as Refusals
 use Rattle.added_packages.specs.Arrivals.{IsMemberRead, IsPackageRead}
@@ -35,7 +35,7 @@ found_after : (no_scripts : Bool) (name : List ℕ) (numbers : List ℕ) (r : Re
 found_after no_scripts name numbers (Ok pkg) = found_by_script no_scripts name numbers pkg
 found_after no_scripts name numbers (Err refusal) = refl
 
-module _ (before : List Plain) (pool : SealedPool) (repositories : List Repository) (no_scripts : Bool) (n : PlacedName) where
+module _ (before : List Plain) (pool : SelectionProblem) (repositories : List Repository) (no_scripts : Bool) (n : PlacedName) where
   pub by_none : (h : List TreeState) → n.change ≡ None → IsByRead h (member_of_name_by_read before pool repositories no_scripts n) (Ok (option_map kept_member_found (package_at_old_place before n)))
   by_none h is = by_any_read h _ _ (λ read k. ap (λ o. member_of_name_by_change read repositories no_scripts k n.name o (package_at_old_place before n) (candidate_at_new_place pool n)) is)
 

@@ -10,7 +10,7 @@ use Rattle.change_outcome.specs.db_core.Members.{AreMembersInNameOrder, Member, 
 use Rattle.change_outcome.specs.db_core.declared.members.TheConstants.{MOST_MEMBERS}
 use Rattle.dep_core.specs.Repositories.{Repository}
 use Rattle.change_outcome.specs.make_info.Reads.{Reads}
-use Rattle.change_outcome.specs.package_changes.Placed.{ReplacementWithCandidatePlaces, replacement_of}
+use Rattle.change_outcome.specs.package_changes.Placed.{ReplacementWithSelectionAsPlaces, replacement_of}
 use Rattle.added_packages.specs.Arrivals.{AreReadMembersThoseFound, HavePlacesIfKept, CanBeMembers, IsTestedPackageOfMember, IsMemberRead, IsPackageRead, HasPlaceIfKept, member_of_read_package, members_of_read_packages, added_package_in_member_read}
 use Rattle.package_verifier.specs.Tested.{tested_id, tested_value}
 use Rattle.package_verifier.specs.declared.package.TestedPackage.{TestedPackage}
@@ -84,7 +84,7 @@ module _ (h : List TreeState) (before : List Plain) where
       let more = file_found reads found are.1 place pkg here in
       record { file = more.file; located = more.located; tested = more.tested; contents = more.contents }
 
-pub can_be : (h : List TreeState) (p : ReplacementWithCandidatePlaces) (read : Reads) (repositories : List Repository) (no_scripts : Bool) (reads : List MemberRead) (found : List MemberFound) → members_after (replacement_of p) read repositories no_scripts ≡ Ok found → AreReadMembersThoseFound h p.before reads found
+pub can_be : (h : List TreeState) (p : ReplacementWithSelectionAsPlaces) (read : Reads) (repositories : List Repository) (no_scripts : Bool) (reads : List MemberRead) (found : List MemberFound) → members_after (replacement_of p) read repositories no_scripts ≡ Ok found → AreReadMembersThoseFound h p.before reads found
     → length p.pool.candidates ≤ MOST_MEMBERS → CanBeMembers p.before reads
 can_be h p read repositories no_scripts reads found is are few = record {
   placed = all_placed h p.before reads found are;

@@ -13,7 +13,7 @@ use Rattle.dep_core.specs.Repositories.{Repository}
 use Rattle.change_outcome.specs.make_info.Reads.{Reads}
 use Rattle.change_outcome.specs.package_changes.Placed.{PlacedName, candidate_at_new_place, package_at_old_place}
 use Rattle.change_outcome.specs.candidate_core.Candidates.{Candidate}
-use Rattle.change_outcome.specs.candidate_core.Rank.{SealedPool}
+use Rattle.change_outcome.specs.candidate_core.Rank.{SelectionProblem}
 use Rattle.report_core.specs.Reports.{Change}
 use Rattle.report_core.specs.declared.refusal.Refusal as Refusals
 use Rattle.added_packages.specs.Arrivals.{IsMemberRead}
@@ -67,7 +67,7 @@ added_package_read repositories no_scripts name change c read n =
 -- the result for a name, by what read number `n` finds as its package's file: a package after the change, None if it is
 -- removed, or the refusal
 abbrev pub member_of_name_by_read :
-    List Plain → SealedPool → List Repository → Bool → PlacedName → Reads → ℕ
+    List Plain → SelectionProblem → List Repository → Bool → PlacedName → Reads → ℕ
     → Result (Option MemberFound) Refusals.Refusal
 member_of_name_by_read before pool repositories no_scripts name read n =
     member_of_name_by_change read repositories no_scripts n name.name name.change

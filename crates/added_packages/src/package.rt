@@ -21,7 +21,7 @@ ghost use Rattle.report_core.specs.declared.refusal.Refusal.{Refusal as RefusalV
 
 use crate::scripts::test_scripts;
 use base_core::{Cause, Name, Text, Tree};
-use change_outcome::{Candidate, Change, Refused, is_same_id, package_file_beside};
+use change_outcome::{Candidate, Change, Refused, is_same_id_by_nonempty_prefix, package_file_beside};
 use dep_core::Repos;
 use package_verifier::{PackageRead, PackageView, TestedPackage, read_package};
 use report_core::Refusal;
@@ -228,7 +228,7 @@ pub(crate) fn test_same(
         (candidate_value c.now) coming) }
 {
     let info = pkg.info();
-    if !is_same_id(c.info.hashes(), id) {
+    if !is_same_id_by_nonempty_prefix(c.info.hashes(), id) {
         return Err(differs(alloc, c, HASHES_FIELD, c.info.hashes(), id));
     }
     if c.info.name() != info.name() {

@@ -2,8 +2,8 @@
 //! The rule is in `docs/commands.md`, "`add` and `del`", part "What is refused":
 //! which scripts a package has to run that is installed, removed, or gets another version.
 ghost use Rattle.package_verifier.specs.adb_schema.Views.{package_value, scripts_value};
-ghost use Rattle.adb_view.specs.FieldIndexes.{PACKAGE_SCRIPTS};
-ghost use Rattle.adb_view.specs.Values.{entry_in};
+ghost use Rattle.adb_view.specs.FieldIndexes.{PACKAGE_SCRIPTS_INDEX};
+ghost use Rattle.adb_view.specs.Values.{entry_at_index};
 ghost use Rattle.adb_view.specs.Plain.{Plain};
 ghost use Rattle.added_packages.specs.Told.{IsRefusalReported};
 ghost use Rattle.change_outcome.specs.change_inputs.Answers.{Agrees};
@@ -65,7 +65,7 @@ fn script_needed(alloc: Global, name: &[u8], number: u16) -> Result<Refusal, All
 /// one.
 fn first_script(change: &Change<'_>, scripts: &ScriptsView<'_>) -> Option<u16>
     // The result is the number of the first script of the package that the change would run.
-    ensures { (pkg : Plain) → scripts_value scripts.now ≡ entry_in pkg PACKAGE_SCRIPTS
+    ensures { (pkg : Plain) → scripts_value scripts.now ≡ entry_at_index pkg PACKAGE_SCRIPTS_INDEX
         → result ≡ first_script_number_of_package pkg (scripts_of_change (change_seen change.now)) }
 {
     match change {

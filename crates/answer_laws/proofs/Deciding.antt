@@ -12,7 +12,7 @@ use Rattle.installed_info.proofs.Listers.{listed, is_listed}
 use Rattle.version_core.proofs.OrderLaws.{version_cmp-total}
 use Rattle.version_core.specs.Order.{is_version, version_cmp}
 use Rattle.adb_view.specs.Plain.{Plain}
-use Rattle.installed_info.specs.candidate_core.Candidates.{Candidate, is_same_id, version_of_text}
+use Rattle.installed_info.specs.candidate_core.Candidates.{Candidate, is_same_id_by_nonempty_prefix, version_of_text}
 use Rattle.change_outcome.specs.db_core.Packages.{installed_id}
 use Rattle.installed_info.specs.file_owners.Replaces.{package_version_text}
 use Rattle.change_outcome.specs.package_changes.Changes.{Replacement, change_between, change_of_name, is_candidate_named, candidate_version_text, change_by_is_same_and_is_again, version_change, version_text_cmp}
@@ -41,7 +41,7 @@ order_is old new e f =
 record Tests (r : Replacement) (name : List ℕ) (pkg : Plain) (c : Candidate) : Type 0 where
   change : change_of_name r name
       ≡ decided name (package_version_text pkg) (candidate_version_text c) (bytes_eq (package_version_text pkg) (candidate_version_text c))
-      (is_same_id (installed_id pkg) c.id) (list_any (bytes_eq name) r.again) (version_cmp (package_version_text pkg) (candidate_version_text c))
+      (is_same_id_by_nonempty_prefix (installed_id pkg) c.id) (list_any (bytes_eq name) r.again) (version_cmp (package_version_text pkg) (candidate_version_text c))
   tied : bytes_eq (package_version_text pkg) (candidate_version_text c) ≡ true → version_cmp (package_version_text pkg) (candidate_version_text c) ≡ Equal
 
 tests : (r : Replacement) (name : List ℕ) (pkg : Plain) (c : Candidate) → AreOldAndRepositoryOneWithValidVersions r name pkg c → Tests r name pkg c
@@ -49,7 +49,7 @@ unfolding change_of_name
 tests r name pkg c both =
     let again : Bool = list_any (bytes_eq name) r.again in
     let text : Bool = bytes_eq (package_version_text pkg) (candidate_version_text c) in
-    let id : Bool = is_same_id (installed_id pkg) c.id in
+    let id : Bool = is_same_id_by_nonempty_prefix (installed_id pkg) c.id in
     record {
       change =
           ap (λ (o : Option Plain). change_between again name o (find (is_candidate_named name) r.selected)) both.before
@@ -138,27 +138,27 @@ downgrades r name pkg c both =
     (λ e. is.0 (sym t.change ∙ e), λ e. t.change ∙ is.1 e)
 
 -- the two tests say that the candidate is the package
-very : (pkg : Plain) (c : Candidate) → Both (bytes_eq (package_version_text pkg) (candidate_version_text c)) (is_same_id (installed_id pkg) c.id) → IsSameVersionAndId pkg c
+very : (pkg : Plain) (c : Candidate) → Both (bytes_eq (package_version_text pkg) (candidate_version_text c)) (is_same_id_by_nonempty_prefix (installed_id pkg) c.id) → IsSameVersionAndId pkg c
 very pkg c b = ((bytes_eq-Decides (package_version_text pkg) (candidate_version_text c)).0 b.0, b.1)
 
-tested : (pkg : Plain) (c : Candidate) → IsSameVersionAndId pkg c → Both (bytes_eq (package_version_text pkg) (candidate_version_text c)) (is_same_id (installed_id pkg) c.id)
+tested : (pkg : Plain) (c : Candidate) → IsSameVersionAndId pkg c → Both (bytes_eq (package_version_text pkg) (candidate_version_text c)) (is_same_id_by_nonempty_prefix (installed_id pkg) c.id)
 tested pkg c v = ((bytes_eq-Decides (package_version_text pkg) (candidate_version_text c)).1 v.0, v.1)
 
 pub replaces : Kind (λ r name pkg c. (change_of_name r name ≡ Some (Replace name (package_version_text pkg) (candidate_version_text c)))
     ↔ ((version_cmp (package_version_text pkg) (candidate_version_text c) ≡ Equal) × (IsSameVersionAndId pkg c → ⊥)))
 replaces r name pkg c both =
     let t = tests r name pkg c both in
-    let is = is_replace name (package_version_text pkg) (candidate_version_text c) (bytes_eq (package_version_text pkg) (candidate_version_text c)) (is_same_id (installed_id pkg) c.id) (list_any (bytes_eq name) r.again) (version_cmp (package_version_text pkg) (candidate_version_text c)) in
+    let is = is_replace name (package_version_text pkg) (candidate_version_text c) (bytes_eq (package_version_text pkg) (candidate_version_text c)) (is_same_id_by_nonempty_prefix (installed_id pkg) c.id) (list_any (bytes_eq name) r.again) (version_cmp (package_version_text pkg) (candidate_version_text c)) in
     (λ e. let u = is.0 (sym t.change ∙ e) in (u.0, λ v. u.1 (tested pkg c v)), λ e. t.change ∙ is.1 (e.0, λ b. e.1 (very pkg c b)))
 
 pub reinstalls : Kind (λ r name pkg c. (change_of_name r name ≡ Some (Reinstall name (candidate_version_text c))) ↔ (IsSameVersionAndId pkg c × IsIn name r.again))
 reinstalls r name pkg c both =
     let t = tests r name pkg c both in
-    let is = is_reinstall name (package_version_text pkg) (candidate_version_text c) (bytes_eq (package_version_text pkg) (candidate_version_text c)) (is_same_id (installed_id pkg) c.id) (list_any (bytes_eq name) r.again) (version_cmp (package_version_text pkg) (candidate_version_text c)) in
+    let is = is_reinstall name (package_version_text pkg) (candidate_version_text c) (bytes_eq (package_version_text pkg) (candidate_version_text c)) (is_same_id_by_nonempty_prefix (installed_id pkg) c.id) (list_any (bytes_eq name) r.again) (version_cmp (package_version_text pkg) (candidate_version_text c)) in
     (λ e. let u = is.0 (sym t.change ∙ e) in (very pkg c u.0, listed name r.again u.1), λ e. t.change ∙ is.1 (tested pkg c e.0, is_listed name r.again e.1))
 
 pub keeps : Kind (λ r name pkg c. (change_of_name r name ≡ None) ↔ (IsSameVersionAndId pkg c × (IsIn name r.again → ⊥)))
 keeps r name pkg c both =
     let t = tests r name pkg c both in
-    let is = is_kept name (package_version_text pkg) (candidate_version_text c) (bytes_eq (package_version_text pkg) (candidate_version_text c)) (is_same_id (installed_id pkg) c.id) (list_any (bytes_eq name) r.again) (version_cmp (package_version_text pkg) (candidate_version_text c)) in
+    let is = is_kept name (package_version_text pkg) (candidate_version_text c) (bytes_eq (package_version_text pkg) (candidate_version_text c)) (is_same_id_by_nonempty_prefix (installed_id pkg) c.id) (list_any (bytes_eq name) r.again) (version_cmp (package_version_text pkg) (candidate_version_text c)) in
     (λ e. let u = is.0 (sym t.change ∙ e) in (very pkg c u.0, λ b. u.1 (is_listed name r.again b)), λ e. t.change ∙ is.1 (tested pkg c e.0, λ b. e.1 (listed name r.again b)))

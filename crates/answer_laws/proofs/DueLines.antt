@@ -4,13 +4,13 @@ use Rattle.std.specs.Prelude.{if◌then◌else◌}
 use Rattle.std.specs.List.{filter, flat_map}
 use Rattle.std.proofs.lemmas.Grind.{flat_map-append}
 use Rattle.base_core.proofs.Rising as rising
-use Rattle.base_core.specs.Listed.{AreSortedDistinctNames}
+use Rattle.base_core.specs.Listed.{AreSortedDistinctTexts}
 use Rattle.base_core.specs.Lists.{IsIn}
 use Rattle.change_outcome.proofs.change_files.InOrder.{filter_rises, order_rises}
 use Rattle.change_outcome.specs.Triggers.{due_trigger_line, due_trigger_lines_for_folders, folders_of_paths, has_due_trigger, is_trigger_due, trigger_lines, unless_trigger_due}
 use Rattle.change_outcome.specs.db_core.Members.{Member, member_name}
 use Rattle.change_outcome.specs.package_files.Folders.{folder_of}
-use Rattle.report_core.specs.Reports.{report_line, report_lines, trigger_due_text}
+use Rattle.report_core.specs.Reports.{report_line, report_lines, trigger_due_for_folder_text}
 use Rattle.report_core.specs.declared.refusal.Refusal.TheVariants.{TriggerNeeded}
 use Rattle.answer_laws.specs.DueTriggers.{HasDueTriggerLines, IsTriggerDueFor, IsFirstPackageWithDueTrigger, HasTriggerWatchingFolder}
 use Rattle.answer_laws.proofs.Tests.{any_passes, in_passing, passes_any, passing_in}
@@ -21,7 +21,7 @@ use Rattle.answer_laws.proofs.Watched.{due_is, folders_are}
 abbrev due_folders : List (List ℕ) → Member → List (List ℕ)
 due_folders paths m = filter (is_trigger_due m.pkg) (folders_of_paths paths)
 
-due_rising : (paths : List (List ℕ)) (m : Member) → AreSortedDistinctNames (due_folders paths m)
+due_rising : (paths : List (List ℕ)) (m : Member) → AreSortedDistinctTexts (due_folders paths m)
 due_rising paths m =
     rising.pairs_from_rises (due_folders paths m) (filter_rises (is_trigger_due m.pkg) (folders_of_paths paths) (order_rises (map folder_of paths)))
 
@@ -35,12 +35,12 @@ due_each paths m folder = (
 
 -- ---- the text
 
-lines_of_one : (m : Member) (folders : List (List ℕ)) → flat_map (due_trigger_line m.pkg) folders ≡ report_lines (map (trigger_due_text (member_name m)) folders)
+lines_of_one : (m : Member) (folders : List (List ℕ)) → flat_map (due_trigger_line m.pkg) folders ≡ report_lines (map (trigger_due_for_folder_text (member_name m)) folders)
 lines_of_one m [] = refl
 lines_of_one m (folder ∷ folders) = ap (λ (t : List ℕ). due_trigger_line m.pkg folder ++ t) (lines_of_one m folders)
 
 abbrev due_texts : List (List ℕ) → Member → List (List ℕ)
-due_texts paths m = map (trigger_due_text (member_name m)) (due_folders paths m)
+due_texts paths m = map (trigger_due_for_folder_text (member_name m)) (due_folders paths m)
 
 lines_of_all : (paths : List (List ℕ)) (members : List Member)
     → flat_map (λ (m : Member). due_trigger_lines_for_folders (folders_of_paths paths) m.pkg) members ≡ report_lines (flat_map (due_texts paths) members)

@@ -11,7 +11,7 @@ use Rattle.base_core.specs.declared.cause.Digest.{Digest}
 use Rattle.base_core.specs.declared.cause.Digest.TheVariants.{Sha1, Sha256, Sha512}
 use Rattle.adb_view.specs.Plain.{Plain}
 use Rattle.audit_core.specs.file_guard.AsListed.{are_sizes_hashes_targets_equal, file_hash, file_size, file_target, is_as_listed, is_as_listed_by_size_hash_target, link_file_bytes_of_target}
-use Rattle.audit_core.specs.file_guard.pkg_core.Contents.{fault_if_digests_differ, hash_fault}
+use Rattle.audit_core.specs.file_guard.pkg_core.Contents.{fault_if_wanted_and_found_digests_differ, fault_if_digest_is_not_of_bytes}
 use Rattle.answer_laws.specs.EntryFields.{GiveSameSizeDigestAndTarget, HasDigestIfLengthIsKnown, IsTargetFieldOfSymlinkMarkedBytes, digest_field_of_entry, size_field_of_entry, target_field_of_entry}
 
 -- ---- two entries
@@ -43,10 +43,10 @@ link_by size hash (x ∷ target) bytes some = rw (ne_eqb (length (x ∷ target))
 -- ---- a digest
 
 -- the fault of a digest by some function is absent exactly if the digest is the wanted one
-no_fault : (as_digest : List ℕ → Digest) (wanted found : List ℕ) → (is_none (fault_if_digests_differ as_digest wanted found) ≡ true) ↔ (wanted ≡ found)
+no_fault : (as_digest : List ℕ → Digest) (wanted found : List ℕ) → (is_none (fault_if_wanted_and_found_digests_differ as_digest wanted found) ≡ true) ↔ (wanted ≡ found)
 no_fault as_digest wanted found = go (bytes_eq wanted found) refl
   where
-    go : (b : Bool) → bytes_eq wanted found ≡ b → (is_none (fault_if_digests_differ as_digest wanted found) ≡ true) ↔ (wanted ≡ found)
+    go : (b : Bool) → bytes_eq wanted found ≡ b → (is_none (fault_if_wanted_and_found_digests_differ as_digest wanted found) ≡ true) ↔ (wanted ≡ found)
     go true is = (λ e. (bytes_eq-Decides wanted found).0 is, λ same. rw is refl)
     go false is = (λ e. absurd (true≢false (sym (rw is at e))), λ same. absurd (true≢false (sym ((bytes_eq-Decides wanted found).1 same) ∙ is)))
 
@@ -73,13 +73,13 @@ both_ways one two = (λ p. two.0 (one.0 p), λ r. one.1 (two.1 r))
 
 abbrev fault_by : List ℕ → List ℕ → Bool → Bool → Bool → Option Cause
 fault_by hash bytes b20 b32 b64 =
-    if b20 then fault_if_digests_differ Sha1 hash (sha1 bytes)
-    else if b32 then fault_if_digests_differ Sha256 hash (sha256 bytes)
-    else if b64 then fault_if_digests_differ Sha512 hash (sha512 bytes)
+    if b20 then fault_if_wanted_and_found_digests_differ Sha1 hash (sha1 bytes)
+    else if b32 then fault_if_wanted_and_found_digests_differ Sha256 hash (sha256 bytes)
+    else if b64 then fault_if_wanted_and_found_digests_differ Sha512 hash (sha512 bytes)
     else None
 
-digest_by : (hash bytes : List ℕ) → (is_none (hash_fault hash bytes) ≡ true) ↔ HasDigestIfLengthIsKnown hash bytes
-unfolding hash_fault
+digest_by : (hash bytes : List ℕ) → (is_none (fault_if_digest_is_not_of_bytes hash bytes) ≡ true) ↔ HasDigestIfLengthIsKnown hash bytes
+unfolding fault_if_digest_is_not_of_bytes
 digest_by hash bytes = go (length hash == 20) (length hash == 32) (length hash == 64) refl refl refl
   where
     go : (b20 b32 b64 : Bool) → (length hash == 20) ≡ b20 → (length hash == 32) ≡ b32 → (length hash == 64) ≡ b64 → (is_none (fault_by hash bytes b20 b32 b64) ≡ true) ↔ HasDigestIfLengthIsKnown hash bytes

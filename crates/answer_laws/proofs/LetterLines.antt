@@ -6,7 +6,7 @@ use Rattle.std.proofs.lemmas.Bool.{eqb-true}
 use Rattle.dep_core.specs.Dependency.{Dependency}
 use Rattle.dep_core.specs.Reading.{dependency_of}
 use Rattle.dep_core.specs.Spelling.{SpellsDependency}
-use Rattle.change_outcome.specs.make_info.Fields.{FieldValue}
+use Rattle.change_outcome.specs.make_info.Fields.{TextNumberOrDependency}
 use Rattle.change_outcome.specs.v2_lines.InfoFields.{field_of_letter, grammar_of, info_field_among, info_fields, letter_of}
 use Rattle.change_outcome.specs.v2_lines.InfoValues.{sha1_in_text, values_under_grammar}
 use Rattle.change_outcome.specs.v2_lines.Lines.{RecordLine, info_line, folder_line, folder_access_line, file_line, file_access_line, file_hash_line, other_line, folder_line_if_path, file_line_if_one_part, info_line_or_skipped_if_no_field, record_line_or_skipped_if_letter_unknown, record_line_of}
@@ -32,15 +32,15 @@ found_field (f ∷ fs) letter g e = go (letter_of f == letter) refl e (found_fie
     go false t e more = more e
 
 -- what is known of a line of the information
-abbrev IsInfo : ℕ → List ℕ → InfoField → List FieldValue → Type 0
+abbrev IsInfo : ℕ → List ℕ → InfoField → List TextNumberOrDependency → Type 0
 IsInfo letter value g v = (letter ≡ letter_of g) × (values_under_grammar (grammar_of g) value ≡ Some v)
 
-info_by_line : (letter : ℕ) (o : Option InfoField) (value : List ℕ) (g : InfoField) (v : List FieldValue) → field_of_letter letter ≡ o → info_line_or_skipped_if_no_field o value ≡ Some (info_line g v) → IsInfo letter value g v
+info_by_line : (letter : ℕ) (o : Option InfoField) (value : List ℕ) (g : InfoField) (v : List TextNumberOrDependency) → field_of_letter letter ≡ o → info_line_or_skipped_if_no_field o value ≡ Some (info_line g v) → IsInfo letter value g v
 unfolding field_of_letter
 info_by_line letter None value g v is e = absurd cc
 info_by_line letter (Some f) value g v is e = go (values_under_grammar (grammar_of f) value) refl e
   where
-    go : (o : Option (List FieldValue)) → values_under_grammar (grammar_of f) value ≡ o → option_map (info_line f) o ≡ Some (info_line g v) → IsInfo letter value g v
+    go : (o : Option (List TextNumberOrDependency)) → values_under_grammar (grammar_of f) value ≡ o → option_map (info_line f) o ≡ Some (info_line g v) → IsInfo letter value g v
     go None said e = absurd cc
     go (Some u) said e =
         let same : info_line f u ≡ info_line g v = cc in
@@ -50,7 +50,7 @@ info_by_line letter (Some f) value g v is e = go (values_under_grammar (grammar_
 
 -- a meaning that is no line of the information
 abbrev IsElse : Option RecordLine → Type 0
-IsElse o = (g : InfoField) (v : List FieldValue) → o ≡ Some (info_line g v) → ⊥
+IsElse o = (g : InfoField) (v : List TextNumberOrDependency) → o ≡ Some (info_line g v) → ⊥
 
 else_by : (b : Bool) (l : RecordLine) → IsElse (Some l) → IsElse (if b then Some l else None)
 else_by true l other g v e = other g v e
@@ -60,11 +60,11 @@ else_of : {A : Type 0} (line : A → RecordLine) → ((a : A) → IsElse (Some (
 else_of line other None g v e = absurd cc
 else_of line other (Some a) g v e = other a g v e
 
-after_else : (b : Bool) (o next : Option RecordLine) (g : InfoField) (v : List FieldValue) → IsElse o → (if b then o else next) ≡ Some (info_line g v) → next ≡ Some (info_line g v)
+after_else : (b : Bool) (o next : Option RecordLine) (g : InfoField) (v : List TextNumberOrDependency) → IsElse o → (if b then o else next) ≡ Some (info_line g v) → next ≡ Some (info_line g v)
 after_else true o next g v other e = absurd (other g v e)
 after_else false o next g v other e = e
 
-info_found : (letter : ℕ) (value : List ℕ) (g : InfoField) (v : List FieldValue) → record_line_or_skipped_if_letter_unknown letter value ≡ Some (info_line g v) → IsInfo letter value g v
+info_found : (letter : ℕ) (value : List ℕ) (g : InfoField) (v : List TextNumberOrDependency) → record_line_or_skipped_if_letter_unknown letter value ≡ Some (info_line g v) → IsInfo letter value g v
 unfolding record_line_or_skipped_if_letter_unknown
 info_found letter value g v e =
     info_by_line letter (field_of_letter letter) value g v refl
@@ -87,20 +87,20 @@ infos (Some (file_access_line a)) = []
 infos (Some (file_hash_line hash)) = []
 infos (Some other_line) = []
 
-abbrev pub values_of : InfoField → List InfoLine → List FieldValue
+abbrev pub values_of : InfoField → List InfoLine → List TextNumberOrDependency
 values_of f info = flat_map (values_if_line_of_field f) info
 
 -- the values that a line gives to a field
-abbrev pub given : InfoField → List ℕ → List FieldValue
+abbrev pub given : InfoField → List ℕ → List TextNumberOrDependency
 given f line = values_of f (infos (record_line_of line))
 
 own_letter : (f : InfoField) → (letter_of f == letter_of f) ≡ true
 own_letter f = eq-eqb (letter_of f) (letter_of f) refl
 
-pub own_values : (f : InfoField) (v : List FieldValue) → values_of f (info_line_from_parts f v ∷ []) ≡ v
+pub own_values : (f : InfoField) (v : List TextNumberOrDependency) → values_of f (info_line_from_parts f v ∷ []) ≡ v
 own_values f v = ap (λ (b : Bool). (if b then v else []) ++ []) (own_letter f) ∙ append-nil v
 
-pub other_values : (f g : InfoField) (v : List FieldValue) → (letter_of g == letter_of f) ≡ false → values_of f (info_line_from_parts g v ∷ []) ≡ []
+pub other_values : (f g : InfoField) (v : List TextNumberOrDependency) → (letter_of g == letter_of f) ≡ false → values_of f (info_line_from_parts g v ∷ []) ≡ []
 other_values f g v e = ap (λ (b : Bool). (if b then v else []) ++ []) e
 
 marked : (mark : ℕ) (o : Option RecordLine) (l : RecordLine) (b : Bool) → (mark == 58) ≡ b → (if b then o else None) ≡ Some l → (mark ≡ 58) × (o ≡ Some l)
@@ -111,7 +111,7 @@ same_head : (x y : ℕ) (xs ys : List ℕ) → x ∷ xs ≡ y ∷ ys → x ≡ y
 same_head x y xs ys e = cc
 
 module _ (spelled : (t : List ℕ) (d : Dependency) → dependency_of t ≡ Some d → SpellsDependency t d) (read : (t : List ℕ) (d : Dependency) → SpellsDependency t d → dependency_of t ≡ Some d) where
-  own_line : (f : InfoField) (value : List ℕ) (l : RecordLine) (o : Option (List FieldValue)) → values_under_grammar (grammar_of f) value ≡ o → option_map (info_line f) o ≡ Some l → LineValueGivesFieldValues f value (values_of f (infos (Some l)))
+  own_line : (f : InfoField) (value : List ℕ) (l : RecordLine) (o : Option (List TextNumberOrDependency)) → values_under_grammar (grammar_of f) value ≡ o → option_map (info_line f) o ≡ Some l → LineValueGivesFieldValues f value (values_of f (infos (Some l)))
   own_line f value l None is e = absurd cc
   own_line f value l (Some v) is e =
       let same : info_line f v ≡ l = cc in

@@ -10,7 +10,7 @@ use Rattle.hex.specs.declared.error.FromHexError.{FromHexError}
 use Rattle.dep_core.specs.Dependency.{Dependency}
 use Rattle.dep_core.specs.Reading.{dependency_of}
 use Rattle.dep_core.specs.Spelling.{SpellsDependency}
-use Rattle.change_outcome.specs.make_info.Fields.{FieldValue, text, kind_of_field, field_values_of_decoded_hex, values_by_kind}
+use Rattle.change_outcome.specs.make_info.Fields.{TextNumberOrDependency, text, kind_of_field, field_values_of_decoded_hex, values_by_kind}
 use Rattle.change_outcome.specs.make_info.declared.field.Field.{Field}
 use Rattle.change_outcome.specs.make_info.declared.field.Field.TheVariants as Options
 use Rattle.make_laws.specs.OptionGrammar.{FieldTextGivesValues}
@@ -90,15 +90,15 @@ hash_says (q ∷ one ∷ encoded) bytes e =
     let t = twenty (base64_bytes standard encoded) bytes is in
     (encoded, bytes, ap (λ (x : ℕ). x ∷ one ∷ encoded) is_q ∙ ap (λ (x : ℕ). 81 ∷ x ∷ encoded) is_one, t.0, t.1, refl)
 
-mapped : {A : Type 0} (f : A → List FieldValue) (o : Option A) (said : List FieldValue) → option_map f o ≡ Some said → (x : A) × (o ≡ Some x) × (f x ≡ said)
+mapped : {A : Type 0} (f : A → List TextNumberOrDependency) (o : Option A) (said : List TextNumberOrDependency) → option_map f o ≡ Some said → (x : A) × (o ≡ Some x) × (f x ≡ said)
 mapped f None said e = absurd cc
 mapped f (Some x) said e = (x, refl, cc)
 
 module _ (spelled : (t : List ℕ) (d : Dependency) → dependency_of t ≡ Some d → SpellsDependency t d) (read : (t : List ℕ) (d : Dependency) → SpellsDependency t d → dependency_of t ≡ Some d) where
-  as_option : (f : Field) (value : List ℕ) (said : List FieldValue) → values_by_kind (kind_of_field f) value ≡ Some said → FieldTextGivesValues f value said
+  as_option : (f : Field) (value : List ℕ) (said : List TextNumberOrDependency) → values_by_kind (kind_of_field f) value ≡ Some said → FieldTextGivesValues f value said
   as_option f value said e = says_to spelled read f value said e
 
-  commit : (value : List ℕ) (r : Result (List ℕ) FromHexError) (said : List FieldValue) → hex_bytes value ≡ r → commit_values r ≡ said → GivesCommit value said
+  commit : (value : List ℕ) (r : Result (List ℕ) FromHexError) (said : List TextNumberOrDependency) → hex_bytes value ≡ r → commit_values r ≡ said → GivesCommit value said
   commit value (Ok bytes) said is e =
       inl (as_option Options.RepoCommit value said (ap field_values_of_decoded_hex is ∙ ap Some e))
   commit value (Err error) said is e = inr (
@@ -106,10 +106,10 @@ module _ (spelled : (t : List ℕ) (d : Dependency) → dependency_of t ≡ Some
     sym e,
   )
 
-  some_commit : (value said : List FieldValue) → Some value ≡ Some said → value ≡ said
+  some_commit : (value said : List TextNumberOrDependency) → Some value ≡ Some said → value ≡ said
   some_commit value said e = cc
 
-  pub says : (f : InfoField) (value : List ℕ) (said : List FieldValue) → values_under_grammar (grammar_of f) value ≡ Some said → LineValueGivesFieldValues f value said
+  pub says : (f : InfoField) (value : List ℕ) (said : List TextNumberOrDependency) → values_under_grammar (grammar_of f) value ≡ Some said → LineValueGivesFieldValues f value said
   says Letters.Hashes value said e =
       let (bytes, is, same) = mapped (λ (b : List ℕ). text b ∷ []) (sha1_in_text value) said e in
       subst (GivesHash value) same (hash_says value bytes is)

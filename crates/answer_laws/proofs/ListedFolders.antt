@@ -2,7 +2,7 @@
 use Rattle.std.proofs.Common.{◌≡◌, ◌∙◌, ℕ, List, [], ◌∷◌, ◌++◌, map, Option, Some, None, refl, ap, sym, append_assoc}
 use Rattle.std.specs.Prelude.{if◌then◌else◌, is_some, option_map}
 use Rattle.std.specs.Option.{option_and_then, option_or}
-use Rattle.change_outcome.specs.make_info.Fields.{FieldValue}
+use Rattle.change_outcome.specs.make_info.Fields.{TextNumberOrDependency}
 use Rattle.change_outcome.proofs.v2_core.Lists.{with_last-push}
 use Rattle.change_outcome.specs.v2_core.Reading.{record_with_text_line}
 use Rattle.change_outcome.specs.v2_core.Records.{ListedFile, ListedFolder, Record, empty_record, listed_file_from_parts, file_with_access, file_with_hash, listed_folder_from_parts, folder_with_access, folder_with_file, folder_with_files, folder_with_last_file_changed, list_with_last_changed, with_path_line}
@@ -46,7 +46,7 @@ as_it_is f = ap (λ (o : Option Access). listed_folder_from_parts f.name o (grow
 
 -- ---- lines that are not of files
 
-files_past_info : (g : InfoField) (values : List FieldValue) (files : List ListedFile) (lines : List RecordLine) → grown_files files (info_line g values ∷ lines) ≡ grown_files files lines
+files_past_info : (g : InfoField) (values : List TextNumberOrDependency) (files : List ListedFile) (lines : List RecordLine) → grown_files files (info_line g values ∷ lines) ≡ grown_files files lines
 unfolding grown_files grown_file
 files_past_info g values [] lines = refl
 files_past_info g values (x ∷ []) lines = refl
@@ -187,7 +187,7 @@ last_of change done f lines all e = go (change f) refl (sym (ap (option_and_then
     go None is e = absurd cc
     go (Some g) is e = record { changed = g; is = is; after = e }
 
-grown_past_info : (g : InfoField) (values : List FieldValue) (f : ListedFolder) (lines : List RecordLine) → grown f lines ≡ grown f (info_line g values ∷ lines)
+grown_past_info : (g : InfoField) (values : List TextNumberOrDependency) (f : ListedFolder) (lines : List RecordLine) → grown f lines ≡ grown f (info_line g values ∷ lines)
 unfolding grown
 grown_past_info g values f lines = ap (listed_folder_from_parts f.name (option_or f.access (folder_access_in lines))) (sym (files_past_info g values f.files lines))
 

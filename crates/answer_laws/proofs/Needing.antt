@@ -9,7 +9,7 @@ use Rattle.std.proofs.lemmas.Slice.Eq.{bytes_eq-Decides}
 use Rattle.std.proofs.lemmas.Bool.{not-true, and_from, and_parts, or_cases, not_from_false}
 use Rattle.change_outcome.specs.adb_fields.Repeated.{package_name}
 use Rattle.adb_view.specs.Plain.{Plain}
-use Rattle.base_core.specs.Listed.{AreSortedDistinctNames}
+use Rattle.base_core.specs.Listed.{AreSortedDistinctTexts}
 use Rattle.base_core.specs.Lists.{IsIn}
 use Rattle.base_core.proofs.Rising as rising
 use Rattle.base_core.proofs.Booleans.{either_true}
@@ -95,7 +95,7 @@ needed_under selected needed name = (
       n.named)),
 )
 
-pub needed_rising : (selected : List Candidate) (needed : Candidate) → AreSortedDistinctNames (names_needing_candidate selected needed)
+pub needed_rising : (selected : List Candidate) (needed : Candidate) → AreSortedDistinctTexts (names_needing_candidate selected needed)
 needed_rising selected needed = rising.pairs_from_rises (names_needing_candidate selected needed) (order_rises (map name_of (filter (is_candidate_needed_by_other needed) selected)))
 
 -- ---- the lines

@@ -1,9 +1,9 @@
 -- Where packages and databases are found.
 use Rattle.std.proofs.Common.{◌≡◌, ◌∙◌, ℕ, ◌+◌, Bool, true, false, List, [], ◌∷◌, ◌++◌, Option, Some, None, Result, Ok, Err, refl, ap, sym, arith}
 use Rattle.std.specs.Prelude.{◌-◌, ◌==◌, ◌||◌, if◌then◌else◌, codes, slice_get}
-use Rattle.change_outcome.specs.adb_fields.Repeated.{entries_at}
+use Rattle.change_outcome.specs.adb_fields.Repeated.{entries_of_field_at_index}
 use Rattle.installed_info.specs.adb_schema.Soundness.{payload_in, root_value_of_payload}
-use Rattle.adb_view.specs.FieldIndexes.{IDB_PACKAGES}
+use Rattle.adb_view.specs.FieldIndexes.{IDB_PACKAGES_INDEX}
 use Rattle.adb_view.specs.declared.tables.Which.TheVariants.{Idb}
 use Rattle.base_core.specs.Name.{is_name}
 use Rattle.base_core.specs.declared.cause.Cause.{Cause}
@@ -11,7 +11,7 @@ use Rattle.installed_info.specs.candidate_core.Candidates.{Candidate}
 use Rattle.change_outcome.specs.change_inputs.Chains.{unless_cause}
 use Rattle.change_outcome.specs.change_inputs.Database.{Database, database_of_packages_file_and_is_text, payload_database, root_database}
 use Rattle.change_outcome.specs.PackageFiles.{package_file_path_of_candidate, path_of_name_version_beside_index}
-use Rattle.change_outcome.specs.root_names.PackagePath.{folder_prefix_of, has_slash, path_if_valid_name, package_path}
+use Rattle.change_outcome.specs.root_names.PackagePath.{path_up_to_last_slash, has_slash, path_if_valid_name, package_path}
 use Rattle.dep_core.specs.Repositories.{Repository}
 use Rattle.change_outcome.specs.package_changes.Changes.{candidate_version_text}
 use Rattle.installed_info.specs.adb_schema.Soundness.{container_fault_except_contents}
@@ -23,9 +23,9 @@ use Rattle.answer_laws.specs.FoundFiles.{HasNoSlash, IsCandidateOfIndexAtPath, c
 
 -- ---- the folder of an index
 
-no_prefix : (text : List ℕ) → HasNoSlash text → folder_prefix_of text ≡ []
+no_prefix : (text : List ℕ) → HasNoSlash text → path_up_to_last_slash text ≡ []
 no_prefix [] none = refl
-no_prefix (b ∷ text) none = ap (λ (t : Bool). if t then b ∷ folder_prefix_of text else []) none
+no_prefix (b ∷ text) none = ap (λ (t : Bool). if t then b ∷ path_up_to_last_slash text else []) none
 
 slash_within : (folder index : List ℕ) → has_slash (folder ++ codes "/" ++ index) ≡ true
 slash_within [] index = refl
@@ -35,10 +35,10 @@ slash_within (b ∷ folder) index = go (b == 47) (slash_within folder index)
     go true e = refl
     go false e = e
 
-prefix_is : (folder index : List ℕ) → HasNoSlash index → folder_prefix_of (folder ++ codes "/" ++ index) ≡ folder ++ codes "/"
+prefix_is : (folder index : List ℕ) → HasNoSlash index → path_up_to_last_slash (folder ++ codes "/" ++ index) ≡ folder ++ codes "/"
 prefix_is [] index none = ap (λ (t : List ℕ). 47 ∷ t) (no_prefix index none)
 prefix_is (b ∷ folder) index none =
-    ap (λ (t : Bool). if t then b ∷ folder_prefix_of (folder ++ codes "/" ++ index) else []) (slash_within (b ∷ folder) index)
+    ap (λ (t : Bool). if t then b ∷ path_up_to_last_slash (folder ++ codes "/" ++ index) else []) (slash_within (b ∷ folder) index)
     ∙ ap (λ (t : List ℕ). b ∷ t) (prefix_is folder index none)
 
 -- ---- the file of a candidate
@@ -81,9 +81,9 @@ container begins other file text another = refl
 pub by_container : (begins : Bool) (file : List ℕ) (text : Option (List ℕ)) (d : Database) → root_database begins (Some file) text ≡ Ok d → (d.from_text ≡ false) × (d.file ≡ Some file)
 by_container begins file text d e = go (container_fault_except_contents Idb file) e
   where
-    go : (o : Option Cause) → unless_cause DatabaseBad o (database_of_packages_file_and_is_text (entries_at IDB_PACKAGES (root_value_of_payload Idb (payload_in file))) (Some file) false) ≡ Ok d → (d.from_text ≡ false) × (d.file ≡ Some file)
+    go : (o : Option Cause) → unless_cause DatabaseBad o (database_of_packages_file_and_is_text (entries_of_field_at_index IDB_PACKAGES_INDEX (root_value_of_payload Idb (payload_in file))) (Some file) false) ≡ Ok d → (d.from_text ≡ false) × (d.file ≡ Some file)
     go None e =
-        let is : database_of_packages_file_and_is_text (entries_at IDB_PACKAGES (root_value_of_payload Idb (payload_in file))) (Some file) false ≡ d = cc in
+        let is : database_of_packages_file_and_is_text (entries_of_field_at_index IDB_PACKAGES_INDEX (root_value_of_payload Idb (payload_in file))) (Some file) false ≡ d = cc in
         (sym (ap (λ (x : Database). x.from_text) is), sym (ap (λ (x : Database). x.file) is))
     go (Some cause) e = absurd cc
 
@@ -95,7 +95,7 @@ by_text begins text d e = go (payload_of_text text) e
   where
     go : (r : Result (List ℕ) V2Fault) → payload_database r ≡ Ok d → (d.from_text ≡ true) × (d.file ≡ None)
     go (Ok payload) e =
-        let is : database_of_packages_file_and_is_text (entries_at IDB_PACKAGES (root_value_of_payload Idb payload)) None true ≡ d = cc in
+        let is : database_of_packages_file_and_is_text (entries_of_field_at_index IDB_PACKAGES_INDEX (root_value_of_payload Idb payload)) None true ≡ d = cc in
         (sym (ap (λ (x : Database). x.from_text) is), sym (ap (λ (x : Database). x.file) is))
     go (Err (Bad cause)) e = absurd cc
     go (Err (TooLarge bytes values)) e = absurd cc

@@ -6,12 +6,12 @@ use Rattle.std.specs.Option.{option_and_then}
 use Rattle.std.proofs.lemmas.Bool.{eqb-true}
 use Rattle.change_outcome.specs.adb_fields.Repeated.{list_of}
 use Rattle.adb_view.specs.Plain.{Plain, null}
-use Rattle.adb_view.specs.Values.{entries_in, entry_in, nth}
+use Rattle.adb_view.specs.Values.{entries_in, entry_at_index, nth}
 use Rattle.adb_view.proofs.ValueEntries.{entries_arr, nth_obj}
 use Rattle.dep_core.specs.Dependency.{Dependency}
 use Rattle.dep_core.specs.Reading.{dependency_of}
 use Rattle.dep_core.specs.Spelling.{SpellsDependency}
-use Rattle.change_outcome.specs.make_info.Fields.{FieldValue}
+use Rattle.change_outcome.specs.make_info.Fields.{TextNumberOrDependency}
 use Rattle.change_outcome.specs.make_info.Information.{plain_value}
 use Rattle.change_outcome.specs.make_info.Values.{plains_of_list}
 use Rattle.make_laws.proofs.make_core.PackageFiles.{list-plains}
@@ -93,7 +93,7 @@ values_after f (line ∷ lines) r s e = go (record_with_text_line r line) refl e
     go None is e more = absurd cc
     go (Some next) is e more =
         more next e
-        ∙ ap (λ (v : List FieldValue). v ++ flat_map (given f) lines) (values_more f r next line (accepted r next line is))
+        ∙ ap (λ (v : List TextNumberOrDependency). v ++ flat_map (given f) lines) (values_more f r next line (accepted r next line is))
         ∙ append_assoc (values_of f r.info) (given f line) (flat_map (given f) lines)
 
 module _ (spelled : (t : List ℕ) (d : Dependency) → dependency_of t ≡ Some d → SpellsDependency t d) (read : (t : List ℕ) (d : Dependency) → SpellsDependency t d → dependency_of t ≡ Some d) where
@@ -148,11 +148,11 @@ same_letter g f e =
 Tells : InfoField → List InfoLine → Type 0
 Tells f info = HasFirstValue (values_of f info) (value_of_single_line_field f info)
 
-first_tells : (values : List FieldValue) → HasFirstValue values (value_of_first_or_null values)
+first_tells : (values : List TextNumberOrDependency) → HasFirstValue values (value_of_first_or_null values)
 first_tells [] = refl
 first_tells (v ∷ vs) = refl
 
-with_own : (f : InfoField) (v : List FieldValue) (info more : List InfoLine) (has : Bool) → is_list_info_field f ≡ false → has_line_of_field f info ≡ has
+with_own : (f : InfoField) (v : List TextNumberOrDependency) (info more : List InfoLine) (has : Bool) → is_list_info_field f ≡ false → has_line_of_field f info ≡ has
     → (if not (is_list_info_field f) && has then None else Some (info ++ info_line_from_parts f v ∷ [])) ≡ Some more → Tells f more
 unfolding Tells
 with_own f v info more true once is e =
@@ -163,13 +163,13 @@ with_own f v info more false once is e =
     let same : info ++ info_line_from_parts f v ∷ [] ≡ more = cc in
     let before = no_values f info is in
     let values : values_of f (info ++ info_line_from_parts f v ∷ []) ≡ v =
-    flat_map-append (values_if_line_of_field f) info (info_line_from_parts f v ∷ []) ∙ ap (λ (x : List FieldValue). x ++ values_of f (info_line_from_parts f v ∷ [])) before.0 ∙ own_values f v in
+    flat_map-append (values_if_line_of_field f) info (info_line_from_parts f v ∷ []) ∙ ap (λ (x : List TextNumberOrDependency). x ++ values_of f (info_line_from_parts f v ∷ [])) before.0 ∙ own_values f v in
     let found : find (is_line_of_field f) (info ++ info_line_from_parts f v ∷ []) ≡ Some (info_line_from_parts f v) =
     find-append (is_line_of_field f) info (info_line_from_parts f v ∷ [])
     ∙ ap (λ (o : Option InfoLine). option_or o (find (is_line_of_field f) (info_line_from_parts f v ∷ []))) before.1
     ∙ ap (λ (b : Bool). cond b (Some (info_line_from_parts f v)) None) (own_line f) in
     subst (λ (i : List InfoLine). HasFirstValue (values_of f i) (value_of_single_line_field f i)) same
-    (subst (λ (x : List FieldValue). HasFirstValue x (value_of_single_line_field f (info ++ info_line_from_parts f v ∷ []))) (sym values)
+    (subst (λ (x : List TextNumberOrDependency). HasFirstValue x (value_of_single_line_field f (info ++ info_line_from_parts f v ∷ []))) (sym values)
     (subst (λ (o : Option InfoLine). HasFirstValue v (value_of_line o)) (sym found) (first_tells v)))
   where
     own_line : (f : InfoField) → (letter_of f == letter_of f) ≡ true
@@ -179,17 +179,17 @@ or_nothing : (o : Option InfoLine) → option_or o None ≡ o
 or_nothing None = refl
 or_nothing (Some l) = refl
 
-with_other : (f g : InfoField) (v : List FieldValue) (info more : List InfoLine) → (letter_of g == letter_of f) ≡ false → more ≡ info ++ info_line_from_parts g v ∷ [] → Tells f info → Tells f more
+with_other : (f g : InfoField) (v : List TextNumberOrDependency) (info more : List InfoLine) → (letter_of g == letter_of f) ≡ false → more ≡ info ++ info_line_from_parts g v ∷ [] → Tells f info → Tells f more
 unfolding Tells
 with_other f g v info more other is tells =
     let values : values_of f (info ++ info_line_from_parts g v ∷ []) ≡ values_of f info =
-    flat_map-append (values_if_line_of_field f) info (info_line_from_parts g v ∷ []) ∙ ap (λ (x : List FieldValue). values_of f info ++ x) (other_values f g v other) ∙ append-nil (values_of f info) in
+    flat_map-append (values_if_line_of_field f) info (info_line_from_parts g v ∷ []) ∙ ap (λ (x : List TextNumberOrDependency). values_of f info ++ x) (other_values f g v other) ∙ append-nil (values_of f info) in
     let found : find (is_line_of_field f) (info ++ info_line_from_parts g v ∷ []) ≡ find (is_line_of_field f) info =
     find-append (is_line_of_field f) info (info_line_from_parts g v ∷ [])
     ∙ ap (λ (b : Bool). option_or (find (is_line_of_field f) info) (cond b (Some (info_line_from_parts g v)) None)) other
     ∙ or_nothing (find (is_line_of_field f) info) in
     subst (λ (i : List InfoLine). HasFirstValue (values_of f i) (value_of_single_line_field f i)) (sym is)
-    (subst (λ (x : List FieldValue). HasFirstValue x (value_of_single_line_field f (info ++ info_line_from_parts g v ∷ []))) (sym values)
+    (subst (λ (x : List TextNumberOrDependency). HasFirstValue x (value_of_single_line_field f (info ++ info_line_from_parts g v ∷ []))) (sym values)
     (subst (λ (o : Option InfoLine). HasFirstValue (values_of f info) (value_of_line o)) (sym found) tells))
 
 with_line : (f : InfoField) (l : RecordLine) (info more : List InfoLine) → is_list_info_field f ≡ false → with_info_line l info ≡ Some more → Tells f info → Tells f more
@@ -239,7 +239,7 @@ package_parts r =
 pub info_is : (r : Record) → field_named Package (codes "info") (record_value r) ≡ record_info_value r.info
 info_is r = nth_obj (package_parts r) 0
 
-pub in_info : (info : List InfoLine) (i : ℕ) → entry_in (record_info_value info) i ≡ nth (info_parts info) i
+pub in_info : (info : List InfoLine) (i : ℕ) → entry_at_index (record_info_value info) i ≡ nth (info_parts info) i
 unfolding record_info_value
 in_info info i = nth_obj (info_parts info) i
 
@@ -285,7 +285,7 @@ module _ (spelled : (t : List ℕ) (d : Dependency) → dependency_of t ≡ Some
   letters_tell lines r f e = record {
     said = flat_map (given f) lines;
     say = say_lines spelled read f lines empty_record r e;
-    tells = subst (λ (v : List FieldValue). HasValuesAsList (is_list_letter f) v (letter_value_in_package f (record_value r)))
+    tells = subst (λ (v : List TextNumberOrDependency). HasValuesAsList (is_list_letter f) v (letter_value_in_package f (record_value r)))
         (values_after f lines empty_record r e)
         (package_tells f r (λ once. tells_after f lines empty_record r once e (nothing_told f)));
   }

@@ -7,11 +7,11 @@ use Rattle.std.specs.Str.{bytes_eq}
 use Rattle.std.specs.declared.cmp.Ordering.TheVariants.{Less}
 use Rattle.std.proofs.lemmas.Bool.{eq-eqb, lt-ltb, not-true, and_from, and_parts, not_from_false}
 use Rattle.std.proofs.lemmas.Slice.Eq.{bytes_eq-Decides}
-use Rattle.change_outcome.specs.adb_fields.Repeated.{entries_at, package_name}
+use Rattle.change_outcome.specs.adb_fields.Repeated.{entries_of_field_at_index, package_name}
 use Rattle.installed_info.specs.adb_schema.Dependencies.{dependency_in}
-use Rattle.adb_view.specs.FieldIndexes.{INFO_REPLACES, PACKAGE_INFO}
+use Rattle.adb_view.specs.FieldIndexes.{INFO_REPLACES_INDEX, PACKAGE_INFO_INDEX}
 use Rattle.adb_view.specs.Plain.{Plain}
-use Rattle.adb_view.specs.Values.{entry_in}
+use Rattle.adb_view.specs.Values.{entry_at_index}
 use Rattle.base_core.specs.ByteOrder.{bytes_cmp, precedes}
 use Rattle.base_core.proofs.Booleans.{either_true}
 use Rattle.dep_core.specs.Dependency.{Dependency}
@@ -52,7 +52,7 @@ pub named_in : (x y : Plain) → (does_first_list_second_in_replaces x y ≡ tru
 unfolding does_first_list_second_in_replaces
 named_in x y = (
   λ e.
-      let h = any_passes (λ (entry : Plain). does_replaces_entry_name_package entry y) (entries_at INFO_REPLACES (entry_in x PACKAGE_INFO)) e in
+      let h = any_passes (λ (entry : Plain). does_replaces_entry_name_package entry y) (entries_of_field_at_index INFO_REPLACES_INDEX (entry_at_index x PACKAGE_INFO_INDEX)) e in
       let t = and_parts (is_version (package_version_text y)) (is_package_met_by_replaces_entry (dependency_in h.element) (package_name y) (package_version_text y)) h.passes in
       let a = accepting h.element (package_name y) (package_version_text y) t.1 in
       record {
@@ -66,7 +66,7 @@ named_in x y = (
         wanted = a.wanted;
       },
   λ n.
-      passes_any (λ (entry : Plain). does_replaces_entry_name_package entry y) (entries_at INFO_REPLACES (entry_in x PACKAGE_INFO)) n.entry n.listed
+      passes_any (λ (entry : Plain). does_replaces_entry_name_package entry y) (entries_of_field_at_index INFO_REPLACES_INDEX (entry_at_index x PACKAGE_INFO_INDEX)) n.entry n.listed
       (and_from (is_version (package_version_text y)) (is_package_met_by_replaces_entry (dependency_in n.entry) (package_name y) (package_version_text y)) n.version
       (accepted n.entry (package_name y) (package_version_text y) n.dependency n.read n.positive n.name n.wanted)),
 )
@@ -74,7 +74,7 @@ named_in x y = (
 -- the test by a name and a version alone
 abbrev names_text : Plain → List ℕ → List ℕ → Bool
 names_text x name version =
-    list_any (λ (entry : Plain). is_version version && is_package_met_by_replaces_entry (dependency_in entry) name version) (entries_at INFO_REPLACES (entry_in x PACKAGE_INFO))
+    list_any (λ (entry : Plain). is_version version && is_package_met_by_replaces_entry (dependency_in entry) name version) (entries_of_field_at_index INFO_REPLACES_INDEX (entry_at_index x PACKAGE_INFO_INDEX))
 
 pub own : (x y z : Plain) → package_name y ≡ package_name z → package_version_text y ≡ package_version_text z → does_first_list_second_in_replaces x y ≡ does_first_list_second_in_replaces x z
 unfolding does_first_list_second_in_replaces

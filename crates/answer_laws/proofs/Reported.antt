@@ -7,7 +7,7 @@ use Rattle.std.specs.declared.cmp.Ordering.TheVariants.{Less, Equal, Greater}
 use Rattle.change_outcome.specs.adb_fields.Repeated.{package_name}
 use Rattle.adb_view.specs.Plain.{Plain}
 use Rattle.base_core.proofs.Rising.{Rises, order, pairs_from_rises}
-use Rattle.base_core.specs.Listed.{AreSortedDistinctNames}
+use Rattle.base_core.specs.Listed.{AreSortedDistinctTexts}
 use Rattle.base_core.proofs.Rising as rising
 use Rattle.base_core.specs.Lists.{IsIn}
 use Rattle.installed_info.specs.candidate_core.Candidates.{Candidate}
@@ -91,7 +91,7 @@ given_rise h named (x ∷ names) rises = go (h x) refl (given_rise h named names
       later,
     )
 
-pub changes_rise : (r : Replacement) → AreSortedDistinctNames (map changed_name (changes_of r))
+pub changes_rise : (r : Replacement) → AreSortedDistinctTexts (map changed_name (changes_of r))
 unfolding changes_of
 changes_rise r =
     pairs_from_rises (map changed_name (filter_map (change_of_name r) (names_before_and_selected r)))

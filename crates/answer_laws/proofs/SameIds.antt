@@ -5,7 +5,7 @@ use Rattle.std.specs.List.{starts_with}
 use Rattle.std.proofs.lemmas.Bool.{and_from, and_parts, or_cases, or_left, or_right}
 use Rattle.std.proofs.lemmas.Bool.Decides.{Decides-eqb}
 use Rattle.std.proofs.lemmas.Slice.Eq.{starts_is}
-use Rattle.installed_info.specs.candidate_core.Candidates.{is_same_id}
+use Rattle.installed_info.specs.candidate_core.Candidates.{is_same_id_by_nonempty_prefix}
 use Rattle.answer_laws.specs.SameIds.{AreNonemptyAndOneBeginsTheOther}
 
 -- ---- a list that begins with another
@@ -28,7 +28,7 @@ there (x ∷ a) some = grind arith
 
 -- ---- ids
 
-pub same_ids : (a b : List ℕ) → (is_same_id a b ≡ true) ↔ AreNonemptyAndOneBeginsTheOther a b
+pub same_ids : (a b : List ℕ) → (is_same_id_by_nonempty_prefix a b ≡ true) ↔ AreNonemptyAndOneBeginsTheOther a b
 same_ids a b = (
   λ e.
       let one = and_parts (nat_lt 0 (length a)) (nat_lt 0 (length b) && (starts_with nat_eq a b || starts_with nat_eq b a)) e in

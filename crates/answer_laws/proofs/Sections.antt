@@ -7,7 +7,7 @@ use Rattle.adb_view.specs.Plain.{Plain}
 use Rattle.adb_view.specs.Values.{text_in}
 use Rattle.command_core.specs.declared.command.Flags.{Flags}
 use Rattle.change_outcome.specs.db_core.Packages.{lists_path}
-use Rattle.dep_core.specs.LeadingSlash.{without_slash}
+use Rattle.dep_core.specs.LeadingSlash.{without_leading_slash}
 use Rattle.installed_info.specs.file_owners.Replaces.{package_version_text}
 use Rattle.installed_info.specs.Form.{info_form_of_flags}
 use Rattle.installed_info.specs.Info.{package_info_for_operand_text}
@@ -62,5 +62,5 @@ description flags name pkg e f g h =
     (as_section (info_heading pkg (codes " description:")) (text_in (info_field (codes "description") pkg) ∷ []))
 
 pub owner : (flags : Flags) (path : List ℕ) (pkg : Plain) → flags.who_owns ≡ true
-    → package_info_for_operand_text (info_form_of_flags flags) path pkg ≡ report_line (owner_text (without_slash path) (package_name pkg) (package_version_text pkg))
+    → package_info_for_operand_text (info_form_of_flags flags) path pkg ≡ report_line (owner_text (without_leading_slash path) (package_name pkg) (package_version_text pkg))
 owner flags path pkg e = ap (λ (b : Bool). package_info_for_operand_text (info_form_of_flags (flags_with flags b flags.installed flags.contents flags.depends)) path pkg) e

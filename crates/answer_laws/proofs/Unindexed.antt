@@ -6,7 +6,7 @@ use Rattle.std.specs.Str.{bytes_eq}
 use Rattle.installed_info.proofs.Listers.{listed, is_listed}
 use Rattle.adb_view.specs.Plain.{Plain}
 use Rattle.base_core.specs.Lists.{IsIn}
-use Rattle.installed_info.specs.candidate_core.Candidates.{Candidate, is_same_id}
+use Rattle.installed_info.specs.candidate_core.Candidates.{Candidate, is_same_id_by_nonempty_prefix}
 use Rattle.change_outcome.specs.db_core.Packages.{installed_id}
 use Rattle.installed_info.specs.file_owners.Replaces.{package_version_text}
 use Rattle.change_outcome.specs.package_changes.Changes.{Replacement, change_between, change_of_name, is_candidate_named, candidate_version_text, change_by_is_same_and_is_again}
@@ -22,7 +22,7 @@ unfolding change_of_name
 itself r name c is =
     let again : Bool = list_any (bytes_eq name) r.again in
     let text : Bool = bytes_eq (package_version_text is.installed) (candidate_version_text c) in
-    let id : Bool = is_same_id (installed_id is.installed) c.id in
+    let id : Bool = is_same_id_by_nonempty_prefix (installed_id is.installed) c.id in
     ap (λ (o : Option Plain). change_between again name o (find (is_candidate_named name) r.selected)) is.before
     ∙ ap (λ (o : Option Candidate). change_between again name (Some is.installed) o) is.selected
     ∙ ap (λ (o : Option ℕ). change_by_is_same_and_is_again name is.installed c (not (is_some o) || (text && id)) again) is.repository

@@ -6,13 +6,13 @@ use Rattle.std.proofs.lemmas.Bool.{eqb-true, and_from, and_parts}
 use Rattle.std.proofs.lemmas.Slice.Eq.{bytes_eq-Decides}
 use Rattle.adb_view.specs.Plain.{Plain}
 use Rattle.base_core.proofs.Rising as rising
-use Rattle.base_core.specs.Listed.{AreSortedDistinctNames}
+use Rattle.base_core.specs.Listed.{AreSortedDistinctTexts}
 use Rattle.base_core.specs.Lists.{IsIn}
 use Rattle.base_core.specs.Name.{path_parts_of}
 use Rattle.change_outcome.proofs.change_files.InOrder.{from_order, in_order, order_rises}
 use Rattle.change_outcome.specs.PackageFiles.{has_script_with_number}
 use Rattle.change_outcome.specs.Triggers.{do_patterns_match_parts_one_to_one, folders_of_paths, is_trigger_due, is_folder_matched_by_pattern, watches_folder, trigger_patterns_of_package}
-use Rattle.dep_core.specs.LeadingSlash.{without_slash}
+use Rattle.dep_core.specs.LeadingSlash.{without_leading_slash}
 use Rattle.change_outcome.specs.package_files.Folders.{folder_of}
 use Rattle.report_core.specs.Numbers.{TRIGGER_SCRIPT}
 use Rattle.change_outcome.specs.star_patterns.Fills.{MatchesByFillingStars}
@@ -60,17 +60,17 @@ above_zero n above = go (n == 0) refl
     go true e = absurd (omega (arith, eqb-true n 0 e, above))
     go false e = refl
 
-not_root : (folder pattern : List ℕ) → (folder ≡ [] → ⊥) → is_folder_matched_by_pattern folder pattern ≡ do_patterns_match_parts_one_to_one (path_parts_of (without_slash pattern)) (path_parts_of folder)
+not_root : (folder pattern : List ℕ) → (folder ≡ [] → ⊥) → is_folder_matched_by_pattern folder pattern ≡ do_patterns_match_parts_one_to_one (path_parts_of (without_leading_slash pattern)) (path_parts_of folder)
 unfolding is_folder_matched_by_pattern
 not_root [] pattern some = absurd (some refl)
 not_root (b ∷ folder) pattern some =
     let test : (length (b ∷ folder) == 0) ≡ false = above_zero (length (b ∷ folder)) (omega arith) in
-    ap (λ (t : Bool). if t then bytes_eq pattern (codes "/") else do_patterns_match_parts_one_to_one (path_parts_of (without_slash pattern)) (path_parts_of (b ∷ folder))) test
+    ap (λ (t : Bool). if t then bytes_eq pattern (codes "/") else do_patterns_match_parts_one_to_one (path_parts_of (without_leading_slash pattern)) (path_parts_of (b ∷ folder))) test
 
 pub matched_below : Filled → (folder pattern : List ℕ) → (folder ≡ [] → ⊥) → (is_folder_matched_by_pattern folder pattern ≡ true) ↔ MatchesFolderByParts pattern folder
 matched_below law folder pattern some = (
-  λ e. let t = parts_filled law (path_parts_of (without_slash pattern)) (path_parts_of folder) (sym (not_root folder pattern some) ∙ e) in record { count = t.0; each = t.1 },
-  λ f. not_root folder pattern some ∙ filled_parts law (path_parts_of (without_slash pattern)) (path_parts_of folder) f.count f.each,
+  λ e. let t = parts_filled law (path_parts_of (without_leading_slash pattern)) (path_parts_of folder) (sym (not_root folder pattern some) ∙ e) in record { count = t.0; each = t.1 },
+  λ f. not_root folder pattern some ∙ filled_parts law (path_parts_of (without_leading_slash pattern)) (path_parts_of folder) f.count f.each,
 )
 
 pub matched_root : (pattern : List ℕ) → (is_folder_matched_by_pattern [] pattern ≡ true) ↔ (pattern ≡ codes "/")
@@ -92,5 +92,5 @@ folders_are paths folder = (
   λ f. listed folder (folders_of_paths paths) (in_order folder (map folder_of paths) (text_in folder_of paths folder f.path f.listed f.within)),
 )
 
-pub folders_rise : (paths : List (List ℕ)) → AreSortedDistinctNames (folders_of_paths paths)
+pub folders_rise : (paths : List (List ℕ)) → AreSortedDistinctTexts (folders_of_paths paths)
 folders_rise paths = rising.pairs_from_rises (folders_of_paths paths) (order_rises (map folder_of paths))

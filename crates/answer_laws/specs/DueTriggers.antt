@@ -3,25 +3,25 @@
 use Rattle.std.specs.Prelude.{◌≡◌, ◌↔◌, ℕ, true, List, ◌∷◌, ◌++◌, Some, length, map, slice_get}
 use Rattle.std.specs.List.{flat_map}
 use Rattle.adb_view.specs.Plain.{Plain}
-use Rattle.base_core.specs.Listed.{AreSortedDistinctNames}
+use Rattle.base_core.specs.Listed.{AreSortedDistinctTexts}
 use Rattle.base_core.specs.Lists.{IsIn}
 use Rattle.base_core.specs.Name.{path_parts_of}
 use Rattle.change_outcome.specs.PackageFiles.{has_script_with_number}
 use Rattle.change_outcome.specs.Triggers.{is_folder_matched_by_pattern, trigger_patterns_of_package}
 use Rattle.change_outcome.specs.db_core.Members.{Member, member_name}
-use Rattle.dep_core.specs.LeadingSlash.{without_slash}
+use Rattle.dep_core.specs.LeadingSlash.{without_leading_slash}
 use Rattle.change_outcome.specs.package_files.Folders.{folder_of}
 use Rattle.report_core.specs.Numbers.{TRIGGER_SCRIPT}
-use Rattle.report_core.specs.Reports.{report_lines, trigger_due_text}
+use Rattle.report_core.specs.Reports.{report_lines, trigger_due_for_folder_text}
 use Rattle.change_outcome.specs.star_patterns.Fills.{MatchesByFillingStars}
 
 -- The pattern, without its leading `/` if it has one, has as many parts as the path of the folder. Each part of the
 -- pattern matches the part of the folder at the same place.
 pub record MatchesFolderByParts (pattern folder : List ℕ) : Type 0 where
   -- pattern and folder have as many parts
-  pub count : length (path_parts_of (without_slash pattern)) ≡ length (path_parts_of folder)
+  pub count : length (path_parts_of (without_leading_slash pattern)) ≡ length (path_parts_of folder)
   -- each part of the pattern matches the part of the folder at the same place
-  pub each : (i : ℕ) (p part : List ℕ) → slice_get (path_parts_of (without_slash pattern)) i ≡ Some p
+  pub each : (i : ℕ) (p part : List ℕ) → slice_get (path_parts_of (without_leading_slash pattern)) i ≡ Some p
       → slice_get (path_parts_of folder) i ≡ Some part → MatchesByFillingStars p part
 
 -- the package has a trigger script, and one of its trigger patterns matches the folder
@@ -61,12 +61,12 @@ pub record HasDueTriggerLines (paths : List (List ℕ)) (members : List Member) 
   -- the folders for which the trigger of a package is due
   pub folders : Member → List (List ℕ)
   -- these folders are in byte order, each once
-  pub order : (m : Member) → AreSortedDistinctNames (folders m)
+  pub order : (m : Member) → AreSortedDistinctTexts (folders m)
   -- a folder is in the list of a member exactly if the member's trigger is due for this folder
   pub each : (m : Member) (folder : List ℕ) → IsIn folder (folders m) ↔ IsTriggerDueFor paths m folder
   -- the text has a line for each package and each of its folders
   pub text_is : text
-      ≡ report_lines (flat_map (λ m. map (trigger_due_text (member_name m)) (folders m)) members)
+      ≡ report_lines (flat_map (λ m. map (trigger_due_for_folder_text (member_name m)) (folders m)) members)
 
 -- ---- what is refused
 

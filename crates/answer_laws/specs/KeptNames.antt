@@ -5,7 +5,7 @@ use Rattle.std.specs.List.{filter, find}
 use Rattle.std.specs.Option.{option_map_or}
 use Rattle.change_outcome.specs.adb_fields.Repeated.{package_name}
 use Rattle.adb_view.specs.Plain.{Plain}
-use Rattle.base_core.specs.Listed.{AreSortedDistinctNames}
+use Rattle.base_core.specs.Listed.{AreSortedDistinctTexts}
 use Rattle.base_core.specs.Lists.{IsIn}
 use Rattle.installed_info.specs.candidate_core.Candidates.{Candidate}
 use Rattle.dep_core.specs.Dependency.{Dependency}
@@ -74,7 +74,7 @@ pub record HasStillNeededLines (before : List Plain) (selected : List Candidate)
   -- the names that were to be removed and are kept
   pub names : List (List ℕ)
   -- these names are in byte order, each once
-  pub order : AreSortedDistinctNames names
+  pub order : AreSortedDistinctTexts names
   -- a name is in the list exactly if it was to be removed, was installed and is selected
   pub each : (name : List ℕ) → IsIn name names
       ↔ (IsIn name to_remove × IsIn name (map package_name before)

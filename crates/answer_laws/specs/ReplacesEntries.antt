@@ -1,11 +1,11 @@
 -- When the field `replaces` of one package names another package. The rule is in `docs/commands.md`, "Files that
 -- several packages list". Serves the laws of `src/replaces.rt`.
 use Rattle.std.specs.Prelude.{◌≡◌, true, false, Some}
-use Rattle.change_outcome.specs.adb_fields.Repeated.{entries_at, package_name}
+use Rattle.change_outcome.specs.adb_fields.Repeated.{entries_of_field_at_index, package_name}
 use Rattle.installed_info.specs.adb_schema.Dependencies.{dependency_in}
-use Rattle.adb_view.specs.FieldIndexes.{INFO_REPLACES, PACKAGE_INFO}
+use Rattle.adb_view.specs.FieldIndexes.{INFO_REPLACES_INDEX, PACKAGE_INFO_INDEX}
 use Rattle.adb_view.specs.Plain.{Plain}
-use Rattle.adb_view.specs.Values.{entry_in}
+use Rattle.adb_view.specs.Values.{entry_at_index}
 use Rattle.base_core.specs.Lists.{IsIn}
 use Rattle.dep_core.specs.Dependency.{Dependency}
 use Rattle.dep_core.specs.Meets.{constraint_accepts}
@@ -18,7 +18,7 @@ pub record HasReplacesEntryForOther (pkg other : Plain) : Type 0 where
   -- an entry of the package's `replaces`
   pub entry : Plain
   -- the entry is in this field of the package
-  pub listed : IsIn entry (entries_at INFO_REPLACES (entry_in pkg PACKAGE_INFO))
+  pub listed : IsIn entry (entries_of_field_at_index INFO_REPLACES_INDEX (entry_at_index pkg PACKAGE_INFO_INDEX))
   -- the dependency that the entry is
   pub dependency : Dependency
   -- the value of the entry is this dependency

@@ -2,7 +2,7 @@
 -- refused"; the fields are in `docs/formats.md`, "Schemas", tables 6 and 7. Serves the laws of `src/scripts.rt`.
 use Rattle.std.specs.Prelude.{◌≡◌, ◌≢◌, ◌-◌, ℕ, List, [], ◌∷◌, ◌++◌, codes}
 use Rattle.adb_view.specs.Plain.{Plain}
-use Rattle.adb_view.specs.Values.{entry_in, text_in}
+use Rattle.adb_view.specs.Values.{entry_at_index, text_in}
 use Rattle.adb_view.specs.declared.tables.Which.TheVariants.{Package}
 use Rattle.base_core.specs.Lists.{IsIn}
 use Rattle.make_laws.specs.NamedFields.{field_named}
@@ -12,7 +12,7 @@ use Rattle.make_laws.specs.ScriptFiles.{script_named}
 -- the field `scripts`, counted from 1
 abbrev pub script_text_by_number : Plain → ℕ → List ℕ
 script_text_by_number pkg number =
-    text_in (entry_in (field_named Package (codes "scripts") pkg) (number - 1))
+    text_in (entry_at_index (field_named Package (codes "scripts") pkg) (number - 1))
 
 -- the text of the script with this name in a package, such as `trigger`; empty if it has none
 abbrev pub script_text_by_name : Plain → List ℕ → List ℕ

@@ -8,7 +8,7 @@ use Rattle.base64.specs.GeneralPurpose.{decode_of as base64_bytes}
 use Rattle.adb_view.specs.Plain.{Plain}
 use Rattle.adb_view.specs.declared.tables.Which.TheVariants.{Package, PkgInfo}
 use Rattle.base_core.specs.Lists.{IsIn}
-use Rattle.change_outcome.specs.make_info.Fields.{FieldValue, text}
+use Rattle.change_outcome.specs.make_info.Fields.{TextNumberOrDependency, text}
 use Rattle.change_outcome.specs.make_info.declared.field.Field.TheVariants as Options
 use Rattle.make_laws.specs.NamedFields.{field_named}
 use Rattle.make_laws.specs.OptionGrammar.{SaysNumber, FieldTextGivesValues}
@@ -86,21 +86,21 @@ letter_value_in_package f pkg =
 -- ---- which values the text after the colon of a line gives to a field
 
 -- the text `value` gives one value, a hash of 20 bytes (`said`): the text is `Q1`, followed by the base64 of the hash
-abbrev pub GivesHash : List ℕ → List FieldValue → Type 0
+abbrev pub GivesHash : List ℕ → List TextNumberOrDependency → Type 0
 GivesHash value said =
     (encoded : List ℕ) × (bytes : List ℕ) × (value ≡ codes "Q1" ++ encoded)
     × (base64_bytes standard encoded ≡ Ok bytes) × (length bytes ≡ 20) × (said ≡ text bytes ∷ [])
 
 -- the text `value` gives the values `said`: those of the option `-I repo-commit:VALUE` of `mkpkg`. A text that this
 -- option does not allow gives no value
-abbrev pub GivesCommit : List ℕ → List FieldValue → Type 0
+abbrev pub GivesCommit : List ℕ → List TextNumberOrDependency → Type 0
 GivesCommit value said =
     FieldTextGivesValues Options.RepoCommit value said
-    ⊎ (((given : List FieldValue) → FieldTextGivesValues Options.RepoCommit value given → ⊥) × (said ≡ []))
+    ⊎ (((given : List TextNumberOrDependency) → FieldTextGivesValues Options.RepoCommit value given → ⊥) × (said ≡ []))
 
 -- `value`, which follows the letter of this field and a colon in a line, is allowed there and gives the values `said`:
 -- those of an option `-I` of `mkpkg` with this text; `Hashes`, `InstalledSize` and `RepoCommit` have their own rules
-abbrev pub LineValueGivesFieldValues : InfoField → List ℕ → List FieldValue → Type 0
+abbrev pub LineValueGivesFieldValues : InfoField → List ℕ → List TextNumberOrDependency → Type 0
 LineValueGivesFieldValues Letters.Hashes value said = GivesHash value said
 LineValueGivesFieldValues Letters.Name value said = FieldTextGivesValues Options.Name value said
 LineValueGivesFieldValues Letters.Version value said = FieldTextGivesValues Options.Version value said
@@ -130,16 +130,16 @@ abbrev pub letter_line : List ℕ → List ℕ → List ℕ
 letter_line letter value = letter ++ codes ":" ++ value
 
 -- a line gives the values `said` to a field; a line with another letter than the field's gives none
-abbrev pub LineGivesFieldValues : InfoField → List ℕ → List FieldValue → Type 0
+abbrev pub LineGivesFieldValues : InfoField → List ℕ → List TextNumberOrDependency → Type 0
 LineGivesFieldValues f line said =
     ((value : List ℕ) × (line ≡ letter_line (line_letter f) value) × LineValueGivesFieldValues f value said)
     ⊎ (((value : List ℕ) → line ≡ letter_line (line_letter f) value → ⊥) × (said ≡ []))
 
 -- lines together give the values `said` to a field: those of the first line, then those of the next, and so on
-abbrev pub LinesGiveFieldValues : InfoField → List (List ℕ) → List FieldValue → Type 0
+abbrev pub LinesGiveFieldValues : InfoField → List (List ℕ) → List TextNumberOrDependency → Type 0
 LinesGiveFieldValues f [] said = said ≡ []
 LinesGiveFieldValues f (line ∷ lines) said =
-    (here : List FieldValue) × (further : List FieldValue)
+    (here : List TextNumberOrDependency) × (further : List TextNumberOrDependency)
     × LineGivesFieldValues f line here × LinesGiveFieldValues f lines further × (said ≡ here ++ further)
 
 -- the record `r` with the contents of these further lines, in their order; None if one of the lines is not allowed
@@ -152,7 +152,7 @@ record_with_lines r (line ∷ lines) =
 -- otherwise the first
 pub record HasFieldValuesOfLines (f : InfoField) (lines : List (List ℕ)) (pkg : Plain) : Type 0 where
   -- the values that the lines of the field's letter give
-  pub said : List FieldValue
+  pub said : List TextNumberOrDependency
   -- the lines give exactly these values, in this order
   pub say : LinesGiveFieldValues f lines said
   -- the field has all of them if it is a list, otherwise the first

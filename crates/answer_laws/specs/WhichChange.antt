@@ -6,7 +6,7 @@ use Rattle.std.specs.List.{find}
 use Rattle.change_outcome.specs.adb_fields.Repeated.{package_name}
 use Rattle.adb_view.specs.Plain.{Plain}
 use Rattle.base_core.specs.Lists.{IsIn}
-use Rattle.installed_info.specs.candidate_core.Candidates.{Candidate, is_same_id}
+use Rattle.installed_info.specs.candidate_core.Candidates.{Candidate, is_same_id_by_nonempty_prefix}
 use Rattle.change_outcome.specs.db_core.Packages.{installed_id, is_package_named}
 use Rattle.installed_info.specs.file_owners.Replaces.{package_version_text}
 use Rattle.change_outcome.specs.package_changes.Changes.{Replacement, change_of_name, is_candidate_named, candidate_version_text}
@@ -44,7 +44,7 @@ pub record IsInstalledPackageSelected (r : Replacement) (name : List ℕ) (c : C
 -- the candidate has the same version text and the same id as the package; an id may be a prefix of the other
 abbrev pub IsSameVersionAndId : Plain → Candidate → Type 0
 IsSameVersionAndId pkg c =
-    (package_version_text pkg ≡ candidate_version_text c) × (is_same_id (installed_id pkg) c.id ≡ true)
+    (package_version_text pkg ≡ candidate_version_text c) × (is_same_id_by_nonempty_prefix (installed_id pkg) c.id ≡ true)
 
 -- the name of the package that a change concerns
 abbrev pub changed_name : Change → List ℕ

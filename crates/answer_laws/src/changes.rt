@@ -7,7 +7,7 @@ ghost use Rattle.std.specs.List.{find};
 ghost use Rattle.std.specs.declared.cmp.Ordering.TheVariants.{Less, Equal, Greater};
 ghost use Rattle.adb_view.specs.Plain.{Plain};
 ghost use Rattle.answer_laws.specs.WhichChange.{AreOldAndRepositoryOneWithValidVersions, HasInstallChange, HasNumberedChangeLines, HasPurgeChange, IsSelected, IsInstalledPackageSelected, IsSameVersionAndId, WasInstalled, changed_name};
-ghost use Rattle.base_core.specs.Listed.{AreSortedDistinctNames};
+ghost use Rattle.base_core.specs.Listed.{AreSortedDistinctTexts};
 ghost use Rattle.base_core.specs.Lists.{IsIn};
 ghost use Rattle.installed_info.specs.candidate_core.Candidates.{Candidate};
 ghost use Rattle.change_outcome.specs.db_core.Packages.{is_package_named};
@@ -75,7 +75,7 @@ pub fn each_changed_name_has_one_change_in_order()
         ↔ (change_of_name r (changed_name change) ≡ Some change) }
     // The names of the changes are in byte order, each once.
     ensures order { (r : Replacement)
-        → AreSortedDistinctNames (map changed_name (changes_of r)) }
+        → AreSortedDistinctTexts (map changed_name (changes_of r)) }
 {}
 
 /// A package is removed exactly if it was installed and no candidate of its name is selected. It is

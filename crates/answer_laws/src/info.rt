@@ -11,7 +11,7 @@ ghost use Rattle.base_core.specs.Lists.{IsIn};
 ghost use Rattle.command_core.specs.declared.command.Flags.{Flags};
 ghost use Rattle.command_core.specs.declared.operands.Operand.{Operand};
 ghost use Rattle.change_outcome.specs.db_core.Packages.{lists_path};
-ghost use Rattle.dep_core.specs.LeadingSlash.{without_slash};
+ghost use Rattle.dep_core.specs.LeadingSlash.{without_leading_slash};
 ghost use Rattle.installed_info.specs.file_owners.Replaces.{package_version_text};
 ghost use Rattle.installed_info.specs.Form.{info_form_of_flags};
 ghost use Rattle.installed_info.specs.Info.{info_refusal, sorted_package_name_lines, operands_info, package_info_for_operand_text};
@@ -75,7 +75,7 @@ pub fn each_question_of_info_has_its_answer()
     // version.
     ensures owner { (flags : Flags) (path : List ℕ) (pkg : Plain) → flags.who_owns ≡ true
         → package_info_for_operand_text (info_form_of_flags flags) path pkg
-        ≡ report_line (owner_text (without_slash path) (package_name pkg)
+        ≡ report_line (owner_text (without_leading_slash path) (package_name pkg)
         (package_version_text pkg)) }
 {}
 

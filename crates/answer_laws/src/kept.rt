@@ -4,7 +4,7 @@
 ghost use Rattle.std.specs.Prelude.{◌↔◌, ℕ, List};
 ghost use Rattle.adb_view.specs.Plain.{Plain};
 ghost use Rattle.answer_laws.specs.KeptNames.{IsEachNameSelectedAtMostOnce, HasStillNeededLines, IsNeededBySelectedName};
-ghost use Rattle.base_core.specs.Listed.{AreSortedDistinctNames};
+ghost use Rattle.base_core.specs.Listed.{AreSortedDistinctTexts};
 ghost use Rattle.base_core.specs.Lists.{IsIn};
 ghost use Rattle.installed_info.specs.candidate_core.Candidates.{Candidate};
 ghost use Rattle.change_outcome.specs.package_changes.Report.{names_needing_candidate, lines_on_names_that_stay};
@@ -18,7 +18,7 @@ pub fn a_kept_package_is_required_by_those_that_need_it()
         ↔ IsNeededBySelectedName selected needed name }
     // The names in the list are in byte order, each once.
     ensures order { (selected : List Candidate) (needed : Candidate)
-        → AreSortedDistinctNames (names_needing_candidate selected needed) }
+        → AreSortedDistinctTexts (names_needing_candidate selected needed) }
 {}
 
 /// A name has a line `NAME stays` exactly if it was to be removed, was installed

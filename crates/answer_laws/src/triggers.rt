@@ -5,7 +5,7 @@ ghost use Rattle.std.specs.Prelude.{◌≡◌, ◌⊎◌, ◌↔◌, ℕ, List, 
 ghost use Rattle.adb_view.specs.Plain.{Plain};
 ghost use Rattle.answer_laws.specs.DueTriggers.{HasFileDirectlyInFolder, HasDueTriggerLines, IsTriggerDueFor, MatchesFolderByParts, IsFirstPackageWithDueTrigger, HasTriggerWatchingFolder};
 ghost use Rattle.base_core.specs.Files.{Files};
-ghost use Rattle.base_core.specs.Listed.{AreSortedDistinctNames};
+ghost use Rattle.base_core.specs.Listed.{AreSortedDistinctTexts};
 ghost use Rattle.base_core.specs.Lists.{IsIn};
 ghost use Rattle.change_outcome.specs.change_files.FileChange.{FileChange};
 ghost use Rattle.change_outcome.specs.change_files.FilesAfter.{is_removed, is_listing_written_under_name};
@@ -45,7 +45,7 @@ pub fn a_trigger_is_due_for_a_changed_folder()
     ensures folders { (paths : List (List ℕ)) (folder : List ℕ)
         → IsIn folder (folders_of_paths paths) ↔ HasFileDirectlyInFolder paths folder }
     // These folders are in byte order, each once.
-    ensures order { (paths : List (List ℕ)) → AreSortedDistinctNames (folders_of_paths paths) }
+    ensures order { (paths : List (List ℕ)) → AreSortedDistinctTexts (folders_of_paths paths) }
 {}
 
 /// A report has a line for each package and each folder for which its trigger is due, and no other:

@@ -5,7 +5,7 @@ use Rattle.std.specs.Prelude.{if◌then◌else◌, is_some, IfOk, IsErrOf, IsTru
 use Rattle.base_core.specs.Calls.{HoldsNow, IfObservable}
 use Rattle.base_core.specs.Crash.{Since}
 use Rattle.base_core.specs.Undone.{IsDurable}
-use Rattle.base_core.specs.Faults.{Counts, CountsNoNewFault}
+use Rattle.base_core.specs.Faults.{Counts, CountsNoNewFaultOrLackOfMemory}
 use Rattle.base_core.specs.Files.{Files, no_names}
 use Rattle.base_core.specs.Read.{OnlyReads}
 use Rattle.base_core.specs.Sink.{SinkBeforeAndAfter}
@@ -459,7 +459,7 @@ nothing_ran command applet verdict same none reads empty read files =
 -- ---- what is said of every run
 
 -- want of memory is no fault of the tree
-pub look_memory : (judged : Judged) (old new : History) (a b : Counts) → OnlyReads Disk old new a b judged → IsErrOf judged NoMemory → CountsNoNewFault a b
+pub look_memory : (judged : Judged) (old new : History) (a b : Counts) → OnlyReads Disk old new a b judged → IsErrOf judged NoMemory → CountsNoNewFaultOrLackOfMemory a b
 look_memory (Ok verdict) old new a b tree none = cc
 look_memory (Err Disk) old new a b tree none = cc
 look_memory (Err NoMemory) old new a b tree none = tree.others (λ is. cc)

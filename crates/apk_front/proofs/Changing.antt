@@ -4,9 +4,9 @@ use Rattle.std.specs.Prelude.{IfOk, IsErrOf, OnOk, IfErr}
 use Rattle.std.proofs.lemmas.Bool.{false≢true}
 use Rattle.base_core.specs.Calls.{HoldsNow}
 use Rattle.base_core.specs.Undone.{IsDurable}
-use Rattle.base_core.specs.Faults.{Counts, IsFaultCountedWithCause, CountsNoNewFault}
+use Rattle.base_core.specs.Faults.{Counts, CountsNewFaultWithCause, CountsNoNewFaultOrLackOfMemory}
 use Rattle.base_core.specs.Files.{Files}
-use Rattle.base_core.specs.Restart.{EachMoment, SinceGivenEarlier}
+use Rattle.base_core.specs.Restart.{EachMoment, SinceGivenEarlierAddedMoments}
 use Rattle.base_core.specs.Tree.{TreeState, files_of}
 use Rattle.base_core.specs.declared.tree.TreeFault.{TreeFault}
 use Rattle.base_core.specs.declared.tree.TreeFault.TheVariants as Trees
@@ -287,7 +287,7 @@ module _ (command : CommandLine) (changes : effect_of command.applet ≡ Changes
 
     commit_run : IsRunAfterRecovery (Ones command v) Changes None judged v (v ∷ rest) now
     commit_run = record {
-      moments = λ ignored is_durable hides. inr (outcome, is_one, commits_are, subst (λ (f : Files). SinceGivenEarlier (IsOldUntilCommit ignored f v) (v ∷ rest) now) (sym files_are) (commit.run.moments ignored is_durable));
+      moments = λ ignored is_durable hides. inr (outcome, is_one, commits_are, subst (λ (f : Files). SinceGivenEarlierAddedMoments (IsOldUntilCommit ignored f v) (v ∷ rest) now) (sym files_are) (commit.run.moments ignored is_durable));
       is_durable = λ ignored is_durable hides. left_durable ignored is_durable;
       settled = λ ignored o is_durable hides one lasts. on_ok judged (λ done. subst (λ (f : Files). HoldsNow now (EachCrashLeavesStateOf ignored f)) (files_of_one o one) (done.settled ignored is_durable)) done_so;
       durable_state = λ ignored o is_durable hides one commits.
@@ -359,20 +359,20 @@ module _ (command : CommandLine) (changes : effect_of command.applet ≡ Changes
 
 -- ---- the counts
 
-pub change_disk : (answer : Answered) (judged : Judged) (a b : Counts) → IsVerdictOnChange answer judged → IsRunCounted a b answer → IsErrOf judged Trees.Disk → IsFaultCountedWithCause a b
+pub change_disk : (answer : Answered) (judged : Judged) (a b : Counts) → IsVerdictOnChange answer judged → IsRunCounted a b answer → IsErrOf judged Trees.Disk → CountsNewFaultWithCause a b
 change_disk answer (Ok verdict) a b told counted none = absurd (cc (none))
 change_disk answer (Err e) a b told counted none =
     let e_is : e ≡ Trees.Disk = cc in
     elim (told_error answer e told) [ inl disk ↦ counted.disk disk.1 | inr memory ↦ absurd (let same : Trees.Memory ≡ Trees.Disk = sym memory.0 ∙ e_is in cc) ]
 
-pub change_kept : (answer : Answered) (judged : Judged) (a b : Counts) → IsVerdictOnChange answer judged → IsRunCounted a b answer → OnOk judged (CountsNoNewFault a b)
+pub change_kept : (answer : Answered) (judged : Judged) (a b : Counts) → IsVerdictOnChange answer judged → IsRunCounted a b answer → OnOk judged (CountsNoNewFaultOrLackOfMemory a b)
 change_kept answer (Err e) a b told counted = tt
 change_kept (Ok report) (Ok verdict) a b told counted = counted.kept
 change_kept (Err (IsRefused refusal)) (Ok verdict) a b told counted = counted.others (λ is. cc (is))
 change_kept (Err Disk) (Ok verdict) a b told counted = absurd (cc (told))
 change_kept (Err Memory) (Ok verdict) a b told counted = absurd (cc (told))
 
-pub change_memory : (answer : Answered) (judged : Judged) (a b : Counts) → IsVerdictOnChange answer judged → IsRunCounted a b answer → IsErrOf judged Trees.Memory → CountsNoNewFault a b
+pub change_memory : (answer : Answered) (judged : Judged) (a b : Counts) → IsVerdictOnChange answer judged → IsRunCounted a b answer → IsErrOf judged Trees.Memory → CountsNoNewFaultOrLackOfMemory a b
 change_memory answer (Ok verdict) a b told counted none = absurd (cc (none))
 change_memory answer (Err e) a b told counted none =
     let e_is : e ≡ Trees.Memory = cc in
@@ -381,7 +381,7 @@ change_memory answer (Err e) a b told counted none =
       | inr memory ↦ not_disk answer memory.1 counted
     ]
   where
-    not_disk : (answer : Answered) → answer ≡ Err Memory → IsRunCounted a b answer → CountsNoNewFault a b
+    not_disk : (answer : Answered) → answer ≡ Err Memory → IsRunCounted a b answer → CountsNoNewFaultOrLackOfMemory a b
     not_disk answer is counted = (subst (λ (r : Answered). IsRunCounted a b r) is counted).others (λ same. cc (same))
 
 -- ---- the applets

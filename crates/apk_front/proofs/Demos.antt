@@ -12,7 +12,7 @@ use Rattle.command_core.specs.declared.command.Applet.TheVariants.{Demo}
 use Rattle.command_core.specs.declared.operands.Operand.{Operand}
 use Rattle.outcome.specs.demo_lines.Count.{demo_count}
 use Rattle.outcome.specs.demo_lines.Lines.{add_words, demo_repositories, mkndx_words, mkpkg_words}
-use Rattle.outcome.specs.demo_lines.Report.{demo_line}
+use Rattle.outcome.specs.demo_lines.Report.{demo_line_of_count_and_add_report}
 use Rattle.outcome.proofs.demo_lines.Lengths.{plus_one}
 use Rattle.outcome.specs.Commands.{IsPossibleOutcomeWithoutDemo, IsOutcomeWithoutDemo, reads_in}
 use Rattle.outcome.specs.Demo.{IsDemoOutcomeAfterIndexing, IsDemoOutcomeAfterInstalling, IsDemoOutcomeAfterPackaging, IsDemoOutcome, IsOutcomeOfNextRunOrEarlierRefusal, IsOutcomeOfNextRunOrBeforeIfRefused, outcome_before_first_demo_run, with_demo_file}
@@ -126,7 +126,7 @@ unless_leaves files None report = (refl, refl)
 unless_leaves files (Some refusal) report = (refl, refl)
 
 demo_leaves : (applet : Applet) (command : CommandLine) (files : Files) (o : Outcome) → applet ≡ Demo → IsOutcomeOfApplet applet command files o → Leaves files o
-demo_leaves Demo command files o demo (last, is_last, is) = subst (Leaves files) (sym is) (unless_leaves files last.refusal (demo_line (demo_count command.operands) last.out))
+demo_leaves Demo command files o demo (last, is_last, is) = subst (Leaves files) (sym is) (unless_leaves files last.refusal (demo_line_of_count_and_add_report (demo_count command.operands) last.out))
 demo_leaves other command files o demo is = cc
 
 no_recovery : (applet : Applet) (v : TreeState) → applet ≡ Demo → RecoversAndFindsValidIntent (effect_of applet) v → ⊥
@@ -223,14 +223,14 @@ add_to n last old new (Ok verdict) (before, is, reports, files) on =
 -- ---- what is told
 
 pub told_demo : (n : ℕ) (last : Verdict) (tree : MemoryTree) (judged : Judged) → IsRunToOutcome (IsDemoOutcomeAfterInstalling n) last tree
-    → MatchResult judged (λ verdict. (files : Files) → as_outcome files verdict ≡ just_report_unless_refusal files last.refusal (demo_line n last.report)) (λ fault. fault ≡ NoMemory)
+    → MatchResult judged (λ verdict. (files : Files) → as_outcome files verdict ≡ just_report_unless_refusal files last.refusal (demo_line_of_count_and_add_report n last.report)) (λ fault. fault ≡ NoMemory)
     → MatchResult judged (λ verdict. (files : Files) → IsDemoOutcome n files (as_outcome files verdict)) (λ fault. fault ≡ NoMemory)
 told_demo n last tree (Err fault) one shown = shown
 told_demo n last tree (Ok verdict) (o, is, reports, files) shown = λ files. (
   o,
   is,
-  shown files ∙ ap (λ (r : Option Refusal). just_report_unless_refusal files r (demo_line n last.report)) (ap (λ (p : Outcome). p.refusal) reports)
-      ∙ ap (λ (t : List ℕ). just_report_unless_refusal files o.refusal (demo_line n t)) (ap (λ (p : Outcome). p.out) reports),
+  shown files ∙ ap (λ (r : Option Refusal). just_report_unless_refusal files r (demo_line_of_count_and_add_report n last.report)) (ap (λ (p : Outcome). p.refusal) reports)
+      ∙ ap (λ (t : List ℕ). just_report_unless_refusal files o.refusal (demo_line_of_count_and_add_report n t)) (ap (λ (p : Outcome). p.out) reports),
 )
 
 -- words and files by which a run is named

@@ -8,10 +8,10 @@ use Rattle.base_core.specs.Files.{Files, no_names}
 use Rattle.base_core.specs.Tree.{TreeState, files_of}
 use Rattle.adb_block.specs.Header.{schema_of_header}
 use Rattle.adb_block.specs.Reading.{Reading, done, fault, more, block_stream_from}
-use Rattle.adb_block.specs.ReaderPosition.{ReaderPosition, first_block_position_of_schema_and_file}
+use Rattle.adb_block.specs.PositionBetweenBlocks.{PositionBetweenBlocks, first_block_position_of_schema_and_file}
 use Rattle.adb_dump.specs.Dump.{dump_text}
 use Rattle.adb_view.specs.ShapedPayload.{adb_of, shaped_value, table_of}
-use Rattle.adb_dump.specs.adb_schema.Soundness.{root_value_of_payload, schema_word}
+use Rattle.adb_dump.specs.adb_schema.Soundness.{root_value_of_payload, header_schema_if_root_table}
 use Rattle.adb_view.specs.declared.shaped.Shaped.{Shaped}
 use Rattle.adb_dump.specs.adb_schema.declared.read.ReadFault.{ReadFault}
 use Rattle.adb_dump.specs.adb_schema.declared.read.ReadFault.TheVariants.{Bad}
@@ -60,15 +60,15 @@ later_block_bad which (more b at r) later payload c first framed =
 
 -- ---- the schema
 
-pub root_known : (schema : ℕ) (which : Which) → table_of_schema schema ≡ Some which → is_some (schema_word which) ≡ true
+pub root_known : (schema : ℕ) (which : Which) → table_of_schema schema ≡ Some which → is_some (header_schema_if_root_table which) ≡ true
 root_known schema which h =
-    elim (schema == PACKAGE_WORD) as (λ b. (if b then Some Package else if schema == INDEX_WORD then Some Index else if schema == IDB_WORD then Some Idb else if schema == INTENT_WORD then Some Intent else None) ≡ Some which → is_some (schema_word which) ≡ true) [
+    elim (schema == PACKAGE_WORD) as (λ b. (if b then Some Package else if schema == INDEX_WORD then Some Index else if schema == IDB_WORD then Some Idb else if schema == INTENT_WORD then Some Intent else None) ≡ Some which → is_some (header_schema_if_root_table which) ≡ true) [
       | true ↦ λ (e : Some Package ≡ Some which). known Package e refl
-      | false ↦ elim (schema == INDEX_WORD) as (λ b. (if b then Some Index else if schema == IDB_WORD then Some Idb else if schema == INTENT_WORD then Some Intent else None) ≡ Some which → is_some (schema_word which) ≡ true) [
+      | false ↦ elim (schema == INDEX_WORD) as (λ b. (if b then Some Index else if schema == IDB_WORD then Some Idb else if schema == INTENT_WORD then Some Intent else None) ≡ Some which → is_some (header_schema_if_root_table which) ≡ true) [
         | true ↦ λ (e : Some Index ≡ Some which). known Index e refl
-        | false ↦ elim (schema == IDB_WORD) as (λ b. (if b then Some Idb else if schema == INTENT_WORD then Some Intent else None) ≡ Some which → is_some (schema_word which) ≡ true) [
+        | false ↦ elim (schema == IDB_WORD) as (λ b. (if b then Some Idb else if schema == INTENT_WORD then Some Intent else None) ≡ Some which → is_some (header_schema_if_root_table which) ≡ true) [
           | true ↦ λ (e : Some Idb ≡ Some which). known Idb e refl
-          | false ↦ elim (schema == INTENT_WORD) as (λ b. (if b then Some Intent else None) ≡ Some which → is_some (schema_word which) ≡ true) [
+          | false ↦ elim (schema == INTENT_WORD) as (λ b. (if b then Some Intent else None) ≡ Some which → is_some (header_schema_if_root_table which) ≡ true) [
             | true ↦ λ (e : Some Intent ≡ Some which). known Intent e refl
             | false ↦ λ (e : None ≡ Some which). absurd (none-some which e)
           ]
@@ -76,10 +76,10 @@ root_known schema which h =
       ]
     ] h
   where
-    known : (w : Which) → Some w ≡ Some which → is_some (schema_word w) ≡ true → is_some (schema_word which) ≡ true
-    known w e k = subst (λ x. is_some (schema_word x) ≡ true) (same_Some w which e) k
+    known : (w : Which) → Some w ≡ Some which → is_some (header_schema_if_root_table w) ≡ true → is_some (header_schema_if_root_table which) ≡ true
+    known w e k = subst (λ x. is_some (header_schema_if_root_table x) ≡ true) (same_Some w which e) k
 
-pub dump_is : (file : List ℕ) (schema : ℕ) (s : ReaderPosition) (which : Which) (answer : Result (List ℕ) Cause) → schema_of_header file ≡ Ok schema → s ≡ first_block_position_of_schema_and_file schema file → table_of_schema schema ≡ Some which → dump_of_blocks which (block_stream_from s) ≡ answer → dump_of file ≡ answer
+pub dump_is : (file : List ℕ) (schema : ℕ) (s : PositionBetweenBlocks) (which : Which) (answer : Result (List ℕ) Cause) → schema_of_header file ≡ Ok schema → s ≡ first_block_position_of_schema_and_file schema file → table_of_schema schema ≡ Some which → dump_of_blocks which (block_stream_from s) ≡ answer → dump_of file ≡ answer
 unfolding dump_of
 dump_is file schema s which answer h at root is =
     ap (dump_by_schema file) h ∙ (ap (dump_by_root_table schema (block_stream_from (first_block_position_of_schema_and_file schema file))) root ∙ (ap (λ t. dump_of_blocks which (block_stream_from t)) (sym at) ∙ is))

@@ -1,9 +1,9 @@
 -- What was judged and shown is the answer.
 use Rattle.std.proofs.Common.{◌≡◌, ◌⊎◌, inl, inr, ℕ, List, [], ◌∷◌, Option, None, true, false, Result, Ok, Err, OnOk, IfOk, IsErrOf, IsTrue, MatchResult, refl, sym, ap, subst, ◌∙◌}
 use Rattle.base_core.specs.Calls.{IfObservable}
-use Rattle.base_core.specs.Faults.{Counts, IsFaultCountedWithCause, CountsNoNewFault}
+use Rattle.base_core.specs.Faults.{Counts, CountsNewFaultWithCause, CountsNoNewFaultOrLackOfMemory}
 use Rattle.base_core.specs.Files.{Files, no_names}
-use Rattle.base_core.specs.Sink.{SinkBeforeAndAfter, SinkFailed, SinkGets, SinkGetsPrefix}
+use Rattle.base_core.specs.Sink.{SinkBeforeAndAfter, SinkFailedWithCause, SinkBytesGrowBy, SinkBytesGrowByPrefixOf}
 use Rattle.base_core.specs.Tree.{TreeState, files_of}
 use Rattle.base_core.specs.declared.tree.TreeFault.{TreeFault}
 use Rattle.base_core.specs.declared.tree.TreeFault.TheVariants.{Disk, Memory as NoMemory}
@@ -147,24 +147,24 @@ printed_answer words files Leaves tree_failed o answer out err is leaves printed
 stated_alike : (a b : Outcome) (answer : Answer) (out err : SinkBeforeAndAfter) → a.refusal ≡ b.refusal → a.out ≡ b.out → a.err ≡ b.err → IsAnsweredInFull a answer out err → IsAnsweredInFull b answer out err
 stated_alike a b answer out err refusal report line p = record {
   same = p.same ∙ ap answer_for_refusal refusal;
-  out_gets = subst (λ (t : List ℕ). SinkGets out t) report p.out_gets;
-  err_gets = subst (λ (t : List ℕ). SinkGets err t) line p.err_gets;
+  out_gets = subst (λ (t : List ℕ). SinkBytesGrowBy out t) report p.out_gets;
+  err_gets = subst (λ (t : List ℕ). SinkBytesGrowBy err t) line p.err_gets;
   out_kept = p.out_kept;
   err_kept = p.err_kept;
 }
 
-which_alike : (a b : Outcome) (out err : SinkBeforeAndAfter) → a.out ≡ b.out → a.err ≡ b.err → (FailedWithBytesToPrint out a.out × SinkGets err [] × DidNotFail err) ⊎ (FailedWithBytesToPrint err a.err × SinkGets out a.out × DidNotFail out)
-    → (FailedWithBytesToPrint out b.out × SinkGets err [] × DidNotFail err) ⊎ (FailedWithBytesToPrint err b.err × SinkGets out b.out × DidNotFail out)
+which_alike : (a b : Outcome) (out err : SinkBeforeAndAfter) → a.out ≡ b.out → a.err ≡ b.err → (FailedWithBytesToPrint out a.out × SinkBytesGrowBy err [] × DidNotFail err) ⊎ (FailedWithBytesToPrint err a.err × SinkBytesGrowBy out a.out × DidNotFail out)
+    → (FailedWithBytesToPrint out b.out × SinkBytesGrowBy err [] × DidNotFail err) ⊎ (FailedWithBytesToPrint err b.err × SinkBytesGrowBy out b.out × DidNotFail out)
 which_alike a b out err report line (inl (failed, gets, kept)) = inl (subst (λ (t : List ℕ). FailedWithBytesToPrint out t) report failed, gets, kept)
-which_alike a b out err report line (inr (failed, gets, kept)) = inr (subst (λ (t : List ℕ). FailedWithBytesToPrint err t) line failed, subst (λ (t : List ℕ). SinkGets out t) report gets, kept)
+which_alike a b out err report line (inr (failed, gets, kept)) = inr (subst (λ (t : List ℕ). FailedWithBytesToPrint err t) line failed, subst (λ (t : List ℕ). SinkBytesGrowBy out t) report gets, kept)
 
 printed_alike : (a b : Outcome) (answer : Answer) (out err : SinkBeforeAndAfter) → a.refusal ≡ b.refusal → a.out ≡ b.out → a.err ≡ b.err → IsPrinted a answer out err → IsPrinted b answer out err
 printed_alike a b Good out err refusal report line p = stated_alike a b Good out err refusal report line p
 printed_alike a b (Refused r) out err refusal report line p = stated_alike a b (Refused r) out err refusal report line p
 printed_alike a b OutFault out err refusal report line p = record {
   which = which_alike a b out err report line p.which;
-  out_gets = subst (λ (t : List ℕ). SinkGetsPrefix out t) report p.out_gets;
-  err_gets = subst (λ (t : List ℕ). SinkGetsPrefix err t) line p.err_gets;
+  out_gets = subst (λ (t : List ℕ). SinkBytesGrowByPrefixOf out t) report p.out_gets;
+  err_gets = subst (λ (t : List ℕ). SinkBytesGrowByPrefixOf err t) line p.err_gets;
 }
 printed_alike a b TreeFailed out err refusal report line p = absurd p
 printed_alike a b Memory out err refusal report line p = absurd p
@@ -211,7 +211,7 @@ not_failed outcome before after out err faultless (inl failed) = faultless.out_s
 not_failed outcome before after out err faultless (inr failed) = faultless.err_sink failed.failed.fault
 
 complete_by : (words : List (List ℕ)) (files : Files) (Leaves : Outcome → Type 0) (before after : Counts) (answer : Answer) (out err : SinkBeforeAndAfter)
-    → IsAnswerOfSomeOutcomeOrFailure (IsOutcome (command_of words) files) Leaves (IsFaultCountedWithCause before after) answer out err → IsFaultless before after out err → AnswersOutcomeUnlessMemory words files answer
+    → IsAnswerOfSomeOutcomeOrFailure (IsOutcome (command_of words) files) Leaves (CountsNewFaultWithCause before after) answer out err → IsFaultless before after out err → AnswersOutcomeUnlessMemory words files answer
 complete_by words files Leaves before after Good out err (o, is, stated, leaves) faultless = inr (o, is, stated.same)
 complete_by words files Leaves before after (Refused refusal) out err (o, is, stated, leaves) faultless = inr (o, is, stated.same)
 complete_by words files Leaves before after OutFault out err (o, is, fault, leaves) faultless = absurd (not_failed o before after out err faultless (either_failed fault.which))
@@ -219,7 +219,7 @@ complete_by words files Leaves before after TreeFailed out err (cause, fault) fa
 complete_by words files Leaves before after Memory out err fault faultless = inl refl
 
 pub completed : (words : List (List ℕ)) (old now : List TreeState) (before after : Counts) (answer : Answer) (out err : SinkBeforeAndAfter)
-    → IfObservable old (λ v. IsAnswerOfSomeOutcomeOrFailure (IsOutcome (command_of words) (files_of v)) (LeavesFiles now) (IsFaultCountedWithCause before after) answer out err)
+    → IfObservable old (λ v. IsAnswerOfSomeOutcomeOrFailure (IsOutcome (command_of words) (files_of v)) (LeavesFiles now) (CountsNewFaultWithCause before after) answer out err)
     → IfObservable old (λ v. IsFaultless before after out err → AnswersOutcomeUnlessMemory words (files_of v) answer)
 completed words [] now before after answer out err answered = tt
 completed words (v ∷ rest) now before after answer out err answered = λ faultless. complete_by words (files_of v) (LeavesFiles now) before after answer out err answered faultless
@@ -261,20 +261,20 @@ answered_by_reads words tree_failed judged answer out err found disk is_shown =
 
 -- ---- causes
 
-which_failed : (o : Outcome) (out err : SinkBeforeAndAfter) → (FailedWithBytesToPrint out o.out × SinkGets err [] × DidNotFail err) ⊎ (FailedWithBytesToPrint err o.err × SinkGets out o.out × DidNotFail out)
-    → (SinkFailed out × DidNotFail err) ⊎ (SinkFailed err × DidNotFail out)
+which_failed : (o : Outcome) (out err : SinkBeforeAndAfter) → (FailedWithBytesToPrint out o.out × SinkBytesGrowBy err [] × DidNotFail err) ⊎ (FailedWithBytesToPrint err o.err × SinkBytesGrowBy out o.out × DidNotFail out)
+    → (SinkFailedWithCause out × DidNotFail err) ⊎ (SinkFailedWithCause err × DidNotFail out)
 which_failed o out err (inl (failed, gets, kept)) = inl (failed.failed, kept)
 which_failed o out err (inr (failed, gets, kept)) = inr (failed.failed, kept)
 
-printed_causes : (before after : Counts) (o : Outcome) (answer : Answer) (out err : SinkBeforeAndAfter) → CountsNoNewFault before after → IsPrinted o answer out err → AnswerTellsWhetherTreeOrSinkFailed answer before after out err
+printed_causes : (before after : Counts) (o : Outcome) (answer : Answer) (out err : SinkBeforeAndAfter) → CountsNoNewFaultOrLackOfMemory before after → IsPrinted o answer out err → AnswerTellsWhetherTreeOrSinkFailed answer before after out err
 printed_causes before after o Good out err kept printed = (kept, printed.out_kept, printed.err_kept)
 printed_causes before after o (Refused refusal) out err kept printed = (kept, printed.out_kept, printed.err_kept)
 printed_causes before after o OutFault out err kept printed = (kept, which_failed o out err printed.which)
 printed_causes before after o TreeFailed out err kept printed = absurd printed
 printed_causes before after o Memory out err kept printed = absurd printed
 
-pub caused : (before after : Counts) (judged : Judged) (answer : Answer) (out err : SinkBeforeAndAfter) → OnOk judged (CountsNoNewFault before after) → (IsErrOf judged Disk → IsFaultCountedWithCause before after)
-    → (IsErrOf judged NoMemory → CountsNoNewFault before after) → IsVerdictPrinted judged answer out err → AnswerTellsWhetherTreeOrSinkFailed answer before after out err
+pub caused : (before after : Counts) (judged : Judged) (answer : Answer) (out err : SinkBeforeAndAfter) → OnOk judged (CountsNoNewFaultOrLackOfMemory before after) → (IsErrOf judged Disk → CountsNewFaultWithCause before after)
+    → (IsErrOf judged NoMemory → CountsNoNewFaultOrLackOfMemory before after) → IsVerdictPrinted judged answer out err → AnswerTellsWhetherTreeOrSinkFailed answer before after out err
 caused before after (Ok verdict) answer out err kept disk memory is_shown = printed_causes before after (as_outcome no_names verdict) answer out err kept (is_shown no_names)
 caused before after (Err Disk) answer out err kept disk memory is_shown = subst (λ (a : Answer). AnswerTellsWhetherTreeOrSinkFailed a before after out err) (sym is_shown.0) (disk refl, is_shown.1)
 caused before after (Err NoMemory) answer out err kept disk memory is_shown = subst (λ (a : Answer). AnswerTellsWhetherTreeOrSinkFailed a before after out err) (sym is_shown.0) (memory refl, is_shown.1)

@@ -11,10 +11,10 @@ use Rattle.base_core.specs.Faults.{Counts}
 use Rattle.base_core.specs.Files.{Files, no_names}
 use Rattle.base_core.specs.Read.{OnlyReads}
 use Rattle.base_core.specs.Tree.{TreeState, files_of}
-use Rattle.command_core.specs.Applets.{required_option_letter, operand_rule, version_operand_rule as version_rule}
+use Rattle.command_core.specs.Applets.{required_option_letter, operand_rule_if_needed_kind_flag_given, version_operand_rule as version_rule}
 use Rattle.command_core.specs.Sound.{may_have_flags, value_rules, IsValidCommand, are_allowed_operands, are_allowed_values}
 use Rattle.command_core.specs.Command.{CommandLine}
-use Rattle.command_core.specs.Files.{without_dot_slash}
+use Rattle.command_core.specs.Files.{without_one_leading_dot_slash}
 use Rattle.command_core.specs.Named.{are_files, operand_file}
 use Rattle.command_core.specs.Operands.{at_least, exactly, is_operand_of_kind}
 use Rattle.command_core.specs.Values.{is_required_value_missing}
@@ -36,15 +36,15 @@ use Rattle.apk_front.specs.declared.answer.Verdict.{Verdict}
 
 -- ---- the operands of a command
 
-operands_of : (c : CommandLine) → IsValidCommand c → are_allowed_operands (operand_rule c.applet c.flags) c.operands ≡ true
+operands_of : (c : CommandLine) → IsValidCommand c → are_allowed_operands (operand_rule_if_needed_kind_flag_given c.applet c.flags) c.operands ≡ true
 operands_of c h =
-    let flagged = may_have_flags c.applet c.flags && are_allowed_operands (operand_rule c.applet c.flags) c.operands in
+    let flagged = may_have_flags c.applet c.flags && are_allowed_operands (operand_rule_if_needed_kind_flag_given c.applet c.flags) c.operands in
     let valued = and_parts (flagged && are_allowed_values (value_rules c.applet) c.values) (not (is_required_value_missing (required_option_letter c.applet) c.values)) h in
     let taken = and_parts flagged (are_allowed_values (value_rules c.applet) c.values) valued.0 in
-    (and_parts (may_have_flags c.applet c.flags) (are_allowed_operands (operand_rule c.applet c.flags) c.operands) taken.0).1
+    (and_parts (may_have_flags c.applet c.flags) (are_allowed_operands (operand_rule_if_needed_kind_flag_given c.applet c.flags) c.operands) taken.0).1
 
-of_applet : (c : CommandLine) (applet : Applet) → IsValidCommand c → applet ≡ c.applet → are_allowed_operands (operand_rule applet c.flags) c.operands ≡ true
-of_applet c applet h same = subst (λ (a : Applet). are_allowed_operands (operand_rule a c.flags) c.operands ≡ true) (sym same) (operands_of c h)
+of_applet : (c : CommandLine) (applet : Applet) → IsValidCommand c → applet ≡ c.applet → are_allowed_operands (operand_rule_if_needed_kind_flag_given applet c.flags) c.operands ≡ true
+of_applet c applet h same = subst (λ (a : Applet). are_allowed_operands (operand_rule_if_needed_kind_flag_given a c.flags) c.operands ≡ true) (sym same) (operands_of c h)
 
 -- just so many
 just_many : (n : ℕ) (os : List Operand) (each : Bool) → (nat_le n (length os) && nat_le (length os) n) && each ≡ true → (length os ≡ n) × (each ≡ true)
@@ -96,12 +96,12 @@ left_at (y ∷ xs) (suc i) x e =
     let next : suc (i + 1) ≡ suc i + 1 = omega arith in left_at xs i x e ∙ ap (λ n. x ∷ drop n (y ∷ xs)) next
 
 -- the operand that lends a name
-pub file_at : (os : List Operand) (i : ℕ) (name : List ℕ) → option_map operand_file (slice_get os i) ≡ Some name → (o : Operand) × (slice_get os i ≡ Some o) × (name ≡ without_dot_slash o.text)
+pub file_at : (os : List Operand) (i : ℕ) (name : List ℕ) → option_map operand_file (slice_get os i) ≡ Some name → (o : Operand) × (slice_get os i ≡ Some o) × (name ≡ without_one_leading_dot_slash o.text)
 file_at os i name is = of (slice_get os i) refl is
   where
-    of : (found : Option Operand) → slice_get os i ≡ found → option_map operand_file found ≡ Some name → (o : Operand) × (slice_get os i ≡ Some o) × (name ≡ without_dot_slash o.text)
+    of : (found : Option Operand) → slice_get os i ≡ found → option_map operand_file found ≡ Some name → (o : Operand) × (slice_get os i ≡ Some o) × (name ≡ without_one_leading_dot_slash o.text)
     of None at h = cc
-    of (Some o) at h = (o, at, sym (same_Some (without_dot_slash o.text) name h))
+    of (Some o) at h = (o, at, sym (same_Some (without_one_leading_dot_slash o.text) name h))
 
 -- ---- the lines of verify
 
@@ -109,11 +109,11 @@ pub sound_more : (os : List Operand) (i : ℕ) (report file : List ℕ) → opti
     → report ++ sound_lines (drop i os) ≡ sound_lines os → report ++ file ++ codes ": OK\n" ++ sound_lines (drop (i + 1) os) ≡ sound_lines os
 sound_more os i report file is h =
     let (o, at, same) = file_at os i file is in
-    let before : report ++ (without_dot_slash o.text ++ codes ": OK\n" ++ sound_lines (drop (i + 1) os)) ≡ sound_lines os = ap (λ (l : List Operand). report ++ sound_lines l) (sym (left_at os i o at)) ∙ h in
+    let before : report ++ (without_one_leading_dot_slash o.text ++ codes ": OK\n" ++ sound_lines (drop (i + 1) os)) ≡ sound_lines os = ap (λ (l : List Operand). report ++ sound_lines l) (sym (left_at os i o at)) ∙ h in
     ap (λ (f : List ℕ). report ++ f ++ codes ": OK\n" ++ sound_lines (drop (i + 1) os)) same
-    ∙ append_assoc (report ++ without_dot_slash o.text) (codes ": OK\n") (sound_lines (drop (i + 1) os))
-    ∙ append_assoc report (without_dot_slash o.text) (codes ": OK\n" ++ sound_lines (drop (i + 1) os))
-    ∙ ap (λ (l : List ℕ). report ++ l) (sym (append_assoc (without_dot_slash o.text) (codes ": OK\n") (sound_lines (drop (i + 1) os))))
+    ∙ append_assoc (report ++ without_one_leading_dot_slash o.text) (codes ": OK\n") (sound_lines (drop (i + 1) os))
+    ∙ append_assoc report (without_one_leading_dot_slash o.text) (codes ": OK\n" ++ sound_lines (drop (i + 1) os))
+    ∙ ap (λ (l : List ℕ). report ++ l) (sym (append_assoc (without_one_leading_dot_slash o.text) (codes ": OK\n") (sound_lines (drop (i + 1) os))))
     ∙ before
 
 -- ---- the refusal of verify
@@ -151,7 +151,7 @@ pub read_none : (os : List Operand) → IsReadTo os 0
 read_none os = record { read = λ k name. None; rest = λ later agree. refl }
 
 -- the operands that are left, where one was read
-read_one : (os : List Operand) (i : ℕ) (o : Operand) (r : Option Refusal) (f : Option (List ℕ)) (later : Reads) → slice_get os i ≡ Some o → r ≡ file_refusal o.place f → later i (without_dot_slash o.text) ≡ f
+read_one : (os : List Operand) (i : ℕ) (o : Operand) (r : Option Refusal) (f : Option (List ℕ)) (later : Reads) → slice_get os i ≡ Some o → r ≡ file_refusal o.place f → later i (without_one_leading_dot_slash o.text) ≡ f
     → verify_refusal later i (drop i os) ≡ option_or r (verify_refusal later (i + 1) (drop (i + 1) os))
 read_one os i o r f later at is here =
     ap (verify_refusal later i) (left_at os i o at)
@@ -163,7 +163,7 @@ read_more os i o r at so (f, is) none = record {
   read = read_with so.read i f;
   rest = λ later agree.
       so.rest later (λ k name lt. agree k name (omega (lt, arith)) ∙ read_with_before so.read i k f name lt)
-      ∙ read_one os i o r f later at is (agree i (without_dot_slash o.text) (omega arith) ∙ read_with_at so.read i f (without_dot_slash o.text))
+      ∙ read_one os i o r f later at is (agree i (without_one_leading_dot_slash o.text) (omega arith) ∙ read_with_at so.read i f (without_one_leading_dot_slash o.text))
       ∙ or_next r (verify_refusal later (i + 1) (drop (i + 1) os)) none;
 }
 
@@ -171,7 +171,7 @@ pub read_here : (os : List Operand) (i : ℕ) (o : Operand) (r : Option Refusal)
     → (read : Reads) × (r ≡ verify_refusal read 0 os)
 read_here os i o r at so (f, is) some =
     let now = read_with so.read i f in
-    (now, sym (so.rest now (λ k name lt. read_with_before so.read i k f name lt) ∙ read_one os i o r f now at is (read_with_at so.read i f (without_dot_slash o.text)) ∙ or_here r (verify_refusal now (i + 1) (drop (i + 1) os)) some))
+    (now, sym (so.rest now (λ k name lt. read_with_before so.read i k f name lt) ∙ read_one os i o r f now at is (read_with_at so.read i f (without_one_leading_dot_slash o.text)) ∙ or_here r (verify_refusal now (i + 1) (drop (i + 1) os)) some))
 
 pub read_all_of : (os : List Operand) (i : ℕ) → drop i os ≡ [] → IsReadTo os i → (read : Reads) × (None ≡ verify_refusal read 0 os)
 read_all_of os i ended so = (so.read, sym (so.rest so.read (λ k name lt. refl) ∙ ap (verify_refusal so.read i) ended))
@@ -189,7 +189,7 @@ pub fine_none : (old : List TreeState) (os : List Operand) → IfObservable old 
 fine_none [] os = tt
 fine_none (v ∷ old) os = refl
 
-test_one : (v : TreeState) (os : List Operand) (i : ℕ) (o : Operand) (name : List ℕ) (r : Option Refusal) → slice_get os i ≡ Some o → name ≡ without_dot_slash o.text → IsTestOf o name r v
+test_one : (v : TreeState) (os : List Operand) (i : ℕ) (o : Operand) (name : List ℕ) (r : Option Refusal) → slice_get os i ≡ Some o → name ≡ without_one_leading_dot_slash o.text → IsTestOf o name r v
     → verify_refusal (reads_in (files_of v)) i (drop i os) ≡ option_or r (verify_refusal (reads_in (files_of v)) (i + 1) (drop (i + 1) os))
 test_one v os i o name r at named is = read_one os i o r (files_of v name) (reads_in (files_of v)) at is (ap (files_of v) (sym named))
 

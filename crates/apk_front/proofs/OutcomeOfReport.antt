@@ -2,7 +2,7 @@
 use Rattle.std.proofs.Common.{◌≡◌, ◌⊎◌, inl, inr, false, [], ◌∷◌, None, Result, Ok, Err, refl, sym, ap, subst, ◌∙◌}
 use Rattle.std.specs.Prelude.{IfOk, IsErrOf, OnOk}
 use Rattle.base_core.specs.Calls.{IfObservable}
-use Rattle.base_core.specs.Faults.{Counts, IsFaultCountedWithCause, CountsNoNewFault}
+use Rattle.base_core.specs.Faults.{Counts, CountsNewFaultWithCause, CountsNoNewFaultOrLackOfMemory}
 use Rattle.base_core.specs.Files.{Files, no_names}
 use Rattle.base_core.specs.Read.{OnlyReads}
 use Rattle.base_core.specs.Tree.{TreeState, files_of}
@@ -124,29 +124,29 @@ told_error (Err (IsRefused refusal)) e told = absurd told
 told_error (Err Disk) e told = inl (cc (told), refl)
 told_error (Err Memory) e told = inr (cc (told), refl)
 
-pub report_disk : (answer : Answered) (judged : Judged) (old now : History) (a b : Counts) → IsVerdictOnReport answer judged → OnlyReads Disk old now a b answer → IsErrOf judged Trees.Disk → IsFaultCountedWithCause a b
+pub report_disk : (answer : Answered) (judged : Judged) (old now : History) (a b : Counts) → IsVerdictOnReport answer judged → OnlyReads Disk old now a b answer → IsErrOf judged Trees.Disk → CountsNewFaultWithCause a b
 report_disk answer (Ok verdict) old now a b told tree none = absurd (cc (none))
 report_disk answer (Err e) old now a b told tree none =
     let e_is : e ≡ Trees.Disk = cc in
-    elim (told_error answer e told) as (λ _. IsFaultCountedWithCause a b) [ inl disk ↦ tree.disk disk.1 | inr memory ↦ absurd (let same : Trees.Memory ≡ Trees.Disk = sym memory.0 ∙ e_is in cc) ]
+    elim (told_error answer e told) as (λ _. CountsNewFaultWithCause a b) [ inl disk ↦ tree.disk disk.1 | inr memory ↦ absurd (let same : Trees.Memory ≡ Trees.Disk = sym memory.0 ∙ e_is in cc) ]
 
-pub report_kept : (answer : Answered) (judged : Judged) (old now : History) (a b : Counts) → IsVerdictOnReport answer judged → OnlyReads Disk old now a b answer → OnOk judged (CountsNoNewFault a b)
+pub report_kept : (answer : Answered) (judged : Judged) (old now : History) (a b : Counts) → IsVerdictOnReport answer judged → OnlyReads Disk old now a b answer → OnOk judged (CountsNoNewFaultOrLackOfMemory a b)
 report_kept answer (Err e) old now a b told tree = tt
 report_kept (Ok done) (Ok verdict) old now a b told tree = tree.kept
 report_kept (Err (IsRefused refusal)) (Ok verdict) old now a b told tree = tree.others (λ is. cc (is))
 report_kept (Err Disk) (Ok verdict) old now a b told tree = absurd (cc (told))
 report_kept (Err Memory) (Ok verdict) old now a b told tree = absurd (cc (told))
 
-pub report_memory : (answer : Answered) (judged : Judged) (old now : History) (a b : Counts) → IsVerdictOnReport answer judged → OnlyReads Disk old now a b answer → IsErrOf judged Trees.Memory → CountsNoNewFault a b
+pub report_memory : (answer : Answered) (judged : Judged) (old now : History) (a b : Counts) → IsVerdictOnReport answer judged → OnlyReads Disk old now a b answer → IsErrOf judged Trees.Memory → CountsNoNewFaultOrLackOfMemory a b
 report_memory answer (Ok verdict) old now a b told tree none = absurd (cc (none))
 report_memory answer (Err e) old now a b told tree none =
     let e_is : e ≡ Trees.Memory = cc in
-    elim (told_error answer e told) as (λ _. CountsNoNewFault a b) [
+    elim (told_error answer e told) as (λ _. CountsNoNewFaultOrLackOfMemory a b) [
       | inl disk ↦ absurd (let same : Trees.Disk ≡ Trees.Memory = sym disk.0 ∙ e_is in cc)
       | inr memory ↦ not_disk answer memory.1 tree
     ]
   where
-    not_disk : (answer : Answered) → answer ≡ Err Memory → OnlyReads Disk old now a b answer → CountsNoNewFault a b
+    not_disk : (answer : Answered) → answer ≡ Err Memory → OnlyReads Disk old now a b answer → CountsNoNewFaultOrLackOfMemory a b
     not_disk answer is tree = (subst (λ (r : Answered). OnlyReads Disk old now a b r) is tree).others (λ same. cc (same))
 
 -- ---- the applets

@@ -1,10 +1,10 @@
 -- What a package is made of: the names below its folder, as the files have them.
 use Rattle.std.proofs.Common.{◌≡◌, ℕ, true, List, [], ◌∷◌, length, Result, Ok, Err, refl, sym, ap, subst, ◌∙◌}
 use Rattle.std.specs.Prelude.{is_ok}
-use Rattle.base_core.specs.Listed.{IsSortedListingOfFolder, AreSortedNamesInMap}
+use Rattle.base_core.specs.Listed.{IsSortedListingOfFolder, IsSortedListOfAllNamesInMap}
 use Rattle.base_core.specs.Tree.{TreeState, files_of}
 use Rattle.command_core.specs.Command.{CommandLine}
-use Rattle.command_core.specs.Files.{without_dot_slash}
+use Rattle.command_core.specs.Files.{without_one_leading_dot_slash}
 use Rattle.command_core.specs.declared.values.OptionValue.{OptionValue}
 use Rattle.command_core.specs.declared.values.TheConstants.{FILES, SCRIPT}
 use Rattle.make_core.specs.make_info.Information.{FieldWithValue, information}
@@ -19,7 +19,7 @@ use Rattle.apk_front.specs.Containers.{IsPackageMade}
 
 -- the names below a folder, as a tree lists them, are those of its files
 abbrev pub HaveListing : Type 0
-HaveListing = (folder : List ℕ) (v : TreeState) (names : List (List ℕ)) → IsSortedListingOfFolder folder v names → AreSortedNamesInMap (files_below folder (files_of v)) names
+HaveListing = (folder : List ℕ) (v : TreeState) (names : List (List ℕ)) → IsSortedListingOfFolder folder v names → IsSortedListOfAllNamesInMap (files_below folder (files_of v)) names
 
 -- ---- what is made of them
 
@@ -41,7 +41,7 @@ package_here law command v made m = by_values (values_of_letter FILES command.va
     }
     by_values (dir ∷ dirs) is listed = record {
       names = m.names;
-      listing = subst (λ (vs : List OptionValue). AreNamesBelowOptionFolder vs (files_of v) m.names) (sym is) (law (without_dot_slash dir.text) v m.names listed);
+      listing = subst (λ (vs : List OptionValue). AreNamesBelowOptionFolder vs (files_of v) m.names) (sym is) (law (without_one_leading_dot_slash dir.text) v m.names listed);
       is = m.is;
     }
 

@@ -1,7 +1,7 @@
 -- A report, and the line of a refusal behind it.
 use Rattle.std.proofs.Common.{◌≡◌, ◌≢◌, ◌⊎◌, inl, inr, ℕ, List, [], Option, Some, None, Ok, Err, refl, sym, subst, ◌∙◌, append-nil}
 use Rattle.base_core.specs.Files.{Files}
-use Rattle.base_core.specs.Sink.{AddsBytesToSink, AddsPrefixToSink, SinkBeforeAndAfter, SinkGets, SinkGetsPrefix, SinkFailed}
+use Rattle.base_core.specs.Sink.{AddsBytesToSink, AddsPrefixToSink, SinkBeforeAndAfter, SinkBytesGrowBy, SinkBytesGrowByPrefixOf, SinkFailedWithCause}
 use Rattle.base_core.specs.Write.{Writes}
 use Rattle.base_core.proofs.Added.{AddsBytesToSink-none}
 use Rattle.report_core.specs.Texts.{refusal_line}
@@ -29,7 +29,7 @@ either_failed (inl w) = inl w.0
 either_failed (inr w) = inr w.0
 
 -- the report was written
-pub printed_after : (refusal : Option Refusal) (report : List ℕ) (files : Files) (answer : Answer) (out err : SinkBeforeAndAfter) → SinkGets out report → DidNotFail out → IsRefusalPrinted refusal answer err → IsPrinted (outcome_without_commit refusal report files) answer out err
+pub printed_after : (refusal : Option Refusal) (report : List ℕ) (files : Files) (answer : Answer) (out err : SinkBeforeAndAfter) → SinkBytesGrowBy out report → DidNotFail out → IsRefusalPrinted refusal answer err → IsPrinted (outcome_without_commit refusal report files) answer out err
 printed_after None report files answer out err got kept (is, gets, calm) =
     subst (λ (a : Answer). IsPrinted (outcome_without_commit None report files) a out err) (sym is) (record { same = refl; out_gets = got; err_gets = gets; out_kept = kept; err_kept = calm })
 printed_after (Some refusal) report files answer out err got kept (inl (is, gets, calm)) =
@@ -41,10 +41,10 @@ printed_after (Some refusal) report files answer out err got kept (inr (is, gets
 pub printed_whole : {T E : Type 0} (refusal : Option Refusal) (report bytes : List ℕ) (files : Files) (answer : Answer) (out err : SinkBeforeAndAfter) (x : T) → bytes ≡ report → Writes {E = E} bytes out (Ok x)
     → IsRefusalPrinted refusal answer err → IsPrinted (outcome_without_commit refusal report files) answer out err
 printed_whole {T} {E} refusal report bytes files answer out err x is w printed =
-    printed_after refusal report files answer out err (subst (SinkGets out) is w.ok) w.cause.kept printed
+    printed_after refusal report files answer out err (subst (SinkBytesGrowBy out) is w.ok) w.cause.kept printed
 
 -- the report was not written
-pub not_printed : (refusal : Option Refusal) (report : List ℕ) (files : Files) (out err : SinkBeforeAndAfter) → report ≢ [] → SinkGetsPrefix out report → SinkFailed out → err.bytes_after ≡ err.bytes_before → DidNotFail err → IsPrinted (outcome_without_commit refusal report files) OutFault out err
+pub not_printed : (refusal : Option Refusal) (report : List ℕ) (files : Files) (out err : SinkBeforeAndAfter) → report ≢ [] → SinkBytesGrowByPrefixOf out report → SinkFailedWithCause out → err.bytes_after ≡ err.bytes_before → DidNotFail err → IsPrinted (outcome_without_commit refusal report files) OutFault out err
 not_printed refusal report files out err some gets failed same kept = record {
   which = inl (record { some = some; failed = failed }, subst (λ (t : Option (List ℕ)). AddsBytesToSink err.bytes_before t []) (sym same) (AddsBytesToSink-none err.bytes_before), kept);
   out_gets = gets;

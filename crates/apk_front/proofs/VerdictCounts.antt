@@ -2,7 +2,7 @@
 use Rattle.std.proofs.Common.{◌≡◌, inl, ℕ, true, List, [], ◌∷◌, Option, Ok, Err, refl}
 use Rattle.std.specs.Prelude.{IfOk, IsErrOf, OnOk}
 use Rattle.base_core.specs.Calls.{IfObservable}
-use Rattle.base_core.specs.Faults.{Counts, CountsOnlyRise, IsFaultCountedWithCause, CountsNoNewFault}
+use Rattle.base_core.specs.Faults.{Counts, CountsOnlyRise, CountsNewFaultWithCause, CountsNoNewFaultOrLackOfMemory}
 use Rattle.base_core.specs.Read.{OnlyReads}
 use Rattle.base_core.specs.Tree.{TreeState, files_of}
 use Rattle.base_core.specs.declared.cause.Cause.{Cause}
@@ -37,7 +37,7 @@ counted_memory a = record { goes_on = goes_on_same a; disk = λ is. absurd (cc);
 pub counted_idle : (judged : Judged) (a : Counts) → (judged ≡ Err Disk → ⊥) → IsVerdictExplainedByCounts a a judged
 counted_idle judged a never = record { goes_on = goes_on_same a; disk = λ is. absurd (never is); kept = kept judged; memory = λ is. no_fault_same a }
   where
-    kept : (judged : Judged) → OnOk judged (CountsNoNewFault a a)
+    kept : (judged : Judged) → OnOk judged (CountsNoNewFaultOrLackOfMemory a a)
     kept (Ok verdict) = no_fault_same a
     kept (Err fault) = tt
 
@@ -51,7 +51,7 @@ proper_idle Room (v ∷ rest) n = λ room. refl
 pub counted_reads : (judged : Judged) (old new : History) (a b : Counts) → OnlyReads Disk old new a b judged → IsVerdictExplainedByCounts a b judged
 counted_reads judged old new a b reads = record { goes_on = reads.goes_on; disk = reads.disk; kept = reads.kept; memory = look_memory judged old new a b reads }
 
-pub counted_after : (judged : Judged) (a b c : Counts) → CountsOnlyRise a b → CountsNoNewFault a b → IsVerdictExplainedByCounts b c judged → IsVerdictExplainedByCounts a c judged
+pub counted_after : (judged : Judged) (a b c : Counts) → CountsOnlyRise a b → CountsNoNewFaultOrLackOfMemory a b → IsVerdictExplainedByCounts b c judged → IsVerdictExplainedByCounts a c judged
 counted_after judged a b c on none counted = record {
   goes_on = goes_on_twice a b c on counted.goes_on;
   disk = λ is. cause_later a b c on (counted.disk is);
@@ -62,8 +62,8 @@ counted_after judged a b c on none counted = record {
 -- ---- a recovery that did not end
 
 pub counted_unrecovered : (fault : RecoverFault) (judged : Judged) (a b : Counts) → CountsOnlyRise a b
-    → (fault ≡ Faults.Disk → IsFaultCountedWithCause a b) → (fault ≡ Faults.Memory → CountsNoNewFault a b)
-    → ((cause : Cause) → fault ≡ Faults.IntentBad cause → CountsNoNewFault a b)
+    → (fault ≡ Faults.Disk → CountsNewFaultWithCause a b) → (fault ≡ Faults.Memory → CountsNoNewFaultOrLackOfMemory a b)
+    → ((cause : Cause) → fault ≡ Faults.IntentBad cause → CountsNoNewFaultOrLackOfMemory a b)
     → IfOk judged (IsRefused fault) → (IsErrOf judged Disk → fault ≡ Faults.Disk) → (IsErrOf judged NoMemory → fault ≡ Faults.Memory)
     → IsVerdictExplainedByCounts a b judged
 counted_unrecovered fault judged a b on disk memory bad refused by_disk by_memory = record {
@@ -73,7 +73,7 @@ counted_unrecovered fault judged a b on disk memory bad refused by_disk by_memor
   memory = λ is. memory (by_memory is);
 }
   where
-    kept : (judged : Judged) → IfOk judged (IsRefused fault) → OnOk judged (CountsNoNewFault a b)
+    kept : (judged : Judged) → IfOk judged (IsRefused fault) → OnOk judged (CountsNoNewFaultOrLackOfMemory a b)
     kept (Ok verdict) (cause, is, same) = bad cause is
     kept (Err e) refused = tt
 

@@ -3,9 +3,9 @@
 -- statuses", and for faults in `docs/crash-safety.md`, "Misuses, faults and counts".
 use Rattle.std.specs.Prelude.{◌≡◌, ◌≢◌, ◌⊎◌, ◌<◌, ℕ, ◌-◌, ◌^◌, false, Bool, ◌||◌, List, [], Option, Some, None, is_ok}
 use Rattle.base_core.specs.Calls.{HoldsNow}
-use Rattle.base_core.specs.Faults.{Counts, IsFaultCountedWithCause, CountsNoNewFault, RoseOrIsSaturated}
+use Rattle.base_core.specs.Faults.{Counts, CountsNewFaultWithCause, CountsNoNewFaultOrLackOfMemory, RoseOrIsSaturated}
 use Rattle.base_core.specs.Files.{Files}
-use Rattle.base_core.specs.Sink.{SinkBeforeAndAfter, SinkGets, SinkGetsPrefix, SinkFailed}
+use Rattle.base_core.specs.Sink.{SinkBeforeAndAfter, SinkBytesGrowBy, SinkBytesGrowByPrefixOf, SinkFailedWithCause}
 use Rattle.base_core.specs.Tree.{TreeState, files_of}
 use Rattle.outcome.specs.Outcome.{Outcome}
 use Rattle.outcome.specs.Words.{IsOutcome}
@@ -30,19 +30,19 @@ answer_of outcome = answer_for_refusal outcome.refusal
 
 -- a sink did not fail: its counts of faults and of calls without memory are unchanged
 abbrev pub DidNotFail : SinkBeforeAndAfter → Type 0
-DidNotFail sink = CountsNoNewFault sink.before sink.after
+DidNotFail sink = CountsNoNewFaultOrLackOfMemory sink.before sink.after
 
 -- a sink gets a whole line, or a prefix of the line if the sink failed
 abbrev pub GetsLineOrFailsWithPrefix : SinkBeforeAndAfter → List ℕ → Type 0
 GetsLineOrFailsWithPrefix sink line =
-    (SinkGets sink line × DidNotFail sink) ⊎ (SinkGetsPrefix sink line × SinkFailed sink)
+    (SinkBytesGrowBy sink line × DidNotFail sink) ⊎ (SinkBytesGrowByPrefixOf sink line × SinkFailedWithCause sink)
 
 -- a sink failed, and `bytes`, which were to be printed on it, are at least one byte
 pub record FailedWithBytesToPrint (sink : SinkBeforeAndAfter) (bytes : List ℕ) : Type 0 where
   -- there is a byte to be printed
   pub some : bytes ≢ []
   -- a call on the sink failed
-  pub failed : SinkFailed sink
+  pub failed : SinkFailedWithCause sink
 
 -- the answer and all bytes are those of an outcome, and no sink failed
 pub record IsAnsweredInFull (outcome : Outcome) (answer : Answer)
@@ -50,9 +50,9 @@ pub record IsAnsweredInFull (outcome : Outcome) (answer : Answer)
   -- the answer is that of the outcome
   pub same : answer ≡ answer_of outcome
   -- standard output gets all bytes of the outcome
-  pub out_gets : SinkGets out outcome.out
+  pub out_gets : SinkBytesGrowBy out outcome.out
   -- standard error gets all bytes of the outcome
-  pub err_gets : SinkGets err outcome.err
+  pub err_gets : SinkBytesGrowBy err outcome.err
   -- standard output did not fail
   pub out_kept : DidNotFail out
   -- standard error did not fail
@@ -62,18 +62,18 @@ pub record IsAnsweredInFull (outcome : Outcome) (answer : Answer)
 pub record IsSingleSinkFault (outcome : Outcome) (out err : SinkBeforeAndAfter) : Type 0 where
   -- `out` failed, and then nothing is printed on `err`; or `err` failed, after the whole report on `out`
   pub which :
-      (FailedWithBytesToPrint out outcome.out × SinkGets err [] × DidNotFail err)
-      ⊎ (FailedWithBytesToPrint err outcome.err × SinkGets out outcome.out × DidNotFail out)
+      (FailedWithBytesToPrint out outcome.out × SinkBytesGrowBy err [] × DidNotFail err)
+      ⊎ (FailedWithBytesToPrint err outcome.err × SinkBytesGrowBy out outcome.out × DidNotFail out)
   -- standard output got the first bytes of what was to be printed, or all
-  pub out_gets : SinkGetsPrefix out outcome.out
+  pub out_gets : SinkBytesGrowByPrefixOf out outcome.out
   -- standard error got the first bytes of what was to be printed, or all
-  pub err_gets : SinkGetsPrefix err outcome.err
+  pub err_gets : SinkBytesGrowByPrefixOf err outcome.err
 
 -- no outcome was printed: `err` gets only this line, or a prefix of it if `err` fails; `out` gets nothing, and
 -- does not fail
 pub record PrintsOnlyErrorLine (line : List ℕ) (out err : SinkBeforeAndAfter) : Type 0 where
   -- standard output gets nothing
-  pub out_gets : SinkGets out []
+  pub out_gets : SinkBytesGrowBy out []
   -- standard output does not fail
   pub out_kept : DidNotFail out
   -- standard error gets the line, or the first bytes of it
@@ -119,16 +119,16 @@ abbrev pub AnswerTellsWhetherTreeOrSinkFailed : Answer → Counts → Counts →
     → SinkBeforeAndAfter
     → Type 0
 AnswerTellsWhetherTreeOrSinkFailed Ok before after out err =
-    CountsNoNewFault before after × DidNotFail out × DidNotFail err
+    CountsNoNewFaultOrLackOfMemory before after × DidNotFail out × DidNotFail err
 AnswerTellsWhetherTreeOrSinkFailed (Refused refusal) before after out err =
-    CountsNoNewFault before after × DidNotFail out × DidNotFail err
+    CountsNoNewFaultOrLackOfMemory before after × DidNotFail out × DidNotFail err
 AnswerTellsWhetherTreeOrSinkFailed TreeFault before after out err =
-    IsFaultCountedWithCause before after × PrintsOnlyErrorLine tree_failure_line out err
+    CountsNewFaultWithCause before after × PrintsOnlyErrorLine tree_failure_line out err
 AnswerTellsWhetherTreeOrSinkFailed OutFault before after out err =
-    CountsNoNewFault before after
-    × ((SinkFailed out × DidNotFail err) ⊎ (SinkFailed err × DidNotFail out))
+    CountsNoNewFaultOrLackOfMemory before after
+    × ((SinkFailedWithCause out × DidNotFail err) ⊎ (SinkFailedWithCause err × DidNotFail out))
 AnswerTellsWhetherTreeOrSinkFailed Memory before after out err =
-    CountsNoNewFault before after × PrintsOnlyErrorLine out_of_memory_line out err
+    CountsNoNewFaultOrLackOfMemory before after × PrintsOnlyErrorLine out_of_memory_line out err
 
 -- a run in which no count of faults rose: neither the tree's, nor a sink's
 pub record IsFaultless (before after : Counts) (out err : SinkBeforeAndAfter) : Type 0 where

@@ -7,7 +7,7 @@ use Rattle.base_core.specs.Calls.{HoldsNow, IfObservable}
 use Rattle.base_core.specs.Crash.{Since}
 use Rattle.base_core.specs.Undone.{IsDurable}
 use Rattle.base_core.specs.Files.{Files}
-use Rattle.base_core.specs.Restart.{SinceGivenEarlier}
+use Rattle.base_core.specs.Restart.{SinceGivenEarlierAddedMoments}
 use Rattle.base_core.specs.Tree.{TreeState, files_of}
 use Rattle.journal_core.specs.Kept.{ReadsOldOrNewBytesOutsideJournal, JournalOnlyShrinks, NamesOutsideJournalAreDurableExcept}
 use Rattle.journal_core.specs.Quiet.{StateIsUnchanged}
@@ -167,7 +167,7 @@ abbrev pub MomentsOfMakingOrChangeLeadToFiles :
 MomentsOfMakingOrChangeLeadToFiles true ignored files v old now =
     Since (IsMomentOfReplacing ignored files v) old now
 MomentsOfMakingOrChangeLeadToFiles false ignored files v old now =
-    SinceGivenEarlier (IsOldUntilCommit ignored files v) old now
+    SinceGivenEarlierAddedMoments (IsOldUntilCommit ignored files v) old now
 
 -- At each moment of the run the state is unchanged; or the run has an outcome that commits, and its moments
 -- lead to the files of this outcome. `makes` says whether the run makes one file.

@@ -3,7 +3,7 @@
 -- rules are in `docs/crash-safety.md`, "Misuses, faults and counts" and "Recovery".
 use Rattle.std.specs.Prelude.{◌≡◌, ℕ, true, List, Option, Result, IfOk, IsErrOf, IsSome, MatchResult, OnOk}
 use Rattle.base_core.specs.Calls.{IfObservable}
-use Rattle.base_core.specs.Faults.{Counts, CountsOnlyRise, IsFaultCountedWithCause, CountsNoNewFault}
+use Rattle.base_core.specs.Faults.{Counts, CountsOnlyRise, CountsNewFaultWithCause, CountsNoNewFaultOrLackOfMemory}
 use Rattle.base_core.specs.Files.{Files, no_names}
 use Rattle.base_core.specs.Read.{OnlyReads}
 use Rattle.base_core.specs.Tree.{TreeState, files_of}
@@ -27,11 +27,11 @@ pub record IsVerdictExplainedByCounts (before now : Counts)
   -- no count falls
   pub goes_on : CountsOnlyRise before now
   -- if an I/O error of the tree is returned, a failed call was counted, with its cause
-  pub disk : IsErrOf judged Disk → IsFaultCountedWithCause before now
+  pub disk : IsErrOf judged Disk → CountsNewFaultWithCause before now
   -- if there is a verdict, the tree counted no failed call
-  pub kept : OnOk judged (CountsNoNewFault before now)
+  pub kept : OnOk judged (CountsNoNewFaultOrLackOfMemory before now)
   -- if memory ran out, the tree counted no failed call
-  pub memory : IsErrOf judged Memory → CountsNoNewFault before now
+  pub memory : IsErrOf judged Memory → CountsNoNewFaultOrLackOfMemory before now
 
 -- The effect on the tree of a run of `mkpkg` or `mkndx`, or of a call that writes what such a run has made. `IsOne`
 -- says which outcomes the run has over given files, and `output` is the name of the file that it makes.

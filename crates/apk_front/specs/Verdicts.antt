@@ -2,7 +2,7 @@
 -- `apk` is made; the rule is in `docs/commands.md`, "Answers and statuses".
 use Rattle.std.specs.Prelude.{◌≡◌, ◌⊎◌, [], Option, Some, None, Result, Ok, Err}
 use Rattle.base_core.specs.Files.{Files}
-use Rattle.base_core.specs.Sink.{SinkBeforeAndAfter, SinkGets, SinkGetsPrefix, SinkFailed}
+use Rattle.base_core.specs.Sink.{SinkBeforeAndAfter, SinkBytesGrowBy, SinkBytesGrowByPrefixOf, SinkFailedWithCause}
 use Rattle.base_core.specs.declared.tree.TreeFault.{TreeFault}
 use Rattle.base_core.specs.declared.tree.TreeFault.TheVariants.{Disk, Memory as NoMemory}
 use Rattle.command_core.specs.Command.{CommandLine}
@@ -47,10 +47,10 @@ IsPrinted outcome Memory out err = ⊥
 -- the answer and the bytes of standard error after a report: a refusal, if there is one, or a fault of
 -- that sink instead
 abbrev pub IsRefusalPrinted : Option Refusal → Answer → SinkBeforeAndAfter → Type 0
-IsRefusalPrinted None answer err = (answer ≡ Good) × SinkGets err [] × DidNotFail err
+IsRefusalPrinted None answer err = (answer ≡ Good) × SinkBytesGrowBy err [] × DidNotFail err
 IsRefusalPrinted (Some refusal) answer err =
-    ((answer ≡ Refused refusal) × SinkGets err (refusal_line refusal) × DidNotFail err)
-    ⊎ ((answer ≡ OutFault) × SinkGetsPrefix err (refusal_line refusal) × SinkFailed err)
+    ((answer ≡ Refused refusal) × SinkBytesGrowBy err (refusal_line refusal) × DidNotFail err)
+    ⊎ ((answer ≡ OutFault) × SinkBytesGrowByPrefixOf err (refusal_line refusal) × SinkFailedWithCause err)
 
 -- the answer to what was judged, and the bytes of the two sinks: those of the verdict over any files, or the line of an
 -- I/O error of the tree or of out of memory

@@ -6,7 +6,7 @@ ghost use Rattle.apk_front.specs.Answers.{GetsLineOrFailsWithPrefix};
 ghost use Rattle.apk_front.specs.Status.{status_of};
 ghost use Rattle.apk_front.specs.Verdicts.{IsPrinted, IsRefusalPrinted, IsVerdictPrinted, as_outcome};
 ghost use Rattle.base_core.specs.Files.{Files};
-ghost use Rattle.base_core.specs.Sink.{sink_before_and_after, IsUseWithoutMisuse};
+ghost use Rattle.base_core.specs.Sink.{sink_before_and_after, SinkCountsOnlyRiseWithoutMisuse};
 ghost use Rattle.base_core.specs.Write.{Writes};
 ghost use Rattle.outcome.specs.Outcome.{just_refusal, just_report};
 
@@ -97,9 +97,9 @@ pub(crate) fn show<O: Sink, E: Sink>(
         (sink_before_and_after O.bytes O.counts out.old out.new)
         (sink_before_and_after E.bytes E.counts err.old err.new) }
     // Of each sink: no count falls, and no call is a misuse.
-    ensures out_counts { IsUseWithoutMisuse
+    ensures out_counts { SinkCountsOnlyRiseWithoutMisuse
         (sink_before_and_after O.bytes O.counts out.old out.new) }
-    ensures err_counts { IsUseWithoutMisuse
+    ensures err_counts { SinkCountsOnlyRiseWithoutMisuse
         (sink_before_and_after E.bytes E.counts err.old err.new) }
 {
     match judged {
@@ -116,9 +116,9 @@ fn print_fault<O: Sink, E: Sink>(fault: TreeFault, _out: &mut O, err: &mut E) ->
         (sink_before_and_after O.bytes O.counts _out.old _out.new)
         (sink_before_and_after E.bytes E.counts err.old err.new) }
     // Of each sink: no count falls, and no call is a misuse.
-    ensures out_counts { IsUseWithoutMisuse
+    ensures out_counts { SinkCountsOnlyRiseWithoutMisuse
         (sink_before_and_after O.bytes O.counts _out.old _out.new) }
-    ensures err_counts { IsUseWithoutMisuse
+    ensures err_counts { SinkCountsOnlyRiseWithoutMisuse
         (sink_before_and_after E.bytes E.counts err.old err.new) }
 {
     match fault {
@@ -140,9 +140,9 @@ fn print_verdict<O: Sink, E: Sink>(verdict: Verdict, out: &mut O, err: &mut E) -
         (sink_before_and_after O.bytes O.counts out.old out.new)
         (sink_before_and_after E.bytes E.counts err.old err.new) }
     // Of each sink: no count falls, and no call is a misuse.
-    ensures out_counts { IsUseWithoutMisuse
+    ensures out_counts { SinkCountsOnlyRiseWithoutMisuse
         (sink_before_and_after O.bytes O.counts out.old out.new) }
-    ensures err_counts { IsUseWithoutMisuse
+    ensures err_counts { SinkCountsOnlyRiseWithoutMisuse
         (sink_before_and_after E.bytes E.counts err.old err.new) }
 {
     // A law that the proof needs; it has no effect at run time.
@@ -174,7 +174,7 @@ fn print_refusal<E: Sink>(refusal: Option<Refusal>, err: &mut E) -> Answer
     ensures printed { IsRefusalPrinted refusal result
         (sink_before_and_after E.bytes E.counts err.old err.new) }
     // No count of the sink falls, and no call is a misuse.
-    ensures counts { IsUseWithoutMisuse (sink_before_and_after E.bytes E.counts err.old err.new) }
+    ensures counts { SinkCountsOnlyRiseWithoutMisuse (sink_before_and_after E.bytes E.counts err.old err.new) }
 {
     let Some(refusal) = refusal else {
         return Answer::Ok;
@@ -192,7 +192,7 @@ fn print_line<E: Sink>(line: &[u8], err: &mut E)
     ensures line { GetsLineOrFailsWithPrefix
         (sink_before_and_after E.bytes E.counts err.old err.new) line.now }
     // No count of the sink falls, and no call is a misuse.
-    ensures counts { IsUseWithoutMisuse (sink_before_and_after E.bytes E.counts err.old err.new) }
+    ensures counts { SinkCountsOnlyRiseWithoutMisuse (sink_before_and_after E.bytes E.counts err.old err.new) }
 {
     let _ = write_all(err, line);
 }

@@ -12,7 +12,7 @@ ghost use Rattle.command_core.specs.Sound.{are_allowed_operands};
 ghost use Rattle.command_core.specs.declared.operands.OperandKind.TheVariants.{Number};
 ghost use Rattle.outcome.specs.demo_lines.Count.{demo_count};
 ghost use Rattle.outcome.specs.demo_lines.Lines.{mkpkg_words};
-ghost use Rattle.outcome.specs.demo_lines.Report.{demo_line};
+ghost use Rattle.outcome.specs.demo_lines.Report.{demo_line_of_count_and_add_report};
 ghost use Rattle.outcome.specs.Commands.{IsOutcomeWithoutDemo};
 ghost use Rattle.outcome.specs.Demo.{IsDemoOutcomeAfterInstalling, IsDemoOutcomeAfterPackaging, IsDemoOutcome, IsOutcomeOfNextRunOrEarlierRefusal, with_demo_file};
 ghost use Rattle.outcome.specs.Outcome.{Outcome, just_report_unless_refusal};
@@ -24,7 +24,7 @@ use crate::judge::run;
 use base_core::{Name, Text, TreeFault, Words};
 use command_core::Operands;
 use outcome::{
-    add_words, contents_of_demo_file, demo_count, demo_file, demo_line, demo_repositories,
+    add_words, contents_of_demo_file, demo_count, demo_file, demo_line_of_count_and_add_report, demo_repositories,
     mkndx_words, mkpkg_words,
 };
 use report_core::Refusal;
@@ -61,10 +61,10 @@ fn told(alloc: Global, count: u16, last: Verdict) -> Result<Verdict, TreeFault>
     // lack of memory.
     ensures { MatchResult result
         (λ verdict. (files : Files) → as_outcome files verdict
-        ≡ just_report_unless_refusal files last.refusal (demo_line count last.report))
+        ≡ just_report_unless_refusal files last.refusal (demo_line_of_count_and_add_report count last.report))
         (λ fault. fault ≡ TreeFault.Memory) }
 {
-    let line = demo_line(alloc, count, last.report.as_bytes())?;
+    let line = demo_line_of_count_and_add_report(alloc, count, last.report.as_bytes())?;
     Ok(unless_refused(alloc, last.refusal, line))
 }
 

@@ -4,7 +4,7 @@ ghost use Rattle.std.specs.Prelude.{◌≡◌, None, Ok, IsTrue, IfOk, IfErr, is
 ghost use Rattle.std.specs.Result.{result_err};
 ghost use Rattle.adb_block.specs.Reading.{block_stream_from};
 ghost use Rattle.adb_view.specs.ShapedPayload.{adb_of, table_of};
-ghost use Rattle.adb_dump.specs.adb_schema.Soundness.{schema_word};
+ghost use Rattle.adb_dump.specs.adb_schema.Soundness.{header_schema_if_root_table};
 ghost use Rattle.adb_view.specs.Adb.{payload_of};
 ghost use Rattle.apk_front.specs.Containers.{IsDumpFault, IsAfterShapedFirstBlock, first_block_head_or_shape_fault};
 ghost use Rattle.apk_front.specs.RunContracts.{IsReadingRun};
@@ -88,7 +88,7 @@ fn text_of_blocks(alloc: Global, blocks: &mut Blocks<'_>, which: Which) -> Resul
     // No block was read yet.
     requires first { blocks.old.last ≡ None }
     // The table is one that may be at a root.
-    requires root { IsTrue (is_some (schema_word which)) }
+    requires root { IsTrue (is_some (header_schema_if_root_table which)) }
     // The text is the one that the definition gives for these blocks.
     ensures ok { IfOk result (λ text. dump_of_blocks which (block_stream_from blocks.old)
         ≡ Ok text) }

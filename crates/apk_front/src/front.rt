@@ -7,9 +7,9 @@ ghost use Rattle.apk_front.specs.Moments.{IsOkRefusedOrOutputFault, AreStatesAsR
 ghost use Rattle.base_core.specs.Calls.{HoldsNow, IfObservable};
 ghost use Rattle.base_core.specs.Crash.{Since};
 ghost use Rattle.base_core.specs.Undone.{IsDurable};
-ghost use Rattle.base_core.specs.Faults.{CountsOnlyRise, IsFaultCountedWithCause};
+ghost use Rattle.base_core.specs.Faults.{CountsOnlyRise, CountsNewFaultWithCause};
 ghost use Rattle.base_core.specs.Files.{no_names};
-ghost use Rattle.base_core.specs.Sink.{sink_before_and_after, IsUseWithoutMisuse};
+ghost use Rattle.base_core.specs.Sink.{sink_before_and_after, SinkCountsOnlyRiseWithoutMisuse};
 ghost use Rattle.base_core.specs.Tree.{files_of};
 ghost use Rattle.journal_core.specs.Quiet.{StateIsUnchanged};
 ghost use Rattle.journal_core.specs.Recovery.{StateDependsOn, intent_name};
@@ -47,7 +47,7 @@ pub fn apk<T: Tree, O: Sink, E: Sink>(
     // be answered instead. After a sink's fault the files left are still the outcome's.
     ensures stated { IfObservable (T.history tree.old) (λ v.
         IsAnswerOfSomeOutcomeOrFailure (IsOutcome (command_of words.now) (files_of v))
-        (LeavesFiles (T.history tree.new)) (IsFaultCountedWithCause (T.counts tree.old)
+        (LeavesFiles (T.history tree.new)) (CountsNewFaultWithCause (T.counts tree.old)
         (T.counts tree.new)) result
         (sink_before_and_after O.bytes O.counts out.old out.new)
         (sink_before_and_after E.bytes E.counts err.old err.new)) }
@@ -73,7 +73,7 @@ pub fn apk<T: Tree, O: Sink, E: Sink>(
     // identity and other contents. That these are the contents of a real file system is trusted.
     ensures found { IsAnswerOfSomeOutcomeOrFailure (IsPossibleOutcome
         (command_of words.now)) LeavesAnyFiles
-        (IsFaultCountedWithCause (T.counts tree.old) (T.counts tree.new)) result
+        (CountsNewFaultWithCause (T.counts tree.old) (T.counts tree.new)) result
         (sink_before_and_after O.bytes O.counts out.old out.new)
         (sink_before_and_after E.bytes E.counts err.old err.new) }
 
@@ -90,9 +90,9 @@ pub fn apk<T: Tree, O: Sink, E: Sink>(
 
     // No count falls, and no sink is misused.
     ensures tree_counts { CountsOnlyRise (T.counts tree.old) (T.counts tree.new) }
-    ensures out_counts { IsUseWithoutMisuse
+    ensures out_counts { SinkCountsOnlyRiseWithoutMisuse
         (sink_before_and_after O.bytes O.counts out.old out.new) }
-    ensures err_counts { IsUseWithoutMisuse
+    ensures err_counts { SinkCountsOnlyRiseWithoutMisuse
         (sink_before_and_after E.bytes E.counts err.old err.new) }
 
     // Out of memory is answered only if the arguments name an applet, or ask for help or the

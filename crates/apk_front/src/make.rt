@@ -8,7 +8,7 @@ ghost use Rattle.apk_front.specs.Moments.{CanAddOutputNamesIfAny};
 ghost use Rattle.apk_front.specs.RunContracts.{IsMakingRun, IsVerdictExplainedByCounts};
 ghost use Rattle.apk_front.specs.Verdicts.{Reports, ReportsOneOfOutcomes};
 ghost use Rattle.base_core.specs.Calls.{IfObservable};
-ghost use Rattle.base_core.specs.Faults.{CountsOnlyRise, IsFaultCountedWithCause, CountsNoNewFault};
+ghost use Rattle.base_core.specs.Faults.{CountsOnlyRise, CountsNewFaultWithCause, CountsNoNewFaultOrLackOfMemory};
 ghost use Rattle.base_core.specs.Files.{Files, no_names};
 ghost use Rattle.base_core.specs.Read.{OnlyReads};
 ghost use Rattle.base_core.specs.Tree.{files_of};
@@ -188,12 +188,12 @@ fn finish<T: Tree>(
     // An I/O error is one that stopped the making, or one of a call here, which is counted.
     ensures disk { IsErrOf result TreeFault.Disk
         → IsErrOf container MakeFault.Disk
-        ⊎ IsFaultCountedWithCause (T.counts tree.old) (T.counts tree.new) }
+        ⊎ CountsNewFaultWithCause (T.counts tree.old) (T.counts tree.new) }
     // If there is a verdict, the tree counted no failed call here.
-    ensures kept { OnOk result (CountsNoNewFault (T.counts tree.old) (T.counts tree.new)) }
+    ensures kept { OnOk result (CountsNoNewFaultOrLackOfMemory (T.counts tree.old) (T.counts tree.new)) }
     // If memory ran out, the tree counted no failed call here.
     ensures memory { IsErrOf result TreeFault.Memory
-        → CountsNoNewFault (T.counts tree.old) (T.counts tree.new) }
+        → CountsNoNewFaultOrLackOfMemory (T.counts tree.old) (T.counts tree.new) }
     // An I/O error while the container was made is not answered as out of memory.
     ensures lost { IsErrOf result TreeFault.Memory → container ≢ Err MakeFault.Disk }
     // No call is a misuse if the paths of the output and its scratch name are free.

@@ -7,7 +7,7 @@ use Rattle.std.proofs.lemmas.List.Sorted.{All-permutation}
 use Rattle.adb_view.specs.Plain.{Plain}
 use Rattle.path_clashes.specs.adb_fields.Repeated.{files_in, folders_in, name_of}
 use Rattle.base_core.specs.Name.{IsName}
-use Rattle.db_core.specs.Members.{Listing, Member, listings_of_member, listings_of_members_from, listings_in_folder_from_file, listings_in_folders_from, listings_of_members, member_of_kept, members_of_kept}
+use Rattle.db_core.specs.Members.{Listing, Member, listings_of_member, listings_of_members_from, listings_from_member_folder_file_places, listings_in_folders_from, listings_of_members, member_of_kept, members_of_kept}
 use Rattle.base_core.specs.Sorted.{sorted_by}
 use Rattle.base_core.proofs.Sorting.{sorted_same}
 use Rattle.audit_core.specs.Records.{PathAndEntry, database_records, file_record, folder_records, package_records, record_path_cmp, records_by_path}
@@ -16,14 +16,14 @@ use Rattle.audit_core.specs.Records.{PathAndEntry, database_records, file_record
 abbrev pub listing_record : Listing → PathAndEntry
 listing_record l = record { path = l.path; entry = l.entry }
 
-in_folder : (m : Member) (place folder i : ℕ) (above : List ℕ) (entries : List Plain) → map listing_record (listings_in_folder_from_file m place folder i above entries) ≡ map (file_record above) entries
+in_folder : (m : Member) (place folder i : ℕ) (above : List ℕ) (entries : List Plain) → map listing_record (listings_from_member_folder_file_places m place folder i above entries) ≡ map (file_record above) entries
 in_folder m place folder i above [] = refl
 in_folder m place folder i above (entry ∷ entries) = ap (λ rs. file_record above entry ∷ rs) (in_folder m place folder (i + 1) above entries)
 
 in_folders : (m : Member) (place i : ℕ) (folders : List Plain) → map listing_record (listings_in_folders_from m place i folders) ≡ flat_map folder_records folders
 in_folders m place i [] = refl
 in_folders m place i (folder ∷ folders) =
-    map-append listing_record (listings_in_folder_from_file m place i 1 (name_of folder) (files_in folder)) (listings_in_folders_from m place (i + 1) folders)
+    map-append listing_record (listings_from_member_folder_file_places m place i 1 (name_of folder) (files_in folder)) (listings_in_folders_from m place (i + 1) folders)
     ∙ (ap (λ rs. rs ++ map listing_record (listings_in_folders_from m place (i + 1) folders)) (in_folder m place i 1 (name_of folder) (files_in folder))
     ∙ ap (λ rs. folder_records folder ++ rs) (in_folders m place (i + 1) folders))
 

@@ -9,16 +9,16 @@ use Rattle.base_core.proofs.Booleans.{both_second, both_first}
 use Rattle.path_clashes.specs.adb_fields.FirstPair.{IsIn}
 use Rattle.path_clashes.specs.adb_fields.Once.{EachHasDistinctNames, ShareNoName, AreDistinctNames, IsInOneOf}
 use Rattle.path_clashes.specs.adb_fields.Paths.{path_of}
-use Rattle.path_clashes.specs.adb_fields.Repeated.{entries_at, files_in, folders_in, list_of, name_of, paths_of_package_files, paths_of_folder_files}
+use Rattle.path_clashes.specs.adb_fields.Repeated.{entries_of_field_at_index, files_in, folders_in, list_of, name_of, paths_of_package_files, paths_of_folder_files}
 use Rattle.path_clashes.proofs.adb_fields.Members.{from-flat_map, from-map, in-map}
 use Rattle.path_clashes.proofs.adb_fields.Distinct.{distinct_front}
 use Rattle.db_core.specs.adb_schema.Rules.{is_valid_file_name_in_folder, is_one_part}
 use Rattle.db_core.specs.adb_schema.SoundContainers.{IsSoundValue}
-use Rattle.db_core.specs.adb_schema.SoundValues.{IsSoundFileInFolder, IsSoundFolder, IsSoundPackage}
-use Rattle.adb_view.specs.FieldIndexes.{DIR_FILES, IDB_PACKAGES, PACKAGE_PATHS}
+use Rattle.db_core.specs.adb_schema.SoundValues.{ObeysTextAndNumberRulesOfFileInFolder, ObeysTextAndNumberRulesOfFolder, ObeysTextAndNumberRulesOfPackage}
+use Rattle.adb_view.specs.FieldIndexes.{DIR_FILES_INDEX, IDB_PACKAGES_INDEX, PACKAGE_PATHS_INDEX}
 use Rattle.adb_view.specs.Plain.{Plain, Plains, more, none}
 use Rattle.adb_view.specs.Shaped.{Each}
-use Rattle.adb_view.specs.Values.{entries_in, entry_in}
+use Rattle.adb_view.specs.Values.{entries_in, entry_at_index}
 use Rattle.adb_view.specs.declared.tables.Which.TheVariants.{Idb}
 use Rattle.audit_core.specs.Records.{PathAndEntry, database_records, file_record, folder_records, package_records}
 
@@ -88,9 +88,9 @@ each_in P v (more w vs) h (inr here) = each_in P v vs h.1 here
 abbrev AreParts : Plain → Type 0
 AreParts folder = (file : Plain) → IsIn file (files_in folder) → list_any is_slash (name_of file) ≡ false
 
-parts_of_folder : (folder : Plain) → IsSoundFolder Idb folder → AreParts folder
+parts_of_folder : (folder : Plain) → ObeysTextAndNumberRulesOfFolder Idb folder → AreParts folder
 parts_of_folder folder is file here =
-    no_slash (name_of folder) (name_of file) (each_in (IsSoundFileInFolder Idb (name_of folder)) file (entries_in (entry_in folder DIR_FILES)) is.files here).name
+    no_slash (name_of folder) (name_of file) (each_in (ObeysTextAndNumberRulesOfFileInFolder Idb (name_of folder)) file (entries_in (entry_at_index folder DIR_FILES_INDEX)) is.files here).name
 
 map_twice : (f : List ℕ → List ℕ) (files : List Plain) → map f (map name_of files) ≡ map (λ file. f (name_of file)) files
 map_twice f [] = refl
@@ -130,7 +130,7 @@ in_one_of q pkg [] here lists = absurd here
 in_one_of q pkg (p ∷ packages) (inl is) lists = inl (subst (λ (v : Plain). IsIn q (paths_of_package_files v)) is lists)
 in_one_of q pkg (p ∷ packages) (inr here) lists = inr (in_one_of q pkg packages here lists)
 
-packages_once : (packages : List Plain) → ((pkg : Plain) → IsIn pkg packages → IsSoundPackage Idb pkg) → EachHasDistinctNames (map (λ pkg. map name_of (folders_in pkg)) packages)
+packages_once : (packages : List Plain) → ((pkg : Plain) → IsIn pkg packages → ObeysTextAndNumberRulesOfPackage Idb pkg) → EachHasDistinctNames (map (λ pkg. map name_of (folders_in pkg)) packages)
     → EachHasDistinctNames (flat_map (λ pkg. map (λ folder. map name_of (files_in folder)) (folders_in pkg)) packages) → ShareNoName (map paths_of_package_files packages)
     → AreDistinctNames (flat_map paths_of_package_files packages)
 packages_once [] rules folders files apart = tt
@@ -138,14 +138,14 @@ packages_once (pkg ∷ packages) rules folders files apart =
     let files_of : Plain → List (List (List ℕ)) = λ pkg. map (λ folder. map name_of (files_in folder)) (folders_in pkg) in
     distinct_both (paths_of_package_files pkg) (flat_map paths_of_package_files packages)
     (folders_once (folders_in pkg)
-    (λ folder h. parts_of_folder folder (each_in (IsSoundFolder Idb) folder (entries_in (entry_in pkg PACKAGE_PATHS)) (rules pkg (inl refl)).folders h))
+    (λ folder h. parts_of_folder folder (each_in (ObeysTextAndNumberRulesOfFolder Idb) folder (entries_in (entry_at_index pkg PACKAGE_PATHS_INDEX)) (rules pkg (inl refl)).folders h))
     folders.0 (distinct_front (files_of pkg) (flat_map files_of packages) files))
     (packages_once packages (λ p h. rules p (inr h)) folders.1 (distinct_after (files_of pkg) (flat_map files_of packages) files) apart.1)
     (λ q h k. (let found = from-flat_map paths_of_package_files q packages k in apart.0 q h (in_one_of q found.0 packages found.1 found.2)))
 
-pub database_once : (database : Plain) → IsSoundValue Idb database → AreDistinctNames (flat_map paths_of_package_files (entries_at IDB_PACKAGES database))
+pub database_once : (database : Plain) → IsSoundValue Idb database → AreDistinctNames (flat_map paths_of_package_files (entries_of_field_at_index IDB_PACKAGES_INDEX database))
 database_once database sound =
-    packages_once (entries_at IDB_PACKAGES database) (λ pkg h. each_in (IsSoundPackage Idb) pkg (entries_in (entry_in database IDB_PACKAGES)) sound.rules h)
+    packages_once (entries_of_field_at_index IDB_PACKAGES_INDEX database) (λ pkg h. each_in (ObeysTextAndNumberRulesOfPackage Idb) pkg (entries_in (entry_at_index database IDB_PACKAGES_INDEX)) sound.rules h)
     sound.once.0.folders sound.once.0.files sound.once.1.paths_once
 
 -- ---- the paths of records

@@ -7,13 +7,13 @@ use Rattle.std.proofs.lemmas.Cmp.{nat_list_cmp_total}
 use Rattle.std.proofs.lemmas.Map.Lookups.{exact_bytes}
 use Rattle.path_clashes.specs.adb_fields.FirstPair.{IsIn}
 use Rattle.path_clashes.specs.adb_fields.Once.{AreDistinctNames}
-use Rattle.path_clashes.specs.adb_fields.Repeated.{entries_at}
+use Rattle.path_clashes.specs.adb_fields.Repeated.{entries_of_field_at_index}
 use Rattle.db_core.specs.adb_schema.SoundContainers.{IsSoundValue}
-use Rattle.adb_view.specs.FieldIndexes.{IDB_PACKAGES}
+use Rattle.adb_view.specs.FieldIndexes.{IDB_PACKAGES_INDEX}
 use Rattle.adb_view.specs.Plain.{Plain}
 use Rattle.adb_view.specs.declared.tables.Which.TheVariants.{Idb}
 use Rattle.base_core.specs.Files.{Files}
-use Rattle.base_core.specs.Listed.{AreSortedDistinctNames}
+use Rattle.base_core.specs.Listed.{AreSortedDistinctTexts}
 use Rattle.base_core.specs.Sorted.{sorted_by, with_element_inserted}
 use Rattle.base_core.proofs.Rising as Names
 use Rattle.base_core.proofs.Rising.{order, pairs_from_rises}
@@ -103,10 +103,10 @@ module _ (how : PathAndEntry → Option Difference) where
       go None rest = rest
       go (Some difference) rest = (λ q here. rises.0 q (found_is_in q rs here), rest)
 
-pub differences_rise : (files : Files) (database : Plain) → IsSoundValue Idb database → AreSortedDistinctNames (map (λ d. d.path) (file_differences files (entries_at IDB_PACKAGES database)))
+pub differences_rise : (files : Files) (database : Plain) → IsSoundValue Idb database → AreSortedDistinctTexts (map (λ d. d.path) (file_differences files (entries_of_field_at_index IDB_PACKAGES_INDEX database)))
 unfolding file_differences records_by_path
 differences_rise files database sound =
-    let packages = entries_at IDB_PACKAGES database in
+    let packages = entries_of_field_at_index IDB_PACKAGES_INDEX database in
     pairs_from_rises (map (λ d. d.path) (file_differences files packages))
     (rises_found (λ r. difference_from_entry r.entry (files r.path)) (records_by_path packages)
     (rises_sorted (database_records packages) (subst AreDistinctNames (sym (record_paths packages)) (database_once database sound))))

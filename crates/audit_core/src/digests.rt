@@ -4,7 +4,7 @@
 ghost use Rattle.path_clashes.specs.adb_fields.ListValue.{list_value};
 ghost use Rattle.path_clashes.specs.adb_fields.Repeated.{list_of};
 ghost use Rattle.path_clashes.specs.adb_fields.Paths.{path_of};
-ghost use Rattle.adb_view.specs.Values.{count_of, entries_in, entry_in};
+ghost use Rattle.adb_view.specs.Values.{count_of, entries_in, entry_at_index};
 ghost use Rattle.audit_core.specs.Manifest.{manifest_line, manifest_of, package_manifest};
 ghost use Rattle.audit_core.specs.Records.{file_record, folder_records};
 ghost use Rattle.db_core.specs.Seen.{packages_of};
@@ -108,7 +108,7 @@ fn push_folder<'a>(
     requires { i < count_of (entries_in (list_value folders.now)) }
     // On Ok, the text of the definition is appended.
     ensures { OnOk result (report.new.items ≡ report.old.items
-        ++ flat_map manifest_line (folder_records (entry_in (list_value folders.now) i))) }
+        ++ flat_map manifest_line (folder_records (entry_at_index (list_value folders.now) i))) }
 {
     // The precondition excludes this. The call of `len` tells the checker that a list has fewer
     // than 2^32 entries.
@@ -149,7 +149,7 @@ fn push_file<'a>(
     requires { i < count_of (entries_in (list_value files.now)) }
     // On Ok, the text of the definition is appended.
     ensures { OnOk result (report.new.items ≡ report.old.items
-        ++ manifest_line (file_record folder.now (entry_in (list_value files.now) i))) }
+        ++ manifest_line (file_record folder.now (entry_at_index (list_value files.now) i))) }
 {
     // The precondition excludes this. The call of `len` tells the checker that a list has fewer
     // than 2^32 entries.

@@ -2,15 +2,15 @@
 //! in `docs/commands.md`, "`audit`".
 
 ghost use Rattle.path_clashes.specs.adb_fields.FirstPair.{IsIn};
-ghost use Rattle.path_clashes.specs.adb_fields.Repeated.{entries_at};
+ghost use Rattle.path_clashes.specs.adb_fields.Repeated.{entries_of_field_at_index};
 ghost use Rattle.db_core.specs.adb_schema.SoundContainers.{IsSoundValue};
-ghost use Rattle.adb_view.specs.FieldIndexes.{IDB_PACKAGES};
+ghost use Rattle.adb_view.specs.FieldIndexes.{IDB_PACKAGES_INDEX};
 ghost use Rattle.adb_view.specs.Plain.{Plain};
 ghost use Rattle.adb_view.specs.declared.tables.Which.TheVariants.{Idb};
 ghost use Rattle.audit_core.specs.Audit.{FileDifference, audit_report, difference_line};
 ghost use Rattle.audit_core.specs.Differences.{AreAsRecorded, IsDifferenceIn, file_differences};
 ghost use Rattle.base_core.specs.Files.{Files};
-ghost use Rattle.base_core.specs.Listed.{AreSortedDistinctNames};
+ghost use Rattle.base_core.specs.Listed.{AreSortedDistinctTexts};
 ghost use Rattle.package_files.specs.make_info.Reads.{Reads};
 ghost use Rattle.std.specs.List.{flat_map};
 ghost use Rattle.std.specs.Prelude.{◌≡◌, ◌≤◌, ◌↔◌, [], ℕ, List, map};
@@ -38,8 +38,8 @@ pub fn an_audit_reports_just_the_files_that_differ()
         → IsIn d (file_differences files packages) ↔ IsDifferenceIn packages files d }
     // For a sound database, `file_differences` has each path at most once, in byte order.
     ensures rising { (files : Files) (database : Plain) → IsSoundValue Idb database
-        → AreSortedDistinctNames (map (λ d. d.path)
-        (file_differences files (entries_at IDB_PACKAGES database))) }
+        → AreSortedDistinctTexts (map (λ d. d.path)
+        (file_differences files (entries_of_field_at_index IDB_PACKAGES_INDEX database))) }
 {}
 
 /// Each read finds the file as it is. Then the report of an audit is empty exactly if each file

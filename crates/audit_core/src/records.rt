@@ -5,7 +5,7 @@
 ghost use Rattle.path_clashes.specs.adb_fields.ListValue.{list_value};
 ghost use Rattle.path_clashes.specs.adb_fields.Repeated.{list_of};
 ghost use Rattle.db_core.specs.adb_schema.Views.{package_value};
-ghost use Rattle.adb_view.specs.Values.{count_of, entries_in, entry_in};
+ghost use Rattle.adb_view.specs.Values.{count_of, entries_in, entry_at_index};
 ghost use Rattle.audit_core.specs.Records.{database_records, file_record, folder_records, package_records, record_path_cmp, records_by_path};
 ghost use Rattle.audit_core.specs.Seen.{record_seen};
 ghost use Rattle.db_core.specs.Seen.{packages_of};
@@ -135,7 +135,7 @@ fn add_folder<'a>(
     requires { i < count_of (entries_in (list_value folders.now)) }
     // On Ok, the records of the files of this folder are appended.
     ensures { OnOk result (map record_seen records.new.items ≡ map record_seen records.old.items
-        ++ folder_records (entry_in (list_value folders.now) i)) }
+        ++ folder_records (entry_at_index (list_value folders.now) i)) }
 {
     // The precondition excludes this. The call of `len` tells the checker that a list has fewer
     // than 2^32 entries.
@@ -175,7 +175,7 @@ fn add_file<'a>(
     requires { i < count_of (entries_in (list_value files.now)) }
     // On Ok, the record of this file is appended.
     ensures { OnOk result (map record_seen records.new.items ≡ map record_seen records.old.items
-        ++ file_record folder.entry.now (entry_in (list_value files.now) i) ∷ []) }
+        ++ file_record folder.entry.now (entry_at_index (list_value files.now) i) ∷ []) }
 {
     // The precondition excludes this. The call of `len` tells the checker that a list has fewer
     // than 2^32 entries.

@@ -7,7 +7,7 @@ use Rattle.audit_core.specs.declared.comparing.Difference.{Difference}
 use Rattle.audit_core.specs.declared.comparing.Difference.TheVariants.{Changed, Missing}
 use Rattle.base_core.specs.Files.{Files}
 use Rattle.root_laws.specs.change_files.Fate.{is_protected_path}
-use Rattle.root_laws.specs.change_files.FileChange.{FileChange, added_owner_listing, is_listed_after_change, old_entry, owner_listing}
+use Rattle.root_laws.specs.change_files.FileChange.{FileChange, added_owner_listing, is_listed_after_change, old_file_entry, owner_listing}
 use Rattle.root_laws.specs.change_files.FilesAfter.{DatabaseAndWorldAfter, files_after_change, listing_written_as_apk_new_beside, path_of_apk_new_name}
 use Rattle.root_laws.specs.change_files.Touched.{IsModifiedConfigFile, is_name_of_written_apk_new_file, is_old_or_new_database_or_world_name}
 use Rattle.root_laws.proofs.change_files.Coming.{takes_path}
@@ -71,7 +71,7 @@ module _ (change : FileChange) (bytes_of : Listing → List ℕ) (records : Data
     users_or_nobodys : Users ⊎ Nobodys
     users_or_nobodys = by_guard (is_protected_path path) refl (files path) refl
       where
-        by_old : (bytes : List ℕ) → is_protected_path path ≡ true → files path ≡ Some bytes → is_as_listed l.entry bytes ≡ false → (o : Option Plain) → old_entry change path ≡ o → Users ⊎ Nobodys
+        by_old : (bytes : List ℕ) → is_protected_path path ≡ true → files path ≡ Some bytes → is_as_listed l.entry bytes ≡ false → (o : Option Plain) → old_file_entry change path ≡ o → Users ⊎ Nobodys
         by_old bytes guarded present unlike None e =
             inl (
               bytes,
@@ -101,7 +101,7 @@ module _ (change : FileChange) (bytes_of : Listing → List ℕ) (records : Data
         by_new : (bytes : List ℕ) → is_protected_path path ≡ true → files path ≡ Some bytes → (b : Bool) → is_as_listed l.entry bytes ≡ b → Users ⊎ Nobodys
         by_new bytes guarded present true t =
             inr (λ other own. true≢false (sym t ∙ (ap (is_as_listed l.entry) (some_is bytes other (sym present ∙ own.present)) ∙ own.unlike_new l comes)))
-        by_new bytes guarded present false t = by_old bytes guarded present t (old_entry change path) refl
+        by_new bytes guarded present false t = by_old bytes guarded present t (old_file_entry change path) refl
 
         by_guard : (g : Bool) → is_protected_path path ≡ g → (o : Option (List ℕ)) → files path ≡ o → Users ⊎ Nobodys
         by_guard false t o e = inr (λ other own. true≢false (sym own.guarded ∙ t))

@@ -9,15 +9,15 @@ use Rattle.root_laws.specs.adb_copy.Zeros.{without_zeros}
 use Rattle.root_laws.proofs.adb_copy.Entries.{entry_zeros}
 use Rattle.audit_core.specs.adb_fields.FirstPair.{IsIn}
 use Rattle.audit_core.specs.adb_fields.Once.{AreDistinctNames}
-use Rattle.audit_core.specs.adb_fields.Repeated.{entries_at, files_in, folders_in, list_of, name_of, paths_of_package_files}
+use Rattle.audit_core.specs.adb_fields.Repeated.{entries_of_field_at_index, files_in, folders_in, list_of, name_of, paths_of_package_files}
 use Rattle.audit_core.proofs.adb_fields.Members.{from-flat_map, from-map, in-flat_map, in-map}
 use Rattle.root_laws.specs.adb_schema.Reserved.{is_reserved}
 use Rattle.root_laws.specs.adb_schema.SoundContainers.{IsSoundValue}
-use Rattle.root_laws.specs.adb_schema.SoundValues.{IsSoundFileInFolder, IsSoundFolder, IsSoundPackage}
-use Rattle.adb_view.specs.FieldIndexes.{DIR_FILES, IDB_PACKAGES, PACKAGE_PATHS}
+use Rattle.root_laws.specs.adb_schema.SoundValues.{ObeysTextAndNumberRulesOfFileInFolder, ObeysTextAndNumberRulesOfFolder, ObeysTextAndNumberRulesOfPackage}
+use Rattle.adb_view.specs.FieldIndexes.{DIR_FILES_INDEX, IDB_PACKAGES_INDEX, PACKAGE_PATHS_INDEX}
 use Rattle.adb_view.specs.Plain.{Plain, Plains, more, none}
 use Rattle.adb_view.specs.Shaped.{Each}
-use Rattle.adb_view.specs.Values.{entries_in, entry_in, int_in, text_in}
+use Rattle.adb_view.specs.Values.{entries_in, entry_at_index, int_in, text_in}
 use Rattle.adb_view.specs.declared.tables.Which.TheVariants.{Idb}
 use Rattle.audit_core.specs.Differences.{DiffersFromEntry, IsRecordOfPackages}
 use Rattle.audit_core.specs.Records.{PathAndEntry, database_records, file_record, folder_records, package_records}
@@ -46,9 +46,9 @@ pub record WrittenLaws : Type 0 where
 
 zeros_as_listed : (entry : Plain) (bytes : List ℕ) → is_as_listed (without_zeros entry) bytes ≡ is_as_listed entry bytes
 zeros_as_listed entry bytes =
-    ap (λ size. is_as_listed_by_size_hash_target size (file_hash (without_zeros entry)) (file_target (without_zeros entry)) bytes) (ap int_in (entry_zeros entry 2) ∙ int_zeros (entry_in entry 2))
-    ∙ (ap (λ hash. is_as_listed_by_size_hash_target (file_size entry) hash (file_target (without_zeros entry)) bytes) (ap text_in (entry_zeros entry 4) ∙ text_zeros (entry_in entry 4))
-    ∙ ap (λ target. is_as_listed_by_size_hash_target (file_size entry) (file_hash entry) target bytes) (ap text_in (entry_zeros entry 5) ∙ text_zeros (entry_in entry 5)))
+    ap (λ size. is_as_listed_by_size_hash_target size (file_hash (without_zeros entry)) (file_target (without_zeros entry)) bytes) (ap int_in (entry_zeros entry 2) ∙ int_zeros (entry_at_index entry 2))
+    ∙ (ap (λ hash. is_as_listed_by_size_hash_target (file_size entry) hash (file_target (without_zeros entry)) bytes) (ap text_in (entry_zeros entry 4) ∙ text_zeros (entry_at_index entry 4))
+    ∙ ap (λ target. is_as_listed_by_size_hash_target (file_size entry) (file_hash entry) target bytes) (ap text_in (entry_zeros entry 5) ∙ text_zeros (entry_at_index entry 5)))
 
 pub zeros_alike : (entry : Plain) (found : Option (List ℕ)) (d : Difference) → DiffersFromEntry d (without_zeros entry) found ↔ DiffersFromEntry d entry found
 zeros_alike entry found Missing = (λ is. is, λ is. is)
@@ -141,20 +141,20 @@ each_in P v none h here = absurd here
 each_in P v (more w vs) h (inl is) = subst P (sym is) h.0
 each_in P v (more w vs) h (inr here) = each_in P v vs h.1 here
 
-pub free_path : (database : Plain) → IsSoundValue Idb database → (r : PathAndEntry) → IsIn r (database_records (entries_at IDB_PACKAGES database)) → is_reserved r.path ≡ false
+pub free_path : (database : Plain) → IsSoundValue Idb database → (r : PathAndEntry) → IsIn r (database_records (entries_of_field_at_index IDB_PACKAGES_INDEX database)) → is_reserved r.path ≡ false
 free_path database sound r here =
-    let pkg = from-flat_map package_records r (entries_at IDB_PACKAGES database) here in
+    let pkg = from-flat_map package_records r (entries_of_field_at_index IDB_PACKAGES_INDEX database) here in
     let folder = from-flat_map folder_records r (folders_in pkg.0) pkg.2 in
     let file = from-map (file_record (name_of folder.0)) r (files_in folder.0) folder.2 in
-    let is_package = each_in (IsSoundPackage Idb) pkg.0 (entries_in (entry_in database IDB_PACKAGES)) sound.rules pkg.1 in
-    let is_folder = each_in (IsSoundFolder Idb) folder.0 (entries_in (entry_in pkg.0 PACKAGE_PATHS)) is_package.folders folder.1 in
-    let is_file = each_in (IsSoundFileInFolder Idb (name_of folder.0)) file.0 (entries_in (entry_in folder.0 DIR_FILES)) is_folder.files file.1 in
+    let is_package = each_in (ObeysTextAndNumberRulesOfPackage Idb) pkg.0 (entries_in (entry_at_index database IDB_PACKAGES_INDEX)) sound.rules pkg.1 in
+    let is_folder = each_in (ObeysTextAndNumberRulesOfFolder Idb) folder.0 (entries_in (entry_at_index pkg.0 PACKAGE_PATHS_INDEX)) is_package.folders folder.1 in
+    let is_file = each_in (ObeysTextAndNumberRulesOfFileInFolder Idb (name_of folder.0)) file.0 (entries_in (entry_at_index folder.0 DIR_FILES_INDEX)) is_folder.files file.1 in
     ap (λ (q : PathAndEntry). is_reserved q.path) file.2 ∙ not-true (is_reserved (file_record (name_of folder.0) file.0).path) is_file.listed
 
 -- ---- the database after a change
 
 module _ (laws : WrittenLaws) (change : FileChange) (database : Plain) (sound : IsSoundValue Idb database)
-    (are : entries_at IDB_PACKAGES database ≡ list_of (packages_in_new_database change.members (owned_flags_of change.members))) where
+    (are : entries_of_field_at_index IDB_PACKAGES_INDEX database ≡ list_of (packages_in_new_database change.members (owned_flags_of change.members))) where
   abbrev flags : List Bool
   flags = owned_flags_of change.members
 

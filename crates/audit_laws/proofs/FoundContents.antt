@@ -5,7 +5,7 @@ use Rattle.std.specs.List.{cons_option, find}
 use Rattle.audit_core.specs.adb_fields.Repeated.{package_name}
 use Rattle.adb_view.specs.Plain.{Plain}
 use Rattle.base_core.specs.declared.cause.Cause.{Cause}
-use Rattle.root_laws.specs.candidate_core.Candidates.{Candidate, is_same_id}
+use Rattle.root_laws.specs.candidate_core.Candidates.{Candidate, is_same_id_by_nonempty_prefix}
 use Rattle.root_laws.specs.change_inputs.Chains.{and_then}
 use Rattle.root_laws.specs.change_inputs.Inputs.{first_index_read_number}
 use Rattle.root_laws.proofs.change_outcome.Made.{and_then_ok}
@@ -40,7 +40,7 @@ kept_package r = r
 
 module _ (told : HasFirstValue) (read : Reads) where
   different_ok : (c : Candidate) (pkg p : AddedPackage) → package_unless_other_than_candidate c pkg ≡ Ok p → p ≡ pkg
-  different_ok c pkg p e = by_tests _ _ _ (is_same_id c.id pkg.id) (bytes_eq c.name (package_name pkg.value)) (bytes_eq (candidate_version_text c) (package_version_text pkg.value)) e
+  different_ok c pkg p e = by_tests _ _ _ (is_same_id_by_nonempty_prefix c.id pkg.id) (bytes_eq c.name (package_name pkg.value)) (bytes_eq (candidate_version_text c) (package_version_text pkg.value)) e
     where
       by_tests : (x y z : Refusal) (a b v : Bool) → kept_package (if not a then Err x else if not b then Err y else if not v then Err z else Ok pkg) ≡ Ok p → p ≡ pkg
       by_tests x y z true true true e = (let same : pkg ≡ p = cc in sym same)

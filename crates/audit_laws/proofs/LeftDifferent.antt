@@ -3,12 +3,12 @@ use Rattle.std.proofs.Common.{◌≡◌, inl, inr, ◌∙◌, ◌↔◌, ℕ, su
 use Rattle.std.specs.Prelude.{slice_get, if◌then◌else◌}
 use Rattle.root_laws.specs.adb_copy.Zeros.{without_zeros}
 use Rattle.audit_core.specs.adb_fields.FirstPair.{IsIn}
-use Rattle.audit_core.specs.adb_fields.Repeated.{entries_at}
+use Rattle.audit_core.specs.adb_fields.Repeated.{entries_of_field_at_index}
 use Rattle.root_laws.specs.adb_schema.Reserved.{is_reserved}
-use Rattle.root_laws.specs.adb_schema.SoundContainers.{IsSoundContainer, IsSoundValue}
+use Rattle.root_laws.specs.adb_schema.SoundContainers.{IsSoundContainerExceptContents, IsSoundValue}
 use Rattle.root_laws.specs.adb_schema.Soundness.{container_fault_except_contents, payload_in, root_value_of_payload}
 use Rattle.root_laws.specs.adb_schema.Texts.{is_file_with_contents}
-use Rattle.adb_view.specs.FieldIndexes.{IDB_PACKAGES}
+use Rattle.adb_view.specs.FieldIndexes.{IDB_PACKAGES_INDEX}
 use Rattle.adb_view.specs.Plain.{Plain}
 use Rattle.adb_view.specs.declared.tables.Which.{Which}
 use Rattle.adb_view.specs.declared.tables.Which.TheVariants.{Idb}
@@ -38,7 +38,7 @@ use Rattle.root_laws.specs.make_info.Reads.{Reads}
 use Rattle.root_laws.specs.package_changes.Changes.{Replacement}
 use Rattle.audit_core.specs.path_clashes.Clash.{NamePair}
 use Rattle.root_laws.specs.pkg_core.Contents.{Contents, expected_files_of_package}
-use Rattle.root_laws.specs.pkg_core.GoodContents.{AreContentsOfExpectedFiles, HaveValidDigestLengths}
+use Rattle.root_laws.specs.pkg_core.GoodContents.{MatchEachExpectedSizeAndKnownDigest, HaveValidDigestLengths}
 use Rattle.root_laws.proofs.pkg_core.Digests.{HasFirstValue}
 use Rattle.report_core.specs.declared.refusal.Refusal.{Refusal}
 use Rattle.report_core.specs.declared.refusal.Refusal.TheVariants.{DatabaseBad}
@@ -51,7 +51,7 @@ use Rattle.audit_laws.proofs.FoundContents.{contents_listed}
 
 -- what the laws of the crates below say
 pub record Laws : Type 0 where
-  pub values : (which : Which) (file : List ℕ) → IsSoundContainer which file → IsSoundValue which (root_value_of_payload which (payload_in file))
+  pub values : (which : Which) (file : List ℕ) → IsSoundContainerExceptContents which file → IsSoundValue which (root_value_of_payload which (payload_in file))
   pub reserved : (records : DatabaseAndWorldAfter) (name : List ℕ) → is_old_or_new_database_or_world_name records name ≡ true → is_reserved name ≡ true
   pub made : (inputs : Inputs) (r : Replacement) (wishes : ChangeWishes) (read : Reads) (clash : Option NamePair) (files : Files) (done : ChangeDone)
       → change_or_refusal inputs r wishes read clash files ≡ Ok done → IsChangeMade inputs r wishes read clash files done
@@ -64,14 +64,14 @@ abbrev kept : Database → Result Database Refusal
 kept d = Ok d
 
 container_ok : (file : List ℕ) (packages : List Plain) (bytes : List ℕ) → container_database file ≡ Ok (database_of_packages_file_and_is_text packages (Some bytes) false)
-    → (container_fault_except_contents Idb file ≡ None) × (entries_at IDB_PACKAGES (root_value_of_payload Idb (payload_in file)) ≡ packages)
+    → (container_fault_except_contents Idb file ≡ None) × (entries_of_field_at_index IDB_PACKAGES_INDEX (root_value_of_payload Idb (payload_in file)) ≡ packages)
 container_ok file packages bytes e = by_fault (container_fault_except_contents Idb file) refl e
   where
     there : Database
-    there = database_of_packages_file_and_is_text (entries_at IDB_PACKAGES (root_value_of_payload Idb (payload_in file))) (Some file) false
+    there = database_of_packages_file_and_is_text (entries_of_field_at_index IDB_PACKAGES_INDEX (root_value_of_payload Idb (payload_in file))) (Some file) false
 
     by_fault : (fault : Option Cause) → container_fault_except_contents Idb file ≡ fault → unless_cause DatabaseBad fault there ≡ Ok (database_of_packages_file_and_is_text packages (Some bytes) false)
-        → (container_fault_except_contents Idb file ≡ None) × (entries_at IDB_PACKAGES (root_value_of_payload Idb (payload_in file)) ≡ packages)
+        → (container_fault_except_contents Idb file ≡ None) × (entries_of_field_at_index IDB_PACKAGES_INDEX (root_value_of_payload Idb (payload_in file)) ≡ packages)
     by_fault None t e = (let same : there ≡ database_of_packages_file_and_is_text packages (Some bytes) false = (let both : kept there ≡ kept (database_of_packages_file_and_is_text packages (Some bytes) false) = e in cc) in (t, ap (λ (d : Database). d.packages) same))
     by_fault (Some cause) t e = absurd (cc (e))
 
@@ -121,7 +121,7 @@ module _ (laws : Laws) (command : CommandLine) (read : Reads) (files : Files) (c
   database_there : done.files database_name ≡ Some made_so.database
   database_there = ap (λ (fs : Files). fs database_name) files_are ∙ database_after change bytes_of records files
 
-  read_back : (container_fault_except_contents Idb made_so.database ≡ None) × (entries_at IDB_PACKAGES (root_value_of_payload Idb (payload_in made_so.database)) ≡ packages_left left)
+  read_back : (container_fault_except_contents Idb made_so.database ≡ None) × (entries_of_field_at_index IDB_PACKAGES_INDEX (root_value_of_payload Idb (payload_in made_so.database)) ≡ packages_left left)
   read_back =
       let next : Reads = λ n name. done.files name in
       container_ok made_so.database (packages_left left) left.bytes
@@ -203,7 +203,7 @@ empty_by entry bytes brought unlike = by_tests (is_file_with_contents entry) ref
 pub empty_alone :
     HasFirstValue → ((members : List Member) (i : ℕ) (l : Listing) → slice_get (listings_of_members members) i ≡ Some l → IsListedAt members l)
     → ((contents : ℕ → List Contents) (members : List Member) (l : Listing) → Contains (listings_of_members members) l → HaveValidDigestLengths (expected_files_of_package l.member.pkg)
-    → AreContentsOfExpectedFiles (expected_files_of_package l.member.pkg) (contents l.place) → (is_file_with_contents l.entry ≡ false → has_target l.entry ≡ false → is_as_listed l.entry [] ≡ true)
+    → MatchEachExpectedSizeAndKnownDigest (expected_files_of_package l.member.pkg) (contents l.place) → (is_file_with_contents l.entry ≡ false → has_target l.entry ≡ false → is_as_listed l.entry [] ≡ true)
     → is_as_listed l.entry (listing_bytes contents l) ≡ true)
     → (command : CommandLine) (read : Reads) (chosen : Option (List ℕ)) (done : ChangeDone) (left : IsRootLeftToLaterCommandsByChange command read chosen done) (path : List ℕ) (l : Listing)
     → added_owner_listing (change_left left) path ≡ Some l → is_as_listed l.entry (listing_bytes (contents_left left) l) ≡ false → IsEmptyFileWithOtherDigest l.entry

@@ -2,7 +2,7 @@
 use Rattle.std.proofs.Common.{◌≡◌, ◌∙◌, ◌≤◌, ℕ, inl, inr, List, [], ◌∷◌, ◌++◌, Result, Ok, Err, refl, subst, arith}
 use Rattle.base_core.specs.Calls.{IfObservable}
 use Rattle.base_core.specs.Read.{OnlyReads}
-use Rattle.base_core.specs.Faults.{Counts, CountsOnlyRise, IsFaultCountedWithCause, CountsNoNewFault, RoseOrIsSaturated}
+use Rattle.base_core.specs.Faults.{Counts, CountsOnlyRise, CountsNewFaultWithCause, CountsNoNewFaultOrLackOfMemory, RoseOrIsSaturated}
 use Rattle.base_core.specs.Restart.{HasNameLedToFileNumberedAtLeast}
 use Rattle.base_core.specs.Tree.{TreeState}
 
@@ -17,10 +17,10 @@ goes_on_twice a b c h k = record {
 pub goes_on_same : (a : Counts) → CountsOnlyRise a a
 goes_on_same a = record { faults = omega arith; misuses = omega arith; memory_faults = omega arith; fallible = λ now. now }
 
-pub no_fault_twice : (a b c : Counts) → CountsNoNewFault a b → CountsNoNewFault b c → CountsNoNewFault a c
+pub no_fault_twice : (a b c : Counts) → CountsNoNewFaultOrLackOfMemory a b → CountsNoNewFaultOrLackOfMemory b c → CountsNoNewFaultOrLackOfMemory a c
 no_fault_twice a b c h k = record { faults = k.faults ∙ h.faults; memory_faults = k.memory_faults ∙ h.memory_faults }
 
-pub no_fault_same : (a : Counts) → CountsNoNewFault a a
+pub no_fault_same : (a : Counts) → CountsNoNewFaultOrLackOfMemory a a
 no_fault_same a = record { faults = refl; memory_faults = refl }
 
 -- ---- a call that failed, before calls and behind them
@@ -28,7 +28,7 @@ no_fault_same a = record { faults = refl; memory_faults = refl }
 rose_sooner : (a b c : ℕ) → RoseOrIsSaturated a b → b ≤ c → RoseOrIsSaturated a c
 rose_sooner a b c h k = omega arith
 
-pub cause_sooner : (a b c : Counts) → IsFaultCountedWithCause a b → CountsOnlyRise b c → IsFaultCountedWithCause a c
+pub cause_sooner : (a b c : Counts) → CountsNewFaultWithCause a b → CountsOnlyRise b c → CountsNewFaultWithCause a c
 cause_sooner a b c h k = record {
   fault = rose_sooner a.faults b.faults c.faults h.fault k.faults;
   reason = elim h.reason [
@@ -41,7 +41,7 @@ cause_sooner a b c h k = record {
 pub rose_later : (a b c : ℕ) → a ≤ b → RoseOrIsSaturated b c → RoseOrIsSaturated a c
 rose_later a b c h k = omega arith
 
-pub cause_later : (a b c : Counts) → CountsOnlyRise a b → IsFaultCountedWithCause b c → IsFaultCountedWithCause a c
+pub cause_later : (a b c : Counts) → CountsOnlyRise a b → CountsNewFaultWithCause b c → CountsNewFaultWithCause a c
 cause_later a b c h k = record {
   fault = rose_later a.faults b.faults c.faults h.faults k.fault;
   reason = elim k.reason [

@@ -9,12 +9,12 @@ use Rattle.std.proofs.lemmas.Slice.Eq.{bytes_eq-Decides}
 use Rattle.std.proofs.lemmas.Map.Views.{Contains-from_any}
 use Rattle.base_core.specs.Files.{NameMap, HaveValidNamesAndBytes, AreFileBytes, HasOnlyNamesAmong, IsFolderOf}
 use Rattle.base_core.specs.Tree.{TreeState, IsCurrentOrOlderMap, IsWellFormed, bytes_of_file_number, files_under_map, files_of}
-use Rattle.base_core.specs.Listed.{AreSortedNamesBelowFolder, IsSortedListingOfFolder, IsValidNameBelowFolder, AreSortedNamesInMap, AreSortedDistinctNames}
+use Rattle.base_core.specs.Listed.{AreSortedNamesBelowFolder, IsSortedListingOfFolder, IsValidNameBelowFolder, IsSortedListOfAllNamesInMap, AreSortedDistinctTexts}
 use Rattle.base_core.proofs.Rising.{in_at, keep, keep_rises, kept_passes, passing_kept, same_list, contains_from_in, in_from_contains, pairs_from_rises, rises_from_pairs}
 
 -- just the names that P holds of, in byte order
 record IsListed (P : List ℕ → Type 0) (names : List (List ℕ)) : Type 0 where
-  pub rising : AreSortedDistinctNames names
+  pub rising : AreSortedDistinctTexts names
   pub each : (q : List ℕ) → Contains names q ↔ P q
 
 listed : (P : List ℕ → Type 0) (test : List ℕ → Bool) → ((q : List ℕ) → Decides (test q) (P q))
@@ -38,12 +38,12 @@ only_list P a b one two = same_list a b (rises_from_pairs a one.rising) (rises_f
 
 -- ---- all names of a map
 
-pub names_exist : {X : Type 0} (map : List ℕ → Option X) (within : List (List ℕ)) → HasOnlyNamesAmong within map → (names : List (List ℕ)) × AreSortedNamesInMap map names
+pub names_exist : {X : Type 0} (map : List ℕ → Option X) (within : List (List ℕ)) → HasOnlyNamesAmong within map → (names : List (List ℕ)) × IsSortedListOfAllNamesInMap map names
 names_exist map within finite =
     let found = listed (λ q. IsSome (map q)) (λ q. is_some (map q)) (λ q. (λ h. h, λ h. h)) within finite in
     (found.0, record { rising = found.1.rising; each = found.1.each })
 
-pub names_one : {X : Type 0} (map : List ℕ → Option X) (a b : List (List ℕ)) → AreSortedNamesInMap map a → AreSortedNamesInMap map b → a ≡ b
+pub names_one : {X : Type 0} (map : List ℕ → Option X) (a b : List (List ℕ)) → IsSortedListOfAllNamesInMap map a → IsSortedListOfAllNamesInMap map b → a ≡ b
 names_one map a b one two = only_list (λ q. IsSome (map q)) a b (record { rising = one.rising; each = one.each }) (record { rising = two.rising; each = two.each })
 
 -- ---- the names below a folder
@@ -104,7 +104,7 @@ has_bytes : (v : TreeState) (n : Option ℕ) → IsSome n ↔ IsSome (bytes_of_f
 has_bytes v None = (λ h. h, λ h. h)
 has_bytes v (Some n) = (λ h. refl, λ h. refl)
 
-pub names_are_of_files : (v : TreeState) (names : List (List ℕ)) → AreSortedNamesInMap v.names names → AreSortedNamesInMap (files_of v) names
+pub names_are_of_files : (v : TreeState) (names : List (List ℕ)) → IsSortedListOfAllNamesInMap v.names names → IsSortedListOfAllNamesInMap (files_of v) names
 names_are_of_files v names of_map = record {
   rising = of_map.rising;
   each = λ q. (λ found. (has_bytes v (v.names q)).0 ((of_map.each q).0 found), λ some. (of_map.each q).1 ((has_bytes v (v.names q)).1 some));

@@ -2,7 +2,7 @@
 -- "Moments" (the history) and "Misuses, faults and counts".
 use Rattle.std.specs.Prelude.{◌≡◌, ◌⊎◌, List, [], ◌∷◌, Result, OnOk, OnErr}
 use Rattle.base_core.specs.Tree.{TreeState}
-use Rattle.base_core.specs.Faults.{Counts, CountsOnlyRise, IsFaultCountedWithCause, CountsNoNewFault, saturating_increment}
+use Rattle.base_core.specs.Faults.{Counts, CountsOnlyRise, CountsNewFaultWithCause, CountsNoNewFaultOrLackOfMemory, saturating_increment}
 
 -- The history of a tree is the list of its states so far, the newest first. It is observable if it is not empty. A tree
 -- whose states contracts cannot know, such as the host's tree, has an empty history.
@@ -37,9 +37,9 @@ pub record IsCounted {T E : Type 0} (can : TreeState → Type 0) (history : List
   -- no count falls
   pub goes_on : CountsOnlyRise before now
   -- an error is counted as a fault, and a reason for it is counted or allowed
-  pub cause : OnErr result (IsFaultCountedWithCause before now)
+  pub cause : OnErr result (CountsNewFaultWithCause before now)
   -- a call that succeeds counts neither a fault nor a lack of memory
-  pub kept : OnOk result (CountsNoNewFault before now)
+  pub kept : OnOk result (CountsNoNewFaultOrLackOfMemory before now)
   -- a call that succeeds was allowed at the newest state
   pub allowed : OnOk result (IfObservable history can)
   -- if the state allows the call, no misuse is counted

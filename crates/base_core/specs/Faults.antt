@@ -35,7 +35,7 @@ pub record CountsOnlyRise (before now : Counts) : Type 0 where
 
 -- between two moments a failed call was counted, and has a reason: an outside reason, a misuse, or the tree or sink was
 -- out of memory
-pub record IsFaultCountedWithCause (before now : Counts) : Type 0 where
+pub record CountsNewFaultWithCause (before now : Counts) : Type 0 where
   -- one more fault was counted, unless the count has its largest value
   pub fault : RoseOrIsSaturated before.faults now.faults
   -- `fallible` allowed an outside reason, or one more misuse or lack of memory was counted
@@ -43,7 +43,7 @@ pub record IsFaultCountedWithCause (before now : Counts) : Type 0 where
       ⊎ RoseOrIsSaturated before.memory_faults now.memory_faults)
 
 -- between two moments neither a fault nor a lack of memory was counted; misuses are left open
-pub record CountsNoNewFault (before now : Counts) : Type 0 where
+pub record CountsNoNewFaultOrLackOfMemory (before now : Counts) : Type 0 where
   -- the number of failed calls is unchanged
   pub faults : now.faults ≡ before.faults
   -- the number of calls that failed for lack of memory is unchanged
@@ -54,8 +54,8 @@ pub record FailsWithCause {T E : Type 0} (before now : Counts) (result : Result 
   -- no count falls
   pub goes_on : CountsOnlyRise before now
   -- an error is counted as a fault, and has a reason
-  pub cause : OnErr result (IsFaultCountedWithCause before now)
+  pub cause : OnErr result (CountsNewFaultWithCause before now)
   -- a call that succeeds counts neither a fault nor a lack of memory
-  pub kept : OnOk result (CountsNoNewFault before now)
+  pub kept : OnOk result (CountsNoNewFaultOrLackOfMemory before now)
   -- no call of a sink is a misuse
   pub proper : now.misuses ≡ before.misuses

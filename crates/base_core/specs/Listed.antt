@@ -9,13 +9,13 @@ use Rattle.base_core.specs.Name.{IsName}
 use Rattle.base_core.specs.Tree.{TreeState}
 
 -- the names are in byte order, each once
-abbrev pub AreSortedDistinctNames : List (List ℕ) → Type 0
-AreSortedDistinctNames names = AllPairs (λ a b. slice_cmp nat_cmp a b ≡ Less) names
+abbrev pub AreSortedDistinctTexts : List (List ℕ) → Type 0
+AreSortedDistinctTexts names = AllPairs (λ a b. slice_cmp nat_cmp a b ≡ Less) names
 
 -- `names` are exactly the names that are present in the map, in byte order
-pub record AreSortedNamesInMap {X : Type 0} (map : List ℕ → Option X) (names : List (List ℕ)) : Type 0 where
+pub record IsSortedListOfAllNamesInMap {X : Type 0} (map : List ℕ → Option X) (names : List (List ℕ)) : Type 0 where
   -- the names are in byte order, each once
-  pub rising : AreSortedDistinctNames names
+  pub rising : AreSortedDistinctTexts names
   -- the list has exactly the present names
   pub each : (q : List ℕ) → Contains names q ↔ IsSome (map q)
 
@@ -23,7 +23,7 @@ pub record AreSortedNamesInMap {X : Type 0} (map : List ℕ → Option X) (names
 -- byte order
 pub record IsSortedListingOfFolder (folder : List ℕ) (v : TreeState) (names : List (List ℕ)) : Type 0 where
   -- the names are in byte order, each once
-  pub rising : AreSortedDistinctNames names
+  pub rising : AreSortedDistinctTexts names
   -- the list has exactly the present names below the folder
   pub each : (q : List ℕ) → Contains names q ↔ (IsSome (v.names q) × IsFolderOf folder q)
 
@@ -37,6 +37,6 @@ pub record IsValidNameBelowFolder (folder name : List ℕ) : Type 0 where
 -- `names` are valid names below the folder, in byte order, each once. Nothing is said of which names a tree has
 pub record AreSortedNamesBelowFolder (folder : List ℕ) (names : List (List ℕ)) : Type 0 where
   -- the names are in byte order, each once
-  pub rising : AreSortedDistinctNames names
+  pub rising : AreSortedDistinctTexts names
   -- each is a valid name below the folder
   pub each : All (IsValidNameBelowFolder folder) names

@@ -4,7 +4,7 @@ use Rattle.std.specs.Prelude.{◌≡◌, ◌++◌, ℕ, List, length, take, drop
 use Rattle.std.specs.Option.{option_map}
 use Rattle.std.specs.declared.alloc.Global.{Global}
 use Rattle.base_core.specs.Calls.{IfObservable}
-use Rattle.base_core.specs.Faults.{Counts, CountsOnlyRise, IsFaultCountedWithCause, CountsNoNewFault}
+use Rattle.base_core.specs.Faults.{Counts, CountsOnlyRise, CountsNewFaultWithCause, CountsNoNewFaultOrLackOfMemory}
 use Rattle.base_core.specs.Tree.{TreeState, files_of}
 
 -- the bytes that `read_all` returned, as a list; None if it found no file
@@ -35,10 +35,10 @@ pub record OnlyReads {A E : Type 0} (disk_fault : E) (old new : List TreeState)
   -- no count falls
   pub goes_on : CountsOnlyRise before now
   -- the error `disk_fault` is returned only if a fault with its cause was counted
-  pub disk : IsErrOf result disk_fault → IsFaultCountedWithCause before now
+  pub disk : IsErrOf result disk_fault → CountsNewFaultWithCause before now
   -- a success adds neither a fault nor a lack of memory
-  pub kept : OnOk result (CountsNoNewFault before now)
+  pub kept : OnOk result (CountsNoNewFaultOrLackOfMemory before now)
   -- an error other than `disk_fault` adds neither a fault nor a lack of memory
-  pub others : IfErr result (λ fault. (fault ≡ disk_fault → ⊥) → CountsNoNewFault before now)
+  pub others : IfErr result (λ fault. (fault ≡ disk_fault → ⊥) → CountsNoNewFaultOrLackOfMemory before now)
   -- if the history is observable, no call was a misuse
   pub proper : IfObservable old (λ v. now.misuses ≡ before.misuses)

@@ -21,7 +21,7 @@ EachMoment P [] = Unit {0}
 EachMoment P (v ∷ earlier) = P earlier v × EachMoment P earlier
 
 -- P holds at each moment that was added between the histories `old` and `new`
-pub record SinceGivenEarlier (P : List TreeState → TreeState → Type 0)
+pub record SinceGivenEarlierAddedMoments (P : List TreeState → TreeState → Type 0)
     (old new : List TreeState) : Type 0 where
   -- the states that were added, the newest first
   pub added : List TreeState

@@ -4,9 +4,9 @@
 //! of a listing in "A tree at one moment".
 ghost use Rattle.std.specs.Prelude.{◌≡◌, ◌≤◌, ◌++◌, ℕ, List, [], Option, Result, Bool};
 ghost use Rattle.base_core.specs.Crash.{IsCrashImageIfUndoneNewestFirst, IsCrashImageUnderMap, IsDurableIfUndoneNewestFirst};
-ghost use Rattle.base_core.specs.Faults.{Counts, CountsOnlyRise, IsFaultCountedWithCause, CountsNoNewFault};
+ghost use Rattle.base_core.specs.Faults.{Counts, CountsOnlyRise, CountsNewFaultWithCause, CountsNoNewFaultOrLackOfMemory};
 ghost use Rattle.base_core.specs.Files.{Files, NameMap, HaveValidNamesAndBytes, HasOnlyNamesAmong};
-ghost use Rattle.base_core.specs.Listed.{AreSortedNamesBelowFolder, IsSortedListingOfFolder, AreSortedNamesInMap};
+ghost use Rattle.base_core.specs.Listed.{AreSortedNamesBelowFolder, IsSortedListingOfFolder, IsSortedListOfAllNamesInMap};
 ghost use Rattle.base_core.specs.Read.{OnlyReads};
 ghost use Rattle.base_core.specs.Restart.{HasNameLedToFileNumberedAtLeast, IsAfterCrashIfUndoneNewestFirst};
 ghost use Rattle.base_core.specs.Tree.{TreeState, IsCurrentOrOlderMap, IsWellFormed, files_of, files_under_map, with_newer_name_map};
@@ -163,10 +163,10 @@ pub fn a_folder_has_one_listing()
 pub fn a_map_has_one_list_of_names()
     // If all names of the map are in the list `within`, there is a sorted list of its names.
     ensures exists { (map : NameMap) (within : List (List ℕ)) → HasOnlyNamesAmong within map
-        → (names : List (List ℕ)) × AreSortedNamesInMap map names }
+        → (names : List (List ℕ)) × IsSortedListOfAllNamesInMap map names }
     // Two lists of the names in one map are equal.
-    ensures one { (map : NameMap) (a b : List (List ℕ)) → AreSortedNamesInMap map a
-        → AreSortedNamesInMap map b
+    ensures one { (map : NameMap) (a b : List (List ℕ)) → IsSortedListOfAllNamesInMap map a
+        → IsSortedListOfAllNamesInMap map b
         → a ≡ b }
 {}
 
@@ -174,17 +174,17 @@ pub fn a_map_has_one_list_of_names()
 pub fn files_have_one_list_of_names()
     // If all names of the files are in the list `within`, there is a sorted list of their names.
     ensures exists { (files : Files) (within : List (List ℕ)) → HasOnlyNamesAmong within files
-        → (names : List (List ℕ)) × AreSortedNamesInMap files names }
+        → (names : List (List ℕ)) × IsSortedListOfAllNamesInMap files names }
     // Two lists of the names of the same files are equal.
-    ensures one { (files : Files) (a b : List (List ℕ)) → AreSortedNamesInMap files a
-        → AreSortedNamesInMap files b
+    ensures one { (files : Files) (a b : List (List ℕ)) → IsSortedListOfAllNamesInMap files a
+        → IsSortedListOfAllNamesInMap files b
         → a ≡ b }
 {}
 
 /// The files as read are under exactly the names as read.
 pub fn the_files_as_read_have_the_names_as_read()
-    ensures { (v : TreeState) (names : List (List ℕ)) → AreSortedNamesInMap v.names names
-        → AreSortedNamesInMap (files_of v) names }
+    ensures { (v : TreeState) (names : List (List ℕ)) → IsSortedListOfAllNamesInMap v.names names
+        → IsSortedListOfAllNamesInMap (files_of v) names }
 {}
 
 /// The files of a well-formed state, under each of its maps of names, are finitely many. Each is
@@ -209,16 +209,16 @@ pub fn counts_of_consecutive_calls_compose()
     ensures goes_on { (a b c : Counts) → CountsOnlyRise a b → CountsOnlyRise b c
         → CountsOnlyRise a c }
     // A fault counted from a to b is counted from a to c.
-    ensures cause_before { (a b c : Counts) → IsFaultCountedWithCause a b → CountsOnlyRise b c
-        → IsFaultCountedWithCause a c }
+    ensures cause_before { (a b c : Counts) → CountsNewFaultWithCause a b → CountsOnlyRise b c
+        → CountsNewFaultWithCause a c }
     // A fault counted from b to c is counted from a to c.
-    ensures cause_after { (a b c : Counts) → CountsOnlyRise a b → IsFaultCountedWithCause b c
-        → IsFaultCountedWithCause a c }
+    ensures cause_after { (a b c : Counts) → CountsOnlyRise a b → CountsNewFaultWithCause b c
+        → CountsNewFaultWithCause a c }
     // Without new faults from a to b and from b to c there are none from a to c.
-    ensures no_fault { (a b c : Counts) → CountsNoNewFault a b → CountsNoNewFault b c
-        → CountsNoNewFault a c }
+    ensures no_fault { (a b c : Counts) → CountsNoNewFaultOrLackOfMemory a b → CountsNoNewFaultOrLackOfMemory b c
+        → CountsNoNewFaultOrLackOfMemory a c }
     // If no call is made, no count falls, and no fault is counted.
-    ensures stays { (a : Counts) → CountsOnlyRise a a × CountsNoNewFault a a }
+    ensures stays { (a : Counts) → CountsOnlyRise a a × CountsNoNewFaultOrLackOfMemory a a }
 {}
 
 /// If each call of a sequence only reads, and all but the last succeeded, the sequence only reads.

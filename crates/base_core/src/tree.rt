@@ -4,7 +4,7 @@
 ghost use Rattle.std.specs.Prelude.{◌≡◌, ℕ, List, Option, Some, length, take, drop, IfOk, OnOk, IfSome, IsErrOf, All};
 ghost use Rattle.std.specs.Option.{option_map, option_copied};
 ghost use Rattle.base_core.specs.Tree.{TreeState, files_of, after_create, after_append, after_failed_append, after_sync, after_rename, after_remove, after_sync_names, unchanged_after_failed_call, IsAlwaysAllowed, HasName, CanRead, CanCreate, CanRename, IsWellFormed};
-ghost use Rattle.base_core.specs.Faults.{Counts, CountsOnlyRise, IsFaultCountedWithCause, CountsNoNewFault};
+ghost use Rattle.base_core.specs.Faults.{Counts, CountsOnlyRise, CountsNewFaultWithCause, CountsNoNewFaultOrLackOfMemory};
 ghost use Rattle.base_core.specs.Calls.{IsCounted, ChangesHistory, IfObservable};
 ghost use Rattle.base_core.specs.Listed.{AreSortedNamesBelowFolder, IsSortedListingOfFolder};
 ghost use Rattle.base_core.specs.Read.{AppendsReadBytes, OnlyReads, bytes_in};
@@ -171,12 +171,12 @@ pub trait Tree {
         ensures goes_on { CountsOnlyRise (counts self.old) (counts self.new) }
         // An I/O error is returned only if a fault with its cause was counted.
         ensures disk { IsErrOf result DiskFault
-            → IsFaultCountedWithCause (counts self.old) (counts self.new) }
+            → CountsNewFaultWithCause (counts self.old) (counts self.new) }
         // Ok is returned only if no fault was counted.
-        ensures kept { OnOk result (CountsNoNewFault (counts self.old) (counts self.new)) }
+        ensures kept { OnOk result (CountsNoNewFaultOrLackOfMemory (counts self.old) (counts self.new)) }
         // The error "out of memory" is returned only if no fault was counted.
         ensures memory { IsErrOf result Memory
-            → CountsNoNewFault (counts self.old) (counts self.new) }
+            → CountsNoNewFaultOrLackOfMemory (counts self.old) (counts self.new) }
         // The call is no misuse: each state allows it.
         ensures proper { (counts self.new).misuses ≡ (counts self.old).misuses }
         // The result has exactly the present names below the folder, if the history is observable.

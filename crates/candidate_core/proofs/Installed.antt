@@ -7,7 +7,7 @@ use Rattle.std.specs.List.{list_any}
 use Rattle.std.specs.Str.{bytes_eq}
 use Rattle.std.proofs.lemmas.Bool.{cases_Bool}
 use Rattle.base_core.proofs.Booleans.{both_second, both_first}
-use Rattle.candidate_core.specs.Candidates.{Candidate, as_installed, marked_installed_where_same_as, is_same_package, offers_name, with_installed_marked_or_added}
+use Rattle.candidate_core.specs.Candidates.{Candidate, as_installed, marked_installed_where_same_as, is_repository_package_same_as_installed, offers_name, with_installed_marked_or_added}
 use Rattle.candidate_core.specs.CandidateList.{is_installed_package_at, marked_installed_if_same_at}
 use Rattle.candidate_core.specs.Options.{places_passing_counted_from}
 use Rattle.candidate_core.specs.Packages.{marked_installed_at}
@@ -16,14 +16,14 @@ pub length-marked_installed_where_same_as : (installed : Candidate) (cs : List C
 length-marked_installed_where_same_as installed [] = refl
 length-marked_installed_where_same_as installed (c ∷ cs) = ap suc (length-marked_installed_where_same_as installed cs)
 
-pub counted_once : (cs : List Candidate) (installed : Candidate) → list_any (is_same_package installed) cs ≡ true → length (with_installed_marked_or_added cs installed) ≡ length cs
+pub counted_once : (cs : List Candidate) (installed : Candidate) → list_any (is_repository_package_same_as_installed installed) cs ≡ true → length (with_installed_marked_or_added cs installed) ≡ length cs
 counted_once cs installed h = rw h (length-marked_installed_where_same_as installed cs)
 
-pub stands_last : (cs : List Candidate) (installed : Candidate) → list_any (is_same_package installed) cs ≡ false → with_installed_marked_or_added cs installed ≡ cs ++ installed ∷ []
+pub stands_last : (cs : List Candidate) (installed : Candidate) → list_any (is_repository_package_same_as_installed installed) cs ≡ false → with_installed_marked_or_added cs installed ≡ cs ++ installed ∷ []
 stands_last cs installed h = rw h refl
 
-offers_still : (name : List ℕ) (installed c : Candidate) → offers_name name (if is_same_package installed c then as_installed c else c) ≡ offers_name name c
-offers_still name installed c = elim (cases_Bool (is_same_package installed c)) [ inl e ↦ rw e refl | inr e ↦ rw e refl ]
+offers_still : (name : List ℕ) (installed c : Candidate) → offers_name name (if is_repository_package_same_as_installed installed c then as_installed c else c) ≡ offers_name name c
+offers_still name installed c = elim (cases_Bool (is_repository_package_same_as_installed installed c)) [ inl e ↦ rw e refl | inr e ↦ rw e refl ]
 
 -- a candidate offers what it offered
 pub places_still : (name : List ℕ) (installed : Candidate) (n : ℕ) (cs : List Candidate) → places_passing_counted_from n (offers_name name) (marked_installed_where_same_as installed cs) ≡ places_passing_counted_from n (offers_name name) cs
@@ -45,18 +45,18 @@ pub marked_more : (installed : Candidate) (ks : List ℕ) (k : ℕ) (cs : List C
 marked_more installed [] k cs = refl
 marked_more installed (j ∷ ks) k cs = marked_more installed ks k (marked_installed_if_same_at installed j cs)
 
-at_front : (installed c : Candidate) (front cs : List Candidate) → marked_installed_if_same_at installed (length front) (front ++ c ∷ cs) ≡ front ++ (if is_same_package installed c then as_installed c else c) ∷ cs
+at_front : (installed c : Candidate) (front cs : List Candidate) → marked_installed_if_same_at installed (length front) (front ++ c ∷ cs) ≡ front ++ (if is_repository_package_same_as_installed installed c then as_installed c else c) ∷ cs
 at_front installed c [] cs = refl
 at_front installed c (d ∷ front) cs = ap (λ (z : List Candidate). d ∷ z) (at_front installed c front cs)
 
 -- what is the installed package has its name
-same_is_named : (installed c : Candidate) → is_same_package installed c ≡ true → offers_name installed.name c ≡ true
+same_is_named : (installed c : Candidate) → is_repository_package_same_as_installed installed c ≡ true → offers_name installed.name c ≡ true
 same_is_named installed c h =
     let named : bytes_eq c.name installed.name ≡ true = both_first (bytes_eq c.name installed.name) _ (both_second (is_some c.repository) _ h) in
     rw ((bytes_decides installed.name c.name).1 (sym ((bytes_decides c.name installed.name).0 named))) refl
 
-not_same : (installed c : Candidate) → offers_name installed.name c ≡ false → is_same_package installed c ≡ false
-not_same installed c h = elim (cases_Bool (is_same_package installed c)) [
+not_same : (installed c : Candidate) → offers_name installed.name c ≡ false → is_repository_package_same_as_installed installed c ≡ false
+not_same installed c h = elim (cases_Bool (is_repository_package_same_as_installed installed c)) [
   | inl e ↦ let bad : true ≡ false = sym (same_is_named installed c e) ∙ h in absurd (cc)
   | inr e ↦ e
 ]
@@ -65,7 +65,7 @@ marked_after : (installed : Candidate) (front cs : List Candidate) → marked_am
 marked_after installed front [] = refl
 marked_after installed front (c ∷ cs) =
     let test = offers_name installed.name in
-    let new : Candidate = if is_same_package installed c then as_installed c else c in
+    let new : Candidate = if is_repository_package_same_as_installed installed c then as_installed c else c in
     let len : length (front ++ new ∷ []) ≡ suc (length front) = simp length-append (omega arith) in
     let rest : marked_among installed (places_passing_counted_from (suc (length front)) test cs) (front ++ new ∷ cs) ≡ front ++ new ∷ marked_installed_where_same_as installed cs =
     subst (λ (n : ℕ). marked_among installed (places_passing_counted_from n test cs) (front ++ new ∷ cs) ≡ front ++ new ∷ marked_installed_where_same_as installed cs) len
@@ -81,8 +81,8 @@ marked_after installed front (c ∷ cs) =
 pub marked_all : (installed : Candidate) (cs : List Candidate) → marked_among installed (places_passing_counted_from 0 (offers_name installed.name) cs) cs ≡ marked_installed_where_same_as installed cs
 marked_all installed cs = marked_after installed [] cs
 
-same_still : (installed c : Candidate) → is_same_package installed (if is_same_package installed c then as_installed c else c) ≡ is_same_package installed c
-same_still installed c = elim (cases_Bool (is_same_package installed c)) [ inl e ↦ rw e e | inr e ↦ rw e e ]
+same_still : (installed c : Candidate) → is_repository_package_same_as_installed installed (if is_repository_package_same_as_installed installed c then as_installed c else c) ≡ is_repository_package_same_as_installed installed c
+same_still installed c = elim (cases_Bool (is_repository_package_same_as_installed installed c)) [ inl e ↦ rw e e | inr e ↦ rw e e ]
 
 same_at_still : (installed : Candidate) (j : ℕ) (cs : List Candidate) (k : ℕ) → is_installed_package_at installed (marked_installed_if_same_at installed j cs) k ≡ is_installed_package_at installed cs k
 same_at_still installed j [] k = refl
@@ -110,24 +110,24 @@ any_places weak strong all n (c ∷ cs) to there =
       ]
     ]
 
-pub any_same : (installed : Candidate) (cs : List Candidate) → list_any (is_installed_package_at installed cs) (places_passing_counted_from 0 (offers_name installed.name) cs) ≡ list_any (is_same_package installed) cs
+pub any_same : (installed : Candidate) (cs : List Candidate) → list_any (is_installed_package_at installed cs) (places_passing_counted_from 0 (offers_name installed.name) cs) ≡ list_any (is_repository_package_same_as_installed installed) cs
 any_same installed cs =
-    any_places (offers_name installed.name) (is_same_package installed) (λ k. slice_get cs k) 0 cs (same_is_named installed) (λ k. ap (slice_get cs) (omega arith))
+    any_places (offers_name installed.name) (is_repository_package_same_as_installed installed) (λ k. slice_get cs k) 0 cs (same_is_named installed) (λ k. ap (slice_get cs) (omega arith))
 
-pub marked_installed_if_same_at-other : (installed c : Candidate) (k : ℕ) (cs : List Candidate) → slice_get cs k ≡ Some c → is_same_package installed c ≡ false → marked_installed_if_same_at installed k cs ≡ cs
+pub marked_installed_if_same_at-other : (installed c : Candidate) (k : ℕ) (cs : List Candidate) → slice_get cs k ≡ Some c → is_repository_package_same_as_installed installed c ≡ false → marked_installed_if_same_at installed k cs ≡ cs
 marked_installed_if_same_at-other installed c zero [] h e = refl
 marked_installed_if_same_at-other installed c (suc k) [] h e = refl
 marked_installed_if_same_at-other installed c zero (d ∷ cs) h e =
     let s : c ≡ d = cc in
-    rw (subst (λ (z : Candidate). is_same_package installed z ≡ false) s e) refl
+    rw (subst (λ (z : Candidate). is_repository_package_same_as_installed installed z ≡ false) s e) refl
 marked_installed_if_same_at-other installed c (suc k) (d ∷ cs) h e = ap (λ (z : List Candidate). d ∷ z) (marked_installed_if_same_at-other installed c k cs h e)
 
-pub marked_installed_if_same_at-installed : (installed c : Candidate) (k : ℕ) (cs : List Candidate) → slice_get cs k ≡ Some c → is_same_package installed c ≡ true → marked_installed_if_same_at installed k cs ≡ marked_installed_at k cs
+pub marked_installed_if_same_at-installed : (installed c : Candidate) (k : ℕ) (cs : List Candidate) → slice_get cs k ≡ Some c → is_repository_package_same_as_installed installed c ≡ true → marked_installed_if_same_at installed k cs ≡ marked_installed_at k cs
 marked_installed_if_same_at-installed installed c zero [] h e = refl
 marked_installed_if_same_at-installed installed c (suc k) [] h e = refl
 marked_installed_if_same_at-installed installed c zero (d ∷ cs) h e =
     let s : c ≡ d = cc in
-    rw (subst (λ (z : Candidate). is_same_package installed z ≡ true) s e) refl
+    rw (subst (λ (z : Candidate). is_repository_package_same_as_installed installed z ≡ true) s e) refl
 marked_installed_if_same_at-installed installed c (suc k) (d ∷ cs) h e = ap (λ (z : List Candidate). d ∷ z) (marked_installed_if_same_at-installed installed c k cs h e)
 
 length-marked_installed_if_same_at : (installed : Candidate) (k : ℕ) (cs : List Candidate) → length (marked_installed_if_same_at installed k cs) ≡ length cs
@@ -139,9 +139,9 @@ pub length-marked_among : (installed : Candidate) (ks : List ℕ) (cs : List Can
 length-marked_among installed [] cs = refl
 length-marked_among installed (k ∷ ks) cs = length-marked_among installed ks (marked_installed_if_same_at installed k cs) ∙ length-marked_installed_if_same_at installed k cs
 
-pub none_same : (installed : Candidate) (cs : List Candidate) → list_any (is_same_package installed) cs ≡ false → marked_installed_where_same_as installed cs ≡ cs
+pub none_same : (installed : Candidate) (cs : List Candidate) → list_any (is_repository_package_same_as_installed installed) cs ≡ false → marked_installed_where_same_as installed cs ≡ cs
 none_same installed [] h = refl
-none_same installed (c ∷ cs) h = elim (cases_Bool (is_same_package installed c)) [
+none_same installed (c ∷ cs) h = elim (cases_Bool (is_repository_package_same_as_installed installed c)) [
   | inl e ↦ let bad : true ≡ false = rw e at h in absurd (cc)
   | inr e ↦ rw e (ap (λ (z : List Candidate). c ∷ z) (none_same installed cs (rw e at h)))
 ]

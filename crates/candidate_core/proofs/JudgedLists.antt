@@ -7,9 +7,9 @@ use Rattle.std.specs.Option.{option_map}
 use Rattle.std.specs.Prelude.{is_some, option_to_list, slice_get, ◌&&◌, if◌then◌else◌}
 use Rattle.base_core.proofs.Booleans.{both_second, both_first}
 use Rattle.adb_view.specs.Plain.{Plain, Plains, none, more}
-use Rattle.adb_schema.specs.SoundValues.{IsSoundDependency}
-use Rattle.adb_view.specs.Values.{count_of, entry_in, int_in, nth, text_in}
-use Rattle.dep_core.specs.Dependency.{Dependency, is_dep_name}
+use Rattle.adb_schema.specs.SoundValues.{ObeysTextAndNumberRulesOfDependency}
+use Rattle.adb_view.specs.Values.{count_of, entry_at_index, int_in, nth, text_in}
+use Rattle.dep_core.specs.Dependency.{Dependency, is_dependency_name_by_bytes_and_length}
 use Rattle.dep_core.specs.Value.{is_match_number, is_version_or_empty}
 use Rattle.dep_core.specs.ValueReading.{dependency_of_value}
 use Rattle.candidate_core.specs.Candidates.{dependency_in, dependencies_among_values}
@@ -66,18 +66,18 @@ chosen true d h = refl
 chosen false d h = absurd (cc)
 
 -- what is read as a dependency keeps the rules
-pub sound_if_some : (v : Plain) → is_some (dependency_in v) ≡ true → IsSoundDependency v
+pub sound_if_some : (v : Plain) → is_some (dependency_in v) ≡ true → ObeysTextAndNumberRulesOfDependency v
 unfolding dependency_of_value
 sound_if_some v h =
-    let all = chosen (is_dep_name (text_in (entry_in v 0)) && (is_version_or_empty (text_in (entry_in v 1)) && is_match_number (int_in (entry_in v 2)))) _ h in
-    let rest = both_second (is_dep_name (text_in (entry_in v 0))) _ all in
+    let all = chosen (is_dependency_name_by_bytes_and_length (text_in (entry_at_index v 0)) && (is_version_or_empty (text_in (entry_at_index v 1)) && is_match_number (int_in (entry_at_index v 2)))) _ h in
+    let rest = both_second (is_dependency_name_by_bytes_and_length (text_in (entry_at_index v 0))) _ all in
     record {
-      name = both_first (is_dep_name (text_in (entry_in v 0))) _ all;
-      version = both_first (is_version_or_empty (text_in (entry_in v 1))) _ rest;
-      matching = both_second (is_version_or_empty (text_in (entry_in v 1))) _ rest;
+      name = both_first (is_dependency_name_by_bytes_and_length (text_in (entry_at_index v 0))) _ all;
+      version = both_first (is_version_or_empty (text_in (entry_at_index v 1))) _ rest;
+      matching = both_second (is_version_or_empty (text_in (entry_at_index v 1))) _ rest;
     }
 
-some_of : (v : Plain) → IsSoundDependency v → is_some (dependency_in v) ≡ true
+some_of : (v : Plain) → ObeysTextAndNumberRulesOfDependency v → is_some (dependency_in v) ≡ true
 unfolding dependency_of_value
 some_of v s = rw (s.name, s.version, s.matching) refl
 
@@ -94,7 +94,7 @@ past_front None xs i h = absurd (cc)
 past_front (Some d) xs i h = refl
 
 abbrev pub AreSound : Plains → Type 0
-AreSound values = (i : ℕ) → i < count_of values → IsSoundDependency (nth values i)
+AreSound values = (i : ℕ) → i < count_of values → ObeysTextAndNumberRulesOfDependency (nth values i)
 
 pub sound_count : (values : Plains) → AreSound values → length (dependencies_among_values values) ≡ count_of values
 sound_count none s = refl
@@ -114,11 +114,11 @@ some_mapped f None h = absurd (cc)
 some_mapped f (Some x) h = refl
 
 -- one more entry that was read as a dependency
-pub one_more_sound : (list : Plain) (n : ℕ) (value : Plain) → value ≡ entry_in list ((n + 1) - 1) → is_some (dependency_in value) ≡ true → ((k : ℕ) → k < n → IsSoundDependency (entry_in list k)) → (k : ℕ) → k < n + 1 → IsSoundDependency (entry_in list k)
+pub one_more_sound : (list : Plain) (n : ℕ) (value : Plain) → value ≡ entry_at_index list ((n + 1) - 1) → is_some (dependency_in value) ≡ true → ((k : ℕ) → k < n → ObeysTextAndNumberRulesOfDependency (entry_at_index list k)) → (k : ℕ) → k < n + 1 → ObeysTextAndNumberRulesOfDependency (entry_at_index list k)
 one_more_sound list n value at is before k h =
     let e : (n + 1) - 1 ≡ n = omega arith in
-    let here : IsSoundDependency (entry_in list n) = subst IsSoundDependency (at ∙ ap (entry_in list) e) (sound_if_some value is) in
+    let here : ObeysTextAndNumberRulesOfDependency (entry_at_index list n) = subst ObeysTextAndNumberRulesOfDependency (at ∙ ap (entry_at_index list) e) (sound_if_some value is) in
     elim (eqb_tells k n) [
-      | inl s ↦ subst (λ (j : ℕ). IsSoundDependency (entry_in list j)) (sym s.1) here
+      | inl s ↦ subst (λ (j : ℕ). ObeysTextAndNumberRulesOfDependency (entry_at_index list j)) (sym s.1) here
       | inr s ↦ before k (omega (arith, h, s.1))
     ]

@@ -4,7 +4,7 @@ use Rattle.std.specs.Prelude.{slice_get, if◌then◌else◌}
 use Rattle.std.specs.Option.{option_map_or}
 use Rattle.std.proofs.lemmas.Bool.{cases_Bool}
 use Rattle.candidate_core.specs.Candidates.{Candidate, offers_name}
-use Rattle.candidate_core.specs.Rank.{SealedPool, candidate_at_passes}
+use Rattle.candidate_core.specs.Rank.{SelectionProblem, candidate_at_passes}
 use Rattle.candidate_core.specs.Options.{IsIn, AreStrictlyIncreasing, places_passing_counted_from, places_offering}
 use Rattle.candidate_core.proofs.OptionLists.{in_places, places_above, places_in}
 
@@ -14,14 +14,14 @@ below_length test [] (suc k) h = absurd (cc)
 below_length test (c ∷ cs) zero h = omega arith
 below_length test (c ∷ cs) (suc k) h = let r = below_length test cs k h in omega arith
 
-pub offers_those : (pool : SealedPool) (name : List ℕ) (c : ℕ) → IsIn c (places_offering name pool.candidates) → (candidate_at_passes pool (offers_name name) c ≡ true) × (c < length pool.candidates)
+pub offers_those : (pool : SelectionProblem) (name : List ℕ) (c : ℕ) → IsIn c (places_offering name pool.candidates) → (candidate_at_passes pool (offers_name name) c ≡ true) × (c < length pool.candidates)
 offers_those pool name c h =
     let r = places_in 0 (offers_name name) pool.candidates c h in
     let z : r.0 ≡ c = omega (arith, r.1) in
     let is : candidate_at_passes pool (offers_name name) c ≡ true = subst (λ (k : ℕ). candidate_at_passes pool (offers_name name) k ≡ true) z r.2 in
     (is, below_length (offers_name name) pool.candidates c is)
 
-pub offers_each : (pool : SealedPool) (name : List ℕ) (c : ℕ) → candidate_at_passes pool (offers_name name) c ≡ true → IsIn c (places_offering name pool.candidates)
+pub offers_each : (pool : SelectionProblem) (name : List ℕ) (c : ℕ) → candidate_at_passes pool (offers_name name) c ≡ true → IsIn c (places_offering name pool.candidates)
 offers_each pool name c h =
     let z : 0 + c ≡ c = omega arith in
     subst (λ (k : ℕ). IsIn k (places_offering name pool.candidates)) z (in_places 0 (offers_name name) pool.candidates c h)

@@ -8,9 +8,9 @@ use Rattle.std.specs.declared.cmp.Ordering.{Ordering}
 use Rattle.std.specs.declared.cmp.Ordering.TheVariants.{Less, Equal, Greater}
 use Rattle.std.proofs.lemmas.Bool.{cases_Bool}
 use Rattle.base_core.proofs.Orderings.{is_less}
-use Rattle.candidate_core.specs.Candidates.{Candidate, Need, is_eligible, meets_need}
-use Rattle.candidate_core.specs.Rank.{SealedPool, candidate_at, candidate_cmp, is_better, is_eligible_at, meets_at, rank_cmp}
-use Rattle.candidate_core.specs.Options.{AreDistinct, IsIn, IsSortedBestFirst, is_eligible_for_need, options_for, places_passing_counted_from, insert_by_rank, rank_order_of}
+use Rattle.candidate_core.specs.Candidates.{Candidate, Need, is_eligible, meets_dependency_or_has_package_name}
+use Rattle.candidate_core.specs.Rank.{SelectionProblem, candidate_at, candidate_cmp, is_better, is_eligible_at, meets_at, rank_cmp}
+use Rattle.candidate_core.specs.Options.{AreDistinct, IsIn, IsStrictlySortedBestFirst, is_eligible_for_need, options_for, places_passing_counted_from, insert_by_rank, rank_order_of}
 
 -- ---- what is put among ranked ones
 
@@ -43,7 +43,7 @@ in_ranked better o [] h = h
 in_ranked better o (c ∷ cs) h = in_put better c o (rank_order_of better cs) (elim h [ inl q ↦ inl q | inr r ↦ inr (in_ranked better o cs r) ])
 
 module _ (better : ℕ → ℕ → Bool) (chain : (a b c : ℕ) → better a b ≡ true → better b c ≡ true → better a c ≡ true) (one_of : (a b : ℕ) → (a ≡ b → ⊥) → (better a b ≡ true) ⊎ (better b a ≡ true)) where
-  put_keeps : (c : ℕ) (ds : List ℕ) → (IsIn c ds → ⊥) → IsSortedBestFirst better ds → IsSortedBestFirst better (insert_by_rank better c ds)
+  put_keeps : (c : ℕ) (ds : List ℕ) → (IsIn c ds → ⊥) → IsStrictlySortedBestFirst better ds → IsStrictlySortedBestFirst better (insert_by_rank better c ds)
   put_keeps c [] out r = ((λ d h. absurd h), tt)
   put_keeps c (d ∷ ds) out r = elim (cases_Bool (better c d)) [
     | inl e ↦ rw e ((λ o h. elim h [ inl q ↦ subst (λ (z : ℕ). better c z ≡ true) (sym q) e | inr k ↦ chain c d o e (r.0 o k) ]), r)
@@ -52,7 +52,7 @@ module _ (better : ℕ → ℕ → Bool) (chain : (a b c : ℕ) → better a b �
         rw e ((λ o h. elim (put_in better c o ds h) [ inl q ↦ subst (λ (z : ℕ). better d z ≡ true) (sym q) back | inr k ↦ r.0 o k ]), put_keeps c ds (λ h. out (inr h)) r.1)
   ]
 
-  pub ranked_keeps : (cs : List ℕ) → AreDistinct cs → IsSortedBestFirst better (rank_order_of better cs)
+  pub ranked_keeps : (cs : List ℕ) → AreDistinct cs → IsStrictlySortedBestFirst better (rank_order_of better cs)
   ranked_keeps [] rising = tt
   ranked_keeps (c ∷ cs) rising = put_keeps c (rank_order_of better cs) (λ h. rising.0 (ranked_in better c cs h)) (ranked_keeps cs rising.1)
 
@@ -113,14 +113,14 @@ last_decides a b Less h = absurd (cc)
 last_decides a b Equal h = h
 last_decides a b Greater h = absurd (cc)
 
-pub same_place : (pool : SealedPool) (need : Need) (a b : ℕ) → rank_cmp pool need a b ≡ Equal → a ≡ b
+pub same_place : (pool : SelectionProblem) (need : Need) (a b : ℕ) → rank_cmp pool need a b ≡ Equal → a ≡ b
 unfolding rank_cmp
 same_place pool need a b h = equal_is a b (nat_cmp a b) refl (last_decides a b (option_cmp (candidate_cmp pool need) (candidate_at pool a) (candidate_at pool b)) h)
   where
     equal_is : (a b : ℕ) (o : Ordering) → o ≡ nat_cmp a b → nat_cmp a b ≡ Equal → a ≡ b
     equal_is a b o e h = let r : MatchOrdering Equal (a < b) (a ≡ b) (b < a) = subst (λ (z : Ordering). MatchOrdering z (a < b) (a ≡ b) (b < a)) h (ranks a b) in r
 
-module _ (pool : SealedPool) (need : Need) (total : IsTotalOrder (rank_cmp pool need)) where
+module _ (pool : SelectionProblem) (need : Need) (total : IsTotalOrder (rank_cmp pool need)) where
   pub chain : (a b c : ℕ) → is_better pool need a b ≡ true → is_better pool need b c ≡ true → is_better pool need a c ≡ true
   chain a b c h g = ap is_lt (total.trans a b c (is_less (rank_cmp pool need a b) h) (is_less (rank_cmp pool need b c) g))
 
@@ -132,23 +132,23 @@ module _ (pool : SealedPool) (need : Need) (total : IsTotalOrder (rank_cmp pool 
       by Equal e = absurd (out (same_place pool need a b (sym e)))
       by Greater e = inr (ap is_lt (total.antisymm b a ∙ ap ordering_reverse (sym e)))
 
-  pub options_ranked : IsSortedBestFirst (is_better pool need) (options_for pool need)
+  pub options_ranked : IsStrictlySortedBestFirst (is_better pool need) (options_for pool need)
   unfolding options_for
   options_ranked =
       let places = places_passing_counted_from 0 (is_eligible_for_need pool need) pool.candidates in
       ranked_keeps (is_better pool need) chain one_of places (places_apart 0 (is_eligible_for_need pool need) pool.candidates)
 
-pub options_those : (pool : SealedPool) (need : Need) (c : ℕ) → IsIn c (options_for pool need) → (is_eligible_at pool c ≡ true) × (meets_at pool c need ≡ true)
+pub options_those : (pool : SelectionProblem) (need : Need) (c : ℕ) → IsIn c (options_for pool need) → (is_eligible_at pool c ≡ true) × (meets_at pool c need ≡ true)
 unfolding options_for
 options_those pool need c h =
     let places = places_passing_counted_from 0 (is_eligible_for_need pool need) pool.candidates in
     let r = places_in 0 (is_eligible_for_need pool need) pool.candidates c (ranked_in (is_better pool need) c places h) in
     let z : r.0 ≡ c = omega (arith, r.1) in
-    both_at (is_eligible pool.world) (meets_need need) (slice_get pool.candidates c) (subst (λ (k : ℕ). option_map_or (is_eligible_for_need pool need) (slice_get pool.candidates k) false ≡ true) z r.2)
+    both_at (is_eligible pool.world) (meets_dependency_or_has_package_name need) (slice_get pool.candidates c) (subst (λ (k : ℕ). option_map_or (is_eligible_for_need pool need) (slice_get pool.candidates k) false ≡ true) z r.2)
 
-pub options_each : (pool : SealedPool) (need : Need) (c : ℕ) → is_eligible_at pool c ≡ true → meets_at pool c need ≡ true → IsIn c (options_for pool need)
+pub options_each : (pool : SelectionProblem) (need : Need) (c : ℕ) → is_eligible_at pool c ≡ true → meets_at pool c need ≡ true → IsIn c (options_for pool need)
 unfolding options_for
 options_each pool need c eligible meets =
     let places = places_passing_counted_from 0 (is_eligible_for_need pool need) pool.candidates in
     let z : 0 + c ≡ c = omega arith in
-    in_ranked (is_better pool need) c places (subst (λ (k : ℕ). IsIn k places) z (in_places 0 (is_eligible_for_need pool need) pool.candidates c (at_both (is_eligible pool.world) (meets_need need) (slice_get pool.candidates c) eligible meets)))
+    in_ranked (is_better pool need) c places (subst (λ (k : ℕ). IsIn k places) z (in_places 0 (is_eligible_for_need pool need) pool.candidates c (at_both (is_eligible pool.world) (meets_dependency_or_has_package_name need) (slice_get pool.candidates c) eligible meets)))

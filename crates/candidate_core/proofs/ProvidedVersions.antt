@@ -5,18 +5,18 @@ use Rattle.std.specs.Prelude.{IfSome, Option, Some, None, is_some, option_to_lis
 use Rattle.std.specs.List.{cons_option, find}
 use Rattle.std.proofs.lemmas.Bool.{cases_Bool}
 use Rattle.adb_view.specs.Plain.{Plain, Plains, none, more}
-use Rattle.adb_view.specs.Values.{count_of, entry_in, int_in, nth, text_in}
-use Rattle.dep_core.specs.Dependency.{Dependency, is_dep_name}
+use Rattle.adb_view.specs.Values.{count_of, entry_at_index, int_in, nth, text_in}
+use Rattle.dep_core.specs.Dependency.{Dependency, is_dependency_name_by_bytes_and_length}
 use Rattle.dep_core.specs.Reading.{dependency_on_any_version}
 use Rattle.dep_core.specs.Value.{is_match_number, is_version_or_empty}
-use Rattle.dep_core.specs.ValueReading.{dependency_of_value, with_wanted_version_if_any}
+use Rattle.dep_core.specs.ValueReading.{dependency_of_value, with_constraint_if_version_and_match_bits}
 use Rattle.candidate_core.specs.Candidates.{dependencies_among_values, dependency_in}
 use Rattle.candidate_core.proofs.DependencyLists.{dependencies_step, dependencies_to}
 use Rattle.candidate_core.proofs.LoopTests.{found_snoc}
 
 -- ---- texts
 
-constraint_text : (conflict : Bool) (name text : List ℕ) (bits : Option ℕ) → IfSome (with_wanted_version_if_any (dependency_on_any_version conflict name) text bits).version (λ v. v ≡ text)
+constraint_text : (conflict : Bool) (name text : List ℕ) (bits : Option ℕ) → IfSome (with_constraint_if_version_and_match_bits (dependency_on_any_version conflict name) text bits).version (λ v. v ≡ text)
 constraint_text conflict name [] bits = tt
 constraint_text conflict name (b ∷ rest) None = tt
 constraint_text conflict name (b ∷ rest) (Some bits) = refl
@@ -25,13 +25,13 @@ chosen_version : (b : Bool) (d e : Dependency) (text : List ℕ) → Some d ≡ 
 chosen_version true d e text h known = let s : e ≡ d = cc in subst (λ (z : Dependency). IfSome z.version (λ v. v ≡ text)) s known
 chosen_version false d e text h known = absurd (cc)
 
-entry_text : (value : Plain) (d : Dependency) → Some d ≡ dependency_in value → IfSome d.version (λ v. v ≡ text_in (entry_in value 1))
+entry_text : (value : Plain) (d : Dependency) → Some d ≡ dependency_in value → IfSome d.version (λ v. v ≡ text_in (entry_at_index value 1))
 unfolding dependency_of_value
 entry_text value d h =
-    chosen_version (is_dep_name (text_in (entry_in value 0)) && (is_version_or_empty (text_in (entry_in value 1)) && is_match_number (int_in (entry_in value 2)))) d _ (text_in (entry_in value 1)) h
-    (constraint_text _ (text_in (entry_in value 0)) (text_in (entry_in value 1)) _)
+    chosen_version (is_dependency_name_by_bytes_and_length (text_in (entry_at_index value 0)) && (is_version_or_empty (text_in (entry_at_index value 1)) && is_match_number (int_in (entry_at_index value 2)))) d _ (text_in (entry_at_index value 1)) h
+    (constraint_text _ (text_in (entry_at_index value 0)) (text_in (entry_at_index value 1)) _)
 
-pub provided_text : (value : Plain) (d : Dependency) (text : List ℕ) → Some d ≡ dependency_in value → text ≡ text_in (entry_in value 1) → IfSome d.version (λ v. v ≡ text)
+pub provided_text : (value : Plain) (d : Dependency) (text : List ℕ) → Some d ≡ dependency_in value → text ≡ text_in (entry_at_index value 1) → IfSome d.version (λ v. v ≡ text)
 provided_text value d text h e = subst (λ (z : List ℕ). IfSome d.version (λ v. v ≡ z)) (sym e) (entry_text value d h)
 
 pub none_read : (o : Option (List ℕ)) (text : List ℕ) → is_some o ≡ false → IfSome o (λ v. v ≡ text)

@@ -6,7 +6,7 @@ use Rattle.std.specs.Prelude.{◌≤◌, ℕ, zero, suc, Bool, false, if◌then�
 use Rattle.std.specs.Option.{option_map_or}
 use Rattle.candidate_core.specs.declared.candidate_list.CandidateList.{CandidateList}
 use Rattle.candidate_core.specs.declared.candidate_list.TheConstants.{MOST_CANDIDATES}
-use Rattle.candidate_core.specs.Candidates.{Candidate, as_installed, is_same_package}
+use Rattle.candidate_core.specs.Candidates.{Candidate, as_installed, is_repository_package_same_as_installed}
 use Rattle.candidate_core.specs.Packages.{candidates_of_packages}
 use Rattle.candidate_core.specs.Table.{HasPlacesOfEachName}
 
@@ -26,12 +26,12 @@ candidates_in (Some list) = candidates_of_packages list.packages
 -- whether the candidate at a place is the same package as the installed one; false if no candidate is there
 abbrev pub is_installed_package_at : Candidate → List Candidate → ℕ → Bool
 is_installed_package_at installed cs place =
-    option_map_or (is_same_package installed) (slice_get cs place) false
+    option_map_or (is_repository_package_same_as_installed installed) (slice_get cs place) false
 
 -- the list, in which the candidate at a place is marked as installed if it is the same package as the installed one
 abbrev pub marked_installed_if_same_at : Candidate → ℕ → List Candidate → List Candidate
 marked_installed_if_same_at installed place [] = []
 marked_installed_if_same_at installed zero (c ∷ cs) =
-    (if is_same_package installed c then as_installed c else c) ∷ cs
+    (if is_repository_package_same_as_installed installed c then as_installed c else c) ∷ cs
 marked_installed_if_same_at installed (suc place) (c ∷ cs) =
     c ∷ marked_installed_if_same_at installed place cs

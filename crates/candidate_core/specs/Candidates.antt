@@ -7,8 +7,8 @@ use Rattle.std.specs.Option.{option_and_then, option_map_or}
 use Rattle.std.specs.List.{cons_option, filter, find, list_all, list_any, starts_with}
 use Rattle.std.specs.Str.{bytes_eq}
 use Rattle.adb_view.specs.Plain.{Plain, Plains, none, more}
-use Rattle.adb_view.specs.FieldIndexes.{INFO_DEPENDS, INFO_HASHES, INFO_INSTALL_IF, INFO_NAME, INFO_PROVIDER_PRIORITY, INFO_PROVIDES, INFO_VERSION}
-use Rattle.adb_view.specs.Values.{entries_in, entry_in, int_in, text_in}
+use Rattle.adb_view.specs.FieldIndexes.{INFO_DEPENDS_INDEX, INFO_HASHES_INDEX, INFO_INSTALL_IF_INDEX, INFO_NAME_INDEX, INFO_PROVIDER_PRIORITY_INDEX, INFO_PROVIDES_INDEX, INFO_VERSION_INDEX}
+use Rattle.adb_view.specs.Values.{entries_in, entry_at_index, int_in, text_in}
 use Rattle.version_core.specs.Order.{is_version}
 use Rattle.dep_core.specs.Dependency.{Dependency}
 use Rattle.dep_core.specs.Meets.{meets}
@@ -81,12 +81,12 @@ candidate_from_parts info name version id depends provides install_if priority r
 -- the candidate with this information, of a repository, with the repository's tag, and installed or not
 abbrev pub candidate_of : Plain → Option ℕ → Option (List ℕ) → Bool → Candidate
 candidate_of info repository tag installed =
-    candidate_from_parts info (text_in (entry_in info INFO_NAME))
-    (version_of_text (text_in (entry_in info INFO_VERSION)))
-    (text_in (entry_in info INFO_HASHES)) (dependencies_in_list_value (entry_in info INFO_DEPENDS))
-    (dependencies_in_list_value (entry_in info INFO_PROVIDES))
-    (dependencies_in_list_value (entry_in info INFO_INSTALL_IF))
-    (int_in (entry_in info INFO_PROVIDER_PRIORITY)) repository tag installed
+    candidate_from_parts info (text_in (entry_at_index info INFO_NAME_INDEX))
+    (version_of_text (text_in (entry_at_index info INFO_VERSION_INDEX)))
+    (text_in (entry_at_index info INFO_HASHES_INDEX)) (dependencies_in_list_value (entry_at_index info INFO_DEPENDS_INDEX))
+    (dependencies_in_list_value (entry_at_index info INFO_PROVIDES_INDEX))
+    (dependencies_in_list_value (entry_at_index info INFO_INSTALL_IF_INDEX))
+    (int_in (entry_at_index info INFO_PROVIDER_PRIORITY_INDEX)) repository tag installed
 
 -- ---- the list: the packages of each index, then the installed ones that no index has
 
@@ -99,8 +99,8 @@ candidates_of_index repository tag (more info infos) =
 
 -- whether two ids are the same: both are nonempty, and the shorter is a prefix of the longer, since an index may
 -- store a prefix only
-abbrev pub is_same_id : List ℕ → List ℕ → Bool
-is_same_id a b =
+abbrev pub is_same_id_by_nonempty_prefix : List ℕ → List ℕ → Bool
+is_same_id_by_nonempty_prefix a b =
     nat_lt 0 (length a)
     && (nat_lt 0 (length b) && (starts_with nat_eq a b || starts_with nat_eq b a))
 
@@ -113,11 +113,11 @@ is_same_version (Some a) (Some b) = bytes_eq a b
 
 -- whether the candidate `c` is from a repository and is the same package as `installed`: name, text of the version
 -- and id are the same
-abbrev pub is_same_package : Candidate → Candidate → Bool
-is_same_package installed c =
+abbrev pub is_repository_package_same_as_installed : Candidate → Candidate → Bool
+is_repository_package_same_as_installed installed c =
     is_some c.repository
     && (bytes_eq c.name installed.name
-    && (is_same_version c.version installed.version && is_same_id c.id installed.id))
+    && (is_same_version c.version installed.version && is_same_id_by_nonempty_prefix c.id installed.id))
 
 -- the same candidate, marked as installed
 abbrev pub as_installed : Candidate → Candidate
@@ -127,14 +127,14 @@ as_installed c = record c { installed = true }
 abbrev pub marked_installed_where_same_as : Candidate → List Candidate → List Candidate
 marked_installed_where_same_as installed [] = []
 marked_installed_where_same_as installed (c ∷ cs) =
-    (if is_same_package installed c then as_installed c else c)
+    (if is_repository_package_same_as_installed installed c then as_installed c else c)
     ∷ marked_installed_where_same_as installed cs
 
 -- the list after an installed package was added: the candidates that are the same package are marked as installed; if
 -- there are none, the installed package is appended as a candidate of its own
 abbrev pub with_installed_marked_or_added : List Candidate → Candidate → List Candidate
 with_installed_marked_or_added cs installed =
-    if list_any (is_same_package installed) cs then marked_installed_where_same_as installed cs
+    if list_any (is_repository_package_same_as_installed installed) cs then marked_installed_where_same_as installed cs
     else cs ++ installed ∷ []
 
 -- ---- what a candidate meets
@@ -167,9 +167,9 @@ meets_dependency d c = meets_by_own_name d c || list_any (is_met_by_provides_ent
 
 -- whether a candidate meets a need. The name of a package whose install-if applies is met only by a candidate of that
 -- name
-abbrev pub meets_need : Need → Candidate → Bool
-meets_need (entry d) c = meets_dependency d c
-meets_need (named name) c = bytes_eq name c.name
+abbrev pub meets_dependency_or_has_package_name : Need → Candidate → Bool
+meets_dependency_or_has_package_name (entry d) c = meets_dependency d c
+meets_dependency_or_has_package_name (named name) c = bytes_eq name c.name
 
 -- the version under which a candidate meets a need: its own, else that of the first entry of its
 -- provides that meets the need

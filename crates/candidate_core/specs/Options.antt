@@ -3,8 +3,8 @@
 -- selected and what meets a need), and "Which selection is taken" (the options of a need in rank
 -- order).
 use Rattle.std.specs.Prelude.{◌≡◌, ◌<◌, ℕ, suc, Bool, true, ◌&&◌, if◌then◌else◌, List, [], ◌∷◌}
-use Rattle.candidate_core.specs.Candidates.{Candidate, Need, is_eligible, meets_need, offers_name}
-use Rattle.candidate_core.specs.Rank.{SealedPool, is_better}
+use Rattle.candidate_core.specs.Candidates.{Candidate, Need, is_eligible, meets_dependency_or_has_package_name, offers_name}
+use Rattle.candidate_core.specs.Rank.{SelectionProblem, is_better}
 pub use Rattle.adb_schema.specs.adb_fields.FirstPair.{IsIn}
 
 -- each member of the first list is one of the second
@@ -30,8 +30,8 @@ abbrev pub places_offering : List ℕ → List Candidate → List ℕ
 places_offering name candidates = places_passing_counted_from 0 (offers_name name) candidates
 
 -- whether the candidate may be selected and meets the need
-abbrev pub is_eligible_for_need : SealedPool → Need → Candidate → Bool
-is_eligible_for_need pool need c = is_eligible pool.world c && meets_need need c
+abbrev pub is_eligible_for_need : SelectionProblem → Need → Candidate → Bool
+is_eligible_for_need pool need c = is_eligible pool.world c && meets_dependency_or_has_package_name need c
 
 -- places in rank order, with the place `c` added before the first place that `c` is better than
 abbrev pub insert_by_rank : (ℕ → ℕ → Bool) → ℕ → List ℕ → List ℕ
@@ -45,16 +45,16 @@ rank_order_of better [] = []
 rank_order_of better (c ∷ cs) = insert_by_rank better c (rank_order_of better cs)
 
 -- the options of a need: the places of the candidates that may be selected and meet the need, best first
-unfoldable pub options_for : SealedPool → Need → List ℕ
+unfoldable pub options_for : SelectionProblem → Need → List ℕ
 options_for pool need =
     rank_order_of (is_better pool need)
     (places_passing_counted_from 0 (is_eligible_for_need pool need) pool.candidates)
 
 -- each place of the list is better than all places after it, where `better` says which of two places is better
-abbrev pub IsSortedBestFirst : (ℕ → ℕ → Bool) → List ℕ → Type 0
-IsSortedBestFirst better [] = Unit {0}
-IsSortedBestFirst better (c ∷ cs) =
-    ((d : ℕ) → IsIn d cs → better c d ≡ true) × IsSortedBestFirst better cs
+abbrev pub IsStrictlySortedBestFirst : (ℕ → ℕ → Bool) → List ℕ → Type 0
+IsStrictlySortedBestFirst better [] = Unit {0}
+IsStrictlySortedBestFirst better (c ∷ cs) =
+    ((d : ℕ) → IsIn d cs → better c d ≡ true) × IsStrictlySortedBestFirst better cs
 
 -- each number of the list is less than all numbers after it
 abbrev pub AreStrictlyIncreasing : List ℕ → Type 0

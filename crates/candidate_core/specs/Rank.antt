@@ -8,7 +8,7 @@ use Rattle.std.specs.Ordering.{nat_cmp, bool_cmp, on, flip_args, then_cmp, is_lt
 use Rattle.std.specs.declared.cmp.Ordering.{Ordering}
 use Rattle.version_core.specs.Order.{version_cmp}
 use Rattle.dep_core.specs.Dependency.{Dependency}
-use Rattle.candidate_core.specs.Candidates.{Candidate, Need, need_name, version_meeting_need, is_eligible, meets_need}
+use Rattle.candidate_core.specs.Candidates.{Candidate, Need, need_name, version_meeting_need, is_eligible, meets_dependency_or_has_package_name}
 pub use Rattle.base_core.specs.ByteOrder.{bytes_cmp}
 
 -- the names that a command upgrades: none (`add`, `del`, `fix`), all (`upgrade` without names), or
@@ -23,7 +23,7 @@ pub data UpgradedNames : Type 0 where
 
 -- what a selection is made from: the candidates, the world that a selection has to satisfy, and the names that the
 -- command upgrades
-pub record SealedPool : Type 0 where
+pub record SelectionProblem : Type 0 where
   -- the packages to choose from, in the order of the list of candidates
   pub candidates : List Candidate
   -- the entries of world, which a selection has to satisfy
@@ -32,8 +32,8 @@ pub record SealedPool : Type 0 where
   pub upgraded : UpgradedNames
 
 -- a sealed pool from its parts
-abbrev pub sealed_pool_from_parts : List Candidate → List Dependency → UpgradedNames → SealedPool
-sealed_pool_from_parts candidates world upgraded =
+abbrev pub selection_problem_from_parts : List Candidate → List Dependency → UpgradedNames → SelectionProblem
+selection_problem_from_parts candidates world upgraded =
     record { candidates = candidates; world = world; upgraded = upgraded }
 
 -- whether the command upgrades this name
@@ -112,37 +112,37 @@ candidate_cmp_after_pinning upgraded need =
     (then_cmp (met_version_priority_name_own_version_cmp need) version_text_and_repository_cmp)
 
 -- the order of two candidates by keys 1 to 10, all but the place: candidates that world pins are first
-abbrev pub candidate_cmp : SealedPool → Need → Candidate → Candidate → Ordering
+abbrev pub candidate_cmp : SelectionProblem → Need → Candidate → Candidate → Ordering
 candidate_cmp pool need =
     then_cmp (quality_first (is_pinned pool.world)) (candidate_cmp_after_pinning pool.upgraded need)
 
 -- ---- places in the list
 
 -- the candidate at a place, counted from 0
-abbrev pub candidate_at : SealedPool → ℕ → Option Candidate
+abbrev pub candidate_at : SelectionProblem → ℕ → Option Candidate
 candidate_at pool place = slice_get pool.candidates place
 
 -- whether there is a candidate at the place, and the candidate passes the test
-abbrev pub candidate_at_passes : SealedPool → (Candidate → Bool) → ℕ → Bool
+abbrev pub candidate_at_passes : SelectionProblem → (Candidate → Bool) → ℕ → Bool
 candidate_at_passes pool test place = option_map_or test (candidate_at pool place) false
 
 -- whether the candidate at a place may be selected
-abbrev pub is_eligible_at : SealedPool → ℕ → Bool
+abbrev pub is_eligible_at : SelectionProblem → ℕ → Bool
 is_eligible_at pool place = candidate_at_passes pool (is_eligible pool.world) place
 
 -- whether world pins the name of the candidate at a place to its tag
-abbrev pub is_pinned_at : SealedPool → ℕ → Bool
+abbrev pub is_pinned_at : SelectionProblem → ℕ → Bool
 is_pinned_at pool place = candidate_at_passes pool (is_pinned pool.world) place
 
 -- whether the candidate at a place meets a need
-abbrev pub meets_at : SealedPool → ℕ → Need → Bool
-meets_at pool place need = candidate_at_passes pool (meets_need need) place
+abbrev pub meets_at : SelectionProblem → ℕ → Need → Bool
+meets_at pool place need = candidate_at_passes pool (meets_dependency_or_has_package_name need) place
 
 -- the order of two places for a need, by all eleven keys; key 11 is the place itself, and the earlier place is first
-unfoldable pub rank_cmp : SealedPool → Need → ℕ → ℕ → Ordering
+unfoldable pub rank_cmp : SelectionProblem → Need → ℕ → ℕ → Ordering
 rank_cmp pool need =
     then_cmp (on (candidate_at pool) (option_cmp (candidate_cmp pool need))) nat_cmp
 
 -- whether the candidate at the first place `a` precedes that at the second place `b`, in rank for a need
-abbrev pub is_better : SealedPool → Need → ℕ → ℕ → Bool
+abbrev pub is_better : SelectionProblem → Need → ℕ → ℕ → Bool
 is_better pool need a b = is_lt (rank_cmp pool need a b)

@@ -4,21 +4,21 @@
 use Rattle.std.specs.Prelude.{◌≡◌, ◌<◌, ℕ, true}
 use Rattle.version_core.specs.Order.{is_version}
 use Rattle.adb_view.specs.Plain.{Plain}
-use Rattle.adb_view.specs.FieldIndexes.{INFO_DEPENDS, INFO_INSTALL_IF, INFO_PROVIDES, INFO_VERSION}
-use Rattle.adb_view.specs.Values.{count_of, entries_in, entry_in, text_in}
-use Rattle.adb_schema.specs.SoundValues.{IsSoundDependency}
+use Rattle.adb_view.specs.FieldIndexes.{INFO_DEPENDS_INDEX, INFO_INSTALL_IF_INDEX, INFO_PROVIDES_INDEX, INFO_VERSION_INDEX}
+use Rattle.adb_view.specs.Values.{count_of, entries_in, entry_at_index, text_in}
+use Rattle.adb_schema.specs.SoundValues.{ObeysTextAndNumberRulesOfDependency}
 
 -- each entry of the list, which is the value of a field, is a dependency
 abbrev pub HasSoundEntries : Plain → Type 0
 HasSoundEntries list = (i : ℕ) → i < count_of (entries_in list)
-    → IsSoundDependency (entry_in list i)
+    → ObeysTextAndNumberRulesOfDependency (entry_at_index list i)
 
 -- the texts of a package's information obey their rules: the text of the version is a version, and each entry of
 -- `depends`, `provides` and `install-if` is a dependency
 pub record HasSoundTexts (info : Plain) : Type 0 where
   -- the text of the version is a version
-  pub version : is_version (text_in (entry_in info INFO_VERSION)) ≡ true
+  pub version : is_version (text_in (entry_at_index info INFO_VERSION_INDEX)) ≡ true
   -- each entry of these three lists is a dependency
-  pub depends : HasSoundEntries (entry_in info INFO_DEPENDS)
-  pub provides : HasSoundEntries (entry_in info INFO_PROVIDES)
-  pub install_if : HasSoundEntries (entry_in info INFO_INSTALL_IF)
+  pub depends : HasSoundEntries (entry_at_index info INFO_DEPENDS_INDEX)
+  pub provides : HasSoundEntries (entry_at_index info INFO_PROVIDES_INDEX)
+  pub install_if : HasSoundEntries (entry_at_index info INFO_INSTALL_IF_INDEX)

@@ -3,7 +3,7 @@
 use Rattle.std.specs.Prelude.{◌≡◌, ℕ, Bool, true, List, Option, Some, Result, IfOk, IfSome}
 use Rattle.std.specs.declared.alloc.AllocError.{AllocError}
 use Rattle.dep_core.specs.Dependency.{Dependency}
-use Rattle.adb_schema.specs.SoundValues.{IsSoundDependency}
+use Rattle.adb_schema.specs.SoundValues.{ObeysTextAndNumberRulesOfDependency}
 use Rattle.adb_view.specs.Adb.{payload_of}
 use Rattle.adb_view.specs.Plain.{Plain}
 use Rattle.adb_view.specs.Values.{is_sound, text_in, value_at}
@@ -25,7 +25,7 @@ pub record IsDependencyEntryWordOf (source : Source) (word : ℕ) : Type 0 where
   -- the word refers to a sound value of the kind dependency
   pub sound : is_sound (payload_of source.adb) (Obj Dep) word ≡ true
   -- if the texts of the source are known to obey their rules, the entry is a dependency
-  pub texts : source.has_sound_texts ≡ true → IsSoundDependency (entry_in_source source word)
+  pub texts : source.has_sound_texts ≡ true → ObeysTextAndNumberRulesOfDependency (entry_in_source source word)
 
 -- the word is that of an entry which denotes the dependency `d`
 pub record IsDependencyWordOf (source : Source) (word : ℕ) (d : Dependency) : Type 0 where

@@ -7,7 +7,7 @@ ghost use Rattle.std.specs.Prelude.{◌≡◌, ◌&&◌, ◌==◌, false, not, l
 ghost use Rattle.std.specs.List.{list_all, list_any};
 ghost use Rattle.dep_core.specs.Dependency.{Dependency};
 ghost use Rattle.dep_core.specs.Meets.{dependency};
-ghost use Rattle.candidate_core.specs.Candidates.{candidate_of, is_name_occupied_by_provides_entry, is_met_by_provides_entry, is_same_id, is_same_package, is_same_version, meets_by_own_name, meets_dependency, meets_need, occupies_name};
+ghost use Rattle.candidate_core.specs.Candidates.{candidate_of, is_name_occupied_by_provides_entry, is_met_by_provides_entry, is_same_id_by_nonempty_prefix, is_repository_package_same_as_installed, is_same_version, meets_by_own_name, meets_dependency, meets_dependency_or_has_package_name, occupies_name};
 ghost use Rattle.candidate_core.specs.PackageWords.{IsPackageWordOf, info_in_source};
 ghost use Rattle.candidate_core.specs.Rank.{is_untagged};
 ghost use Rattle.candidate_core.specs.Values.{candidate_value, need_of_ref};
@@ -222,8 +222,8 @@ impl<'a> Details<'a> {
 
     /// Whether the candidate is from a repository, and is the same package as an installed one:
     /// name, text of the version and id are the same.
-    pub fn is_same_package(&self, installed: &Details<'_>) -> bool
-        ensures { result ≡ is_same_package installed.now self.now }
+    pub fn is_repository_package_same_as_installed(&self, installed: &Details<'_>) -> bool
+        ensures { result ≡ is_repository_package_same_as_installed installed.now self.now }
     {
         if self.repo.is_none() {
             return false;
@@ -234,7 +234,7 @@ impl<'a> Details<'a> {
         if !is_same_version(self.version(), installed.version()) {
             return false;
         }
-        is_same_id(self.id(), installed.id())
+        is_same_id_by_nonempty_prefix(self.id(), installed.id())
     }
 
     /// Whether the candidate has an install-if, and none of its entries is a conflict.
@@ -246,8 +246,8 @@ impl<'a> Details<'a> {
 
     /// Whether the candidate meets a need: a dependency, or the name of a package whose install-if
     /// applies, which only a package of that name meets.
-    pub fn meets_need(&self, need: &NeedRef<'_>) -> bool
-        ensures { result ≡ meets_need (need_of_ref need.now) self.now }
+    pub fn meets_dependency_or_has_package_name(&self, need: &NeedRef<'_>) -> bool
+        ensures { result ≡ meets_dependency_or_has_package_name (need_of_ref need.now) self.now }
     {
         match need {
             NeedRef::Named(name) => *name == self.name(),
@@ -305,8 +305,8 @@ fn is_same_version(one: Option<Version<'_>>, other: Option<Version<'_>>) -> bool
 
 /// Whether two ids are the same: both are present, and one is a prefix of the other, since an index
 /// may store 20 of 32 bytes.
-pub fn is_same_id(one: &[u8], other: &[u8]) -> bool
-    ensures { result ≡ is_same_id one.now other.now }
+pub fn is_same_id_by_nonempty_prefix(one: &[u8], other: &[u8]) -> bool
+    ensures { result ≡ is_same_id_by_nonempty_prefix one.now other.now }
 {
     if one.is_empty() || other.is_empty() {
         return false;

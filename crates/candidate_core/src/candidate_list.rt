@@ -9,8 +9,8 @@ ghost use Rattle.adb_view.specs.declared.tables.Kind.TheVariants as Kinds;
 ghost use Rattle.adb_view.specs.declared.tables.Which.TheVariants as Tables;
 ghost use Rattle.adb_view.specs.Adb.{payload_of};
 ghost use Rattle.adb_view.specs.Entries.{array_entries};
-ghost use Rattle.adb_view.specs.Values.{count_of, entries_in, entry_in};
-ghost use Rattle.candidate_core.specs.Candidates.{marked_installed_where_same_as, candidate_of, is_same_package, with_installed_marked_or_added};
+ghost use Rattle.adb_view.specs.Values.{count_of, entries_in, entry_at_index};
+ghost use Rattle.candidate_core.specs.Candidates.{marked_installed_where_same_as, candidate_of, is_repository_package_same_as_installed, with_installed_marked_or_added};
 ghost use Rattle.candidate_core.specs.Options.{places_offering};
 ghost use Rattle.candidate_core.specs.CandidateList.{IsCandidateList, is_installed_package_at, marked_installed_if_same_at};
 ghost use Rattle.candidate_core.specs.PackageWords.{IsPackageWordOf};
@@ -123,7 +123,7 @@ impl<'a> CandidateList<'a> {
         requires texts { source.has_sound_texts ≡ true → (i : ℕ)
             → i < count_of (entries_in (array_at (payload_of source.adb)
             (Kinds.Obj Tables.PkgInfo) (array_entries packages))) → HasSoundTexts
-            (entry_in (array_at (payload_of source.adb) (Kinds.Obj Tables.PkgInfo)
+            (entry_at_index (array_at (payload_of source.adb) (Kinds.Obj Tables.PkgInfo)
             (array_entries packages)) i) }
         ensures list { OnOk result (IsCandidateList self.new) }
         // The packages of the array are appended, in their order.
@@ -186,7 +186,7 @@ impl<'a> CandidateList<'a> {
         // The list is still one of candidates. The result says whether one of them is the installed
         // package, and each such candidate is marked.
         ensures list { IsCandidateList self.new }
-        ensures some { result ≡ list_any (is_same_package installed.now)
+        ensures some { result ≡ list_any (is_repository_package_same_as_installed installed.now)
             (candidates_of_packages self.old.packages) }
         ensures same { candidates_of_packages self.new.packages ≡ marked_installed_where_same_as
             installed.now (candidates_of_packages self.old.packages) }
@@ -205,7 +205,7 @@ fn mark_among<'a>(packages: &mut Packages<'a>, ids: &[CandId], installed: &Detai
     // The places are those of all candidates that offer the installed package's name.
     requires { ids.now
         ≡ places_offering installed.now.name (candidates_of_packages packages.old) }
-    ensures some { result ≡ list_any (is_same_package installed.now)
+    ensures some { result ≡ list_any (is_repository_package_same_as_installed installed.now)
         (candidates_of_packages packages.old) }
     ensures same { candidates_of_packages packages.new
         ≡ marked_installed_where_same_as installed.now
@@ -228,7 +228,7 @@ fn mark_one<'a>(packages: &mut Packages<'a>, id: CandId, installed: &Details<'a>
         ≡ marked_installed_if_same_at installed.now id (candidates_of_packages packages.old) }
 {
     let place = id.place as usize;
-    if !packages.get(place).is_same_package(installed) {
+    if !packages.get(place).is_repository_package_same_as_installed(installed) {
         return false;
     }
     packages.mark_installed(place);

@@ -5,7 +5,7 @@
 ghost use Rattle.std.specs.Prelude.{◌≡◌, ◌<◌, ◌==◌, true, length, slice_get, Some};
 ghost use Rattle.std.specs.Option.{option_map};
 ghost use Rattle.adb_schema.specs.adb_fields.ListValue.{list_value};
-ghost use Rattle.adb_schema.specs.SoundValues.{IsSoundDependency};
+ghost use Rattle.adb_schema.specs.SoundValues.{ObeysTextAndNumberRulesOfDependency};
 ghost use Rattle.adb_schema.specs.Views.{dependency_value};
 ghost use Rattle.dep_core.specs.Meets.{dependency};
 ghost use Rattle.candidate_core.specs.Candidates.{dependencies_in_list_value, dependency_in};
@@ -89,7 +89,7 @@ impl<'a> Deps<'a> {
 /// The dependency of an entry that is known to be one, read without testing its texts.
 #[tactic(auto, unfolding(dep_core::specs::ValueReading::dependency_of_value))]
 pub(crate) fn read_sound<'a>(view: &DepView<'a>) -> Dep<'a>
-    requires { IsSoundDependency (dependency_value view.now) }
+    requires { ObeysTextAndNumberRulesOfDependency (dependency_value view.now) }
     ensures { dependency_in (dependency_value view.entry.now) ≡ Some (dependency result) }
 {
     match dep_of_parts(view.name(), view.version(), view.matching()) {

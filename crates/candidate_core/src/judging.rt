@@ -7,7 +7,7 @@ ghost use Rattle.std.specs.Option.{option_map};
 ghost use Rattle.adb_schema.specs.adb_fields.Fields.{are_all_sound, array_at};
 ghost use Rattle.adb_schema.specs.TextRules.{keeps_text_rule};
 ghost use Rattle.adb_schema.specs.Views.{info_value};
-ghost use Rattle.adb_view.specs.Values.{entry_in, is_sound, kind_at, text_in, value_at};
+ghost use Rattle.adb_view.specs.Values.{entry_at_index, is_sound, kind_at, text_in, value_at};
 ghost use Rattle.adb_view.specs.declared.tables.Kind.TheVariants as Kinds;
 ghost use Rattle.adb_view.specs.declared.tables.Which.TheVariants as Tables;
 ghost use Rattle.adb_view.specs.Adb.{payload_of};
@@ -76,7 +76,7 @@ fn has_sound_entries(judged: &mut Judged<'_>, word: Val, field: usize) -> Result
     requires sound { is_sound (payload_of judged.old.adb) (Kinds.Obj Tables.PkgInfo) word ≡ true }
     requires kind { kind_at Tables.PkgInfo field ≡ Some (Kinds.ObjArr Tables.Dep) }
     // If the result is true, each entry of the list in the field is a dependency.
-    ensures entries { IfOk result (λ sound. sound ≡ true → HasSoundEntries (entry_in
+    ensures entries { IfOk result (λ sound. sound ≡ true → HasSoundEntries (entry_at_index
         (value_at (payload_of judged.old.adb) (Kinds.Obj Tables.PkgInfo) word) field)) }
     ensures payload { judged.new.adb ≡ judged.old.adb }
 {
@@ -136,13 +136,13 @@ fn text_if_kept<'a>(
     requires sound { is_sound (payload_of judged.old.adb) (Kinds.Obj which) object ≡ true }
     requires kind { kind_at which field ≡ Some Kinds.Text }
     // If a text is returned, it is that of the field.
-    ensures text { IfOk result (λ found. IfSome found (λ text. text.now ≡ text_in (entry_in
+    ensures text { IfOk result (λ found. IfSome found (λ text. text.now ≡ text_in (entry_at_index
         (value_at (payload_of judged.old.adb) (Kinds.Obj which) object) field))) }
     // A returned text obeys the rule.
     ensures kept { IfOk result (λ found. IfSome found (λ text.
         keeps_text_rule rule text.now ≡ true)) }
     // If none is returned, the text of the field breaks its rule.
-    ensures none { IfOk result (λ found. IfNone found (keeps_text_rule rule (text_in (entry_in
+    ensures none { IfOk result (λ found. IfNone found (keeps_text_rule rule (text_in (entry_at_index
         (value_at (payload_of judged.old.adb) (Kinds.Obj which) object) field)) ≡ false)) }
     ensures payload { judged.new.adb ≡ judged.old.adb }
 {

@@ -23,7 +23,7 @@ pub use adb_schema::{
     DepView, DirInfo, FileInfo, IndexView, List, PackageView, PkgInfo,
     entries_keep_the_rule_of_their_list, objects_field,
 };
-pub use candidate::{CandId, Candidate, Details, is_same_id};
+pub use candidate::{CandId, Candidate, Details, is_same_id_by_nonempty_prefix};
 pub use candidate_list::{CandidateList, MOST_CANDIDATES, PoolFault};
 pub use dependencies::Deps;
 pub use matches::{KnownMatches, is_long};

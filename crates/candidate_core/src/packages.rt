@@ -11,7 +11,7 @@ use crate::matches::KnownMatches;
 use crate::need::NeedRef;
 use crate::package_matches::PackageDep;
 use crate::versions::{
-    RankedVersion, VersionPlace, depends_version_place, meets_need, own_version,
+    RankedVersion, VersionPlace, depends_version_place, meets_dependency_or_has_package_name, own_version,
     version_meeting_need,
 };
 use adb_view::{Adb, Val};
@@ -53,7 +53,7 @@ pub struct Packages<'a> {
 }
 
 impl<'a> Packages<'a> {
-    ghost use Rattle.candidate_core.specs.Candidates.{Candidate, meets_need, version_meeting_need};
+    ghost use Rattle.candidate_core.specs.Candidates.{Candidate, meets_dependency_or_has_package_name, version_meeting_need};
     ghost use Rattle.candidate_core.specs.Matches.{AreMatchesFor};
     ghost use Rattle.candidate_core.specs.Values.{need_of_ref};
     ghost use Rattle.candidate_core.specs.VersionTexts.{HasVersionTextFrom, source_text};
@@ -136,7 +136,7 @@ impl<'a> Packages<'a> {
     /// # Errors
     ///
     /// Out of memory.
-    pub fn meets_need(
+    pub fn meets_dependency_or_has_package_name(
         &self,
         place: usize,
         need: &NeedRef<'_>,
@@ -149,13 +149,13 @@ impl<'a> Packages<'a> {
         // The result says whether the candidate at the place meets the need.
         ensures meets { IfOk result (λ meets. (c : Candidate)
             → slice_get (candidates_of_packages self.now) place ≡ Some c
-            → meets ≡ meets_need (need_of_ref need.now) c) }
+            → meets ≡ meets_dependency_or_has_package_name (need_of_ref need.now) c) }
         ensures known { IfOk result (λ _.
             AreMatchesFor (source_text self.now.sources.items) (need_of_ref need.now) known.new) }
     {
         let package = self.words[place];
         let source = self.sources[package.source as usize];
-        meets_need(&source, package, need, known)
+        meets_dependency_or_has_package_name(&source, package, need, known)
     }
 
     /// The place of the text of the version in a dependency of a package; None if the place is not

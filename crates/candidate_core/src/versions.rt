@@ -5,10 +5,10 @@ ghost use Rattle.std.specs.Prelude.{◌≡◌, ℕ, List, IfSome, option_to_list
 ghost use Rattle.std.specs.Option.{option_and_then, option_map};
 ghost use Rattle.std.specs.List.{find, list_any};
 ghost use Rattle.std.specs.Str.{bytes_eq};
-ghost use Rattle.adb_view.specs.Values.{entry_in, text_in};
+ghost use Rattle.adb_view.specs.Values.{entry_at_index, text_in};
 ghost use Rattle.dep_core.specs.Dependency.{Dependency};
 ghost use Rattle.dep_core.specs.Meets.{dependency};
-ghost use Rattle.candidate_core.specs.Candidates.{dependencies_in_list_value, dependency_in, entry, is_met_by_provides_entry, meets_by_own_name, meets_dependency, meets_need, version_of_text, version_meeting_need};
+ghost use Rattle.candidate_core.specs.Candidates.{dependencies_in_list_value, dependency_in, entry, is_met_by_provides_entry, meets_by_own_name, meets_dependency, meets_dependency_or_has_package_name, version_of_text, version_meeting_need};
 ghost use Rattle.candidate_core.specs.Matches.{AreMatchesIn, GivesTextsOfSource};
 ghost use Rattle.candidate_core.specs.PackageWords.{IsPackageWordOf, info_in_source};
 ghost use Rattle.candidate_core.specs.Packages.{candidate_in_source};
@@ -64,7 +64,7 @@ pub enum VersionKind {
 pub(crate) fn own_version<'a>(source: &Source<'a>, kept: PackageWord) -> RankedVersion<'a>
     requires { IsPackageWordOf source.now kept.word }
     ensures { IsVersionReadFrom source.now kept.source (version_of_text
-        (text_in (entry_in (info_in_source source.now kept.word) 1))) result }
+        (text_in (entry_at_index (info_in_source source.now kept.word) 1))) result }
 {
     let word = Val::of(kept.word);
     RankedVersion {
@@ -157,7 +157,7 @@ fn provided_version<'a>(
     ensures { IsVersionReadFrom source.now kept.source (option_and_then (λ
         (p : Dependency). p.version)
         (find (is_met_by_provides_entry (dependency dep.now))
-        (dependencies_in_list_value (entry_in (info_in_source source.now kept.word) 15)))) result }
+        (dependencies_in_list_value (entry_at_index (info_in_source source.now kept.word) 15)))) result }
 {
     let word = Val::of(kept.word);
     let entries = objects_field(source.adb, Which::PkgInfo, word, PROVIDES, Which::Dep);
@@ -241,7 +241,7 @@ pub(crate) fn depends_version_place(
     // is that of the text of this version.
     ensures { (text : ℕ → ℕ → List ℕ) (d : Dependency)
         → GivesTextsOfSource source.now kept.source text
-        → slice_get (dependencies_in_list_value (entry_in
+        → slice_get (dependencies_in_list_value (entry_at_index
         (info_in_source source.now kept.word) 14)) index
         ≡ Some d → IfSome result (λ place. IfSome d.version (λ version. version
         ≡ text place.source place.word)) }
@@ -288,7 +288,7 @@ fn read_entry<'a>(source: &Source<'a>, entry: Val) -> Option<Dep<'a>>
 
 /// Whether a package of a source meets a need; `kept` has the word (32-bit value) of the package.
 /// Results for long versions are remembered.
-pub(crate) fn meets_need(
+pub(crate) fn meets_dependency_or_has_package_name(
     source: &Source<'_>,
     kept: PackageWord,
     need: &NeedRef<'_>,
@@ -297,7 +297,7 @@ pub(crate) fn meets_need(
     requires { IsPackageWordOf source.now kept.word }
     // Unless memory runs out, the answer is right, and the remembered results stay right.
     ensures { AnswersAndRemembers (GivesTextsOfSource source.now kept.source) (need_of_ref need.now)
-        (meets_need (need_of_ref need.now)
+        (meets_dependency_or_has_package_name (need_of_ref need.now)
         (candidate_in_source (Some source.now) kept.word kept.installed)) known.old known.new result }
 {
     match need {
@@ -363,7 +363,7 @@ fn any_entry_meets(
     // Unless memory runs out, the answer is right, and the remembered results stay right.
     ensures { AnswersAndRemembers (GivesTextsOfSource source.now kept.source)
         (entry (dependency dep.now)) (list_any (is_met_by_provides_entry (dependency dep.now))
-        (dependencies_in_list_value (entry_in (info_in_source source.now kept.word) 15)))
+        (dependencies_in_list_value (entry_at_index (info_in_source source.now kept.word) 15)))
         known.old known.new result }
 {
     let word = Val::of(kept.word);

@@ -9,7 +9,7 @@ use Rattle.base_core.proofs.Rising.{IsIn}
 use Rattle.base_core.proofs.AtName.{is_name}
 use Rattle.file_owners.specs.db_core.Members.{Listing}
 use Rattle.path_clashes.specs.Clash.{is_present_after_change}
-use Rattle.change_files.specs.FileChange.{FileChange, is_listed_after_change, old_entry, was_listed}
+use Rattle.change_files.specs.FileChange.{FileChange, is_listed_after_change, old_file_entry, was_listed}
 use Rattle.change_files.specs.FilesAfter.{DatabaseAndWorldAfter, bytes_after_write_or_removal, files_after_change, database_name, is_left_over_modified_file_kept, is_removed, is_listing_written_under_name, listing_written_as_apk_new_beside, is_modified_config_to_keep, path_of_apk_new_name, text_database_name, new_world_bytes_unless_empty_and_absent, world_name, listing_written_under_name}
 use Rattle.change_files.specs.NamesAfter.{added_paths, is_released, counts_as_written, name_change}
 use Rattle.change_files.specs.Touched.{is_old_or_new_database_or_world_name}
@@ -59,7 +59,7 @@ gone_by true false false false w e = refl
 let_go_removed : (change : FileChange) (files : Files) (name : List ℕ) → is_released change files name ≡ true → is_listing_written_under_name change files name ≡ false → is_removed change files name ≡ true
 unfolding is_released is_left_over_modified_file_kept is_removed
 let_go_removed change files name goes unwritten =
-    gone_by (was_listed change name) (is_listed_after_change change name) (is_listing_written_under_name change files name) (is_modified_config_to_keep change name (files name) (old_entry change name)) unwritten goes
+    gone_by (was_listed change name) (is_listed_after_change change name) (is_listing_written_under_name change files name) (is_modified_config_to_keep change name (files name) (old_file_entry change name)) unwritten goes
 
 still_there : (change : FileChange) (bytes_of : Listing → List ℕ) (files : Files) (name : List ℕ) → is_listing_written_under_name change files name ≡ false → is_some (bytes_after_write_or_removal bytes_of None (is_removed change files name) (files name)) ≡ true
     → is_present_after_change (name_change change files) files name ≡ true
@@ -126,7 +126,7 @@ let_go_by true false false false e = refl
 removed_let_go : (change : FileChange) (files : Files) (name : List ℕ) → is_removed change files name ≡ true → is_released change files name ≡ true
 unfolding is_released is_left_over_modified_file_kept is_removed
 removed_let_go change files name removed =
-    let_go_by (was_listed change name) (is_listed_after_change change name) (is_listing_written_under_name change files name) (is_modified_config_to_keep change name (files name) (old_entry change name)) removed
+    let_go_by (was_listed change name) (is_listed_after_change change name) (is_listing_written_under_name change files name) (is_modified_config_to_keep change name (files name) (old_file_entry change name)) removed
 
 pub name_stands : (change : FileChange) (bytes_of : Listing → List ℕ) (records : DatabaseAndWorldAfter) (files : Files) (name : List ℕ) → is_some (files name) ≡ true → is_released change files name ≡ false → is_old_or_new_database_or_world_name records name ≡ false
     → is_some (files_after_change change bytes_of records files name) ≡ true

@@ -6,13 +6,13 @@ use Rattle.std.proofs.lemmas.Bool.{and_from, and_left, and_right, eqb-true, fals
 use Rattle.std.proofs.lemmas.Slice.Eq.{bytes_eq-Decides}
 use Rattle.base_core.proofs.Numbers.{same_number}
 use Rattle.adb_view.specs.Plain.{Plain}
-use Rattle.adb_view.specs.Values.{entry_in, int_in}
+use Rattle.adb_view.specs.Values.{entry_at_index, int_in}
 use Rattle.path_clashes.specs.adb_fields.Repeated.{files_in, folders_in, name_of}
 use Rattle.file_guard.specs.adb_schema.Rules.{is_digest_length}
 use Rattle.file_guard.specs.adb_schema.Texts.{is_file_with_contents}
 use Rattle.file_guard.specs.pkg_core.Contents.{Contents, ExpectedFile, bytes_or_none, expected_files_of_package, expected_files_of_folder, expected_files_of_folders, is_contents_of_file}
-use Rattle.file_guard.specs.pkg_core.GoodContents.{AreContentsOfExpectedFiles, HaveValidDigestLengths, IsContentsOfExpectedFile}
-use Rattle.file_owners.specs.db_core.Members.{Listing, Member, listings_of_member, listings_of_members_from, listings_in_folder_from_file, listings_in_folders_from, listings_of_members}
+use Rattle.file_guard.specs.pkg_core.GoodContents.{MatchEachExpectedSizeAndKnownDigest, HaveValidDigestLengths, MatchesExpectedSizeAndKnownDigest}
+use Rattle.file_owners.specs.db_core.Members.{Listing, Member, listings_of_member, listings_of_members_from, listings_from_member_folder_file_places, listings_in_folders_from, listings_of_members}
 use Rattle.file_guard.specs.AsListed.{file_hash, file_size, file_target, has_target, is_as_listed, link_file_bytes_of_entry, link_file_bytes_of_target}
 use Rattle.file_guard.proofs.Told.{told_hash, told_link}
 use Rattle.change_files.specs.FilesAfter.{listing_bytes}
@@ -64,7 +64,7 @@ after_apart a b below = false_from_ne_true (a == b) (λ e. let same = eqb-true a
 none_in_files : (folder file other i : ℕ) (entries : List Plain) → ((j : ℕ) → i ≤ j → ((other == folder) && (j == file)) ≡ false) → find (is_at folder file) (expected_files_of_folder other i entries) ≡ None
 none_in_files folder file other i [] far = refl
 none_in_files folder file other i (entry ∷ entries) far =
-    passed_over (is_at folder file) (is_file_with_contents entry) (record { folder = other; file = i; size = int_in (entry_in entry 2); hash = file_hash entry }) (expected_files_of_folder other (i + 1) entries) (far i (omega arith))
+    passed_over (is_at folder file) (is_file_with_contents entry) (record { folder = other; file = i; size = int_in (entry_at_index entry 2); hash = file_hash entry }) (expected_files_of_folder other (i + 1) entries) (far i (omega arith))
     ∙ none_in_files folder file other (i + 1) entries (λ j le. far j (omega (arith, le)))
 
 none_in_folders : (folder file i : ℕ) (folders : List Plain) → folder < i → find (is_at folder file) (expected_files_of_folders i folders) ≡ None
@@ -89,7 +89,7 @@ record IsInFolder (m : Member) (place folder i : ℕ) (entries : List Plain) (l 
   at_place : l.place ≡ place
   expected : find (is_at folder l.file) (expected_files_of_folder folder i entries) ≡ expected_or_none folder l.file l.entry
 
-in_folder : (m : Member) (place folder i : ℕ) (above : List ℕ) (entries : List Plain) (l : Listing) → IsOneOf l (listings_in_folder_from_file m place folder i above entries) → IsInFolder m place folder i entries l
+in_folder : (m : Member) (place folder i : ℕ) (above : List ℕ) (entries : List Plain) (l : Listing) → IsOneOf l (listings_from_member_folder_file_places m place folder i above entries) → IsInFolder m place folder i entries l
 in_folder m place folder i above [] l here = absurd here
 in_folder m place folder i above (entry ∷ entries) l (inl is) =
     subst (λ (l : Listing). IsInFolder m place folder i (entry ∷ entries) l) (sym is)
@@ -127,7 +127,7 @@ first_or_none false p e xs ys first none = find_joined p xs ys first ∙ none
 in_folders : (m : Member) (place i : ℕ) (folders : List Plain) (l : Listing) → IsOneOf l (listings_in_folders_from m place i folders) → IsInFolders m place i folders l
 in_folders m place i [] l here = absurd here
 in_folders m place i (f ∷ folders) l here =
-    elim (one_of_joined l (listings_in_folder_from_file m place i 1 (name_of f) (files_in f)) (listings_in_folders_from m place (i + 1) folders) here) [
+    elim (one_of_joined l (listings_from_member_folder_file_places m place i 1 (name_of f) (files_in f)) (listings_in_folders_from m place (i + 1) folders) here) [
       | inl first ↦ (let there = in_folder m place i 1 (name_of f) (files_in f) l first in
           record {
             from = omega (arith, there.in_folder);
@@ -163,27 +163,27 @@ expected_file members l here = expected_in 0 members l here
 
 -- ---- its contents
 
-same_test : (folder file : ℕ) (e : ExpectedFile) (c : Contents) → IsContentsOfExpectedFile e c → is_contents_of_file folder file c ≡ is_at folder file e
+same_test : (folder file : ℕ) (e : ExpectedFile) (c : Contents) → MatchesExpectedSizeAndKnownDigest e c → is_contents_of_file folder file c ≡ is_at folder file e
 same_test folder file e c is =
     ap (λ (d : ℕ). (d == folder) && (c.file == file)) is.folder ∙ ap (λ (f : ℕ). (e.folder == folder) && (f == file)) is.file
 
-found_contents : (folder file : ℕ) (es : List ExpectedFile) (cs : List Contents) → AreContentsOfExpectedFiles es cs → (e : ExpectedFile) → find (is_at folder file) es ≡ Some e
-    → (c : Contents) × (find (is_contents_of_file folder file) cs ≡ Some c) × IsContentsOfExpectedFile e c
+found_contents : (folder file : ℕ) (es : List ExpectedFile) (cs : List Contents) → MatchEachExpectedSizeAndKnownDigest es cs → (e : ExpectedFile) → find (is_at folder file) es ≡ Some e
+    → (c : Contents) × (find (is_contents_of_file folder file) cs ≡ Some c) × MatchesExpectedSizeAndKnownDigest e c
 found_contents folder file [] cs are e found = absurd (cc)
 found_contents folder file (x ∷ es) [] are e found = absurd are
 found_contents folder file (x ∷ es) (c ∷ cs) are e found = by_test (is_at folder file x) (same_test folder file x c are.0) found (found_contents folder file es cs are.1 e)
   where
     by_test : (b : Bool) → is_contents_of_file folder file c ≡ b → cond b (Some x) (find (is_at folder file) es) ≡ Some e
-        → (find (is_at folder file) es ≡ Some e → (c : Contents) × (find (is_contents_of_file folder file) cs ≡ Some c) × IsContentsOfExpectedFile e c)
-        → (d : Contents) × (cond (is_contents_of_file folder file c) (Some c) (find (is_contents_of_file folder file) cs) ≡ Some d) × IsContentsOfExpectedFile e d
+        → (find (is_at folder file) es ≡ Some e → (c : Contents) × (find (is_contents_of_file folder file) cs ≡ Some c) × MatchesExpectedSizeAndKnownDigest e c)
+        → (d : Contents) × (cond (is_contents_of_file folder file c) (Some c) (find (is_contents_of_file folder file) cs) ≡ Some d) × MatchesExpectedSizeAndKnownDigest e d
     by_test true t found f =
         let same : x ≡ e = (cc) in
-        (c, ap (λ (b : Bool). cond b (Some c) (find (is_contents_of_file folder file) cs)) t, subst (λ (y : ExpectedFile). IsContentsOfExpectedFile y c) same are.0)
+        (c, ap (λ (b : Bool). cond b (Some c) (find (is_contents_of_file folder file) cs)) t, subst (λ (y : ExpectedFile). MatchesExpectedSizeAndKnownDigest y c) same are.0)
     by_test false t found f =
         let (d, at, is) = f found in
         (d, ap (λ (b : Bool). cond b (Some c) (find (is_contents_of_file folder file) cs)) t ∙ at, is)
 
-no_contents : (folder file : ℕ) (es : List ExpectedFile) (cs : List Contents) → AreContentsOfExpectedFiles es cs → find (is_at folder file) es ≡ None → find (is_contents_of_file folder file) cs ≡ None
+no_contents : (folder file : ℕ) (es : List ExpectedFile) (cs : List Contents) → MatchEachExpectedSizeAndKnownDigest es cs → find (is_at folder file) es ≡ None → find (is_contents_of_file folder file) cs ≡ None
 no_contents folder file [] [] are none = refl
 no_contents folder file [] (c ∷ cs) are none = absurd are
 no_contents folder file (x ∷ es) [] are none = absurd are
@@ -222,7 +222,7 @@ bytes_found contents l found target is =
     ap (λ (b : Bool). if b then link_file_bytes_of_entry l.entry else bytes_or_none (find (is_contents_of_file l.folder l.file) (contents l.place))) target ∙ ap bytes_or_none is
 
 as_contents : (contents : ℕ → List Contents) (l : Listing) → find (is_at l.folder l.file) (expected_files_of_package l.member.pkg) ≡ Some (expected_of l.folder l.file l.entry)
-    → HaveValidDigestLengths (expected_files_of_package l.member.pkg) → AreContentsOfExpectedFiles (expected_files_of_package l.member.pkg) (contents l.place) → has_target l.entry ≡ false → is_as_listed l.entry (listing_bytes contents l) ≡ true
+    → HaveValidDigestLengths (expected_files_of_package l.member.pkg) → MatchEachExpectedSizeAndKnownDigest (expected_files_of_package l.member.pkg) (contents l.place) → has_target l.entry ≡ false → is_as_listed l.entry (listing_bytes contents l) ≡ true
 as_contents contents l expected have are target =
     let (c, at, is) = found_contents l.folder l.file (expected_files_of_package l.member.pkg) (contents l.place) are (expected_of l.folder l.file l.entry) expected in
     let digest = digest_found (is_at l.folder l.file) (expected_files_of_package l.member.pkg) (expected_of l.folder l.file l.entry) expected have in
@@ -231,7 +231,7 @@ as_contents contents l expected have are target =
     ∙ ap is_none is.hash)
 
 pub brought_as_listed : (contents : ℕ → List Contents) (members : List Member) (l : Listing) → Contains (listings_of_members members) l → HaveValidDigestLengths (expected_files_of_package l.member.pkg)
-    → AreContentsOfExpectedFiles (expected_files_of_package l.member.pkg) (contents l.place) → (is_file_with_contents l.entry ≡ false → has_target l.entry ≡ false → is_as_listed l.entry [] ≡ true)
+    → MatchEachExpectedSizeAndKnownDigest (expected_files_of_package l.member.pkg) (contents l.place) → (is_file_with_contents l.entry ≡ false → has_target l.entry ≡ false → is_as_listed l.entry [] ≡ true)
     → is_as_listed l.entry (listing_bytes contents l) ≡ true
 brought_as_listed contents members l here have are empty = by_target (has_target l.entry) refl
   where

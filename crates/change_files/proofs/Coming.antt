@@ -10,7 +10,7 @@ use Rattle.base_core.specs.Name.{IsName, is_name, is_path_part, path_parts_of}
 use Rattle.file_owners.specs.db_core.Members.{Listing}
 use Rattle.file_guard.specs.AsListed.{are_sizes_hashes_targets_equal, is_as_listed}
 use Rattle.change_files.specs.Fate.{AddedFileFate, agrees_with_old_entry, apk_new_name, fate_if_user_modified_file, fate_with_file_found, fate_of, gives_way, goes_aside, goes_in, is_as_old_entry_lists, is_protected_path}
-use Rattle.change_files.specs.FileChange.{FileChange, added_owner_listing, is_listed_after_change, old_entry}
+use Rattle.change_files.specs.FileChange.{FileChange, added_owner_listing, is_listed_after_change, old_file_entry}
 use Rattle.change_files.specs.FilesAfter.{if_written_as_apk_new, if_written_in_place, listing_written_as_apk_new_beside, path_of_apk_new_name, listing_written_under_name}
 use Rattle.std.specs.Option.{option_or}
 use Rattle.change_files.specs.Touched.{DiffersFromOldEntryIfAny, IsModifiedConfigFile}
@@ -21,10 +21,10 @@ use Rattle.change_files.proofs.Untouched.{users_fate}
 
 -- a file of which the tests say so is the user's
 users_file : (change : FileChange) (files : Files) (path bytes : List ℕ) (l : Listing) → added_owner_listing change path ≡ Some l → files path ≡ Some bytes
-    → (not (is_protected_path path) || (is_as_listed l.entry bytes || is_as_old_entry_lists (old_entry change path) bytes)) ≡ false → IsModifiedConfigFile change files path bytes
+    → (not (is_protected_path path) || (is_as_listed l.entry bytes || is_as_old_entry_lists (old_file_entry change path) bytes)) ≡ false → IsModifiedConfigFile change files path bytes
 users_file change files path bytes l comes present tests =
-    let (unguarded, listed) = or_parts (not (is_protected_path path)) (is_as_listed l.entry bytes || is_as_old_entry_lists (old_entry change path) bytes) tests in
-    let (new, old) = or_parts (is_as_listed l.entry bytes) (is_as_old_entry_lists (old_entry change path) bytes) listed in
+    let (unguarded, listed) = or_parts (not (is_protected_path path)) (is_as_listed l.entry bytes || is_as_old_entry_lists (old_file_entry change path) bytes) tests in
+    let (new, old) = or_parts (is_as_listed l.entry bytes) (is_as_old_entry_lists (old_file_entry change path) bytes) listed in
     record {
       guarded = not-false (is_protected_path path) unguarded;
       present = present;
@@ -43,9 +43,9 @@ nobodys_fate change files path l comes nobodys = fate_at change files path l com
   where
     by_file : (found : Option (List ℕ)) → files path ≡ found → fate_with_file_found change path l.entry found ≡ goes_in
     by_file None present = refl
-    by_file (Some bytes) present = by_tests (not (is_protected_path path) || (is_as_listed l.entry bytes || is_as_old_entry_lists (old_entry change path) bytes)) refl
+    by_file (Some bytes) present = by_tests (not (is_protected_path path) || (is_as_listed l.entry bytes || is_as_old_entry_lists (old_file_entry change path) bytes)) refl
       where
-        by_tests : (b : Bool) → (not (is_protected_path path) || (is_as_listed l.entry bytes || is_as_old_entry_lists (old_entry change path) bytes)) ≡ b → (if b then goes_in else fate_if_user_modified_file change path l.entry) ≡ goes_in
+        by_tests : (b : Bool) → (not (is_protected_path path) || (is_as_listed l.entry bytes || is_as_old_entry_lists (old_file_entry change path) bytes)) ≡ b → (if b then goes_in else fate_if_user_modified_file change path l.entry) ≡ goes_in
         by_tests true tests = refl
         by_tests false tests = absurd (nobodys bytes (users_file change files path bytes l comes present tests))
 
@@ -66,8 +66,8 @@ name_is_short bytes named =
     let c = and_parts _ (not (list_any (λ x. x == 0) bytes)) b.0 in
     (and_parts (nat_lt 0 (length bytes)) (nat_le (length bytes) 1024) c.0).1
 
-new_disagrees : (change : FileChange) (path : List ℕ) (entry : Plain) → DiffersFromOldEntryIfAny change path entry → agrees_with_old_entry (old_entry change path) entry ≡ false
-new_disagrees change path entry differs = by_entry (old_entry change path) differs
+new_disagrees : (change : FileChange) (path : List ℕ) (entry : Plain) → DiffersFromOldEntryIfAny change path entry → agrees_with_old_entry (old_file_entry change path) entry ≡ false
+new_disagrees change path entry differs = by_entry (old_file_entry change path) differs
   where
     by_entry : (o : Option Plain) → ((old : Plain) → o ≡ Some old → are_sizes_hashes_targets_equal old entry ≡ false) → agrees_with_old_entry o entry ≡ false
     by_entry None differs = refl
@@ -76,9 +76,9 @@ new_disagrees change path entry differs = by_entry (old_entry change path) diffe
 pub lies_beside : (change : FileChange) (files : Files) (path bytes : List ℕ) (l : Listing) → added_owner_listing change path ≡ Some l → IsModifiedConfigFile change files path bytes → DiffersFromOldEntryIfAny change path l.entry
     → IsName (apk_new_name path) → is_listed_after_change change (apk_new_name path) ≡ false → listing_written_as_apk_new_beside change files path ≡ Some l
 lies_beside change files path bytes l comes own differs named free =
-    let tests : (not (agrees_with_old_entry (old_entry change path) l.entry) && (nat_le (length (apk_new_name path)) 1024 && not (is_listed_after_change change (apk_new_name path)))) ≡ true =
-    and_from (not (agrees_with_old_entry (old_entry change path) l.entry)) (nat_le (length (apk_new_name path)) 1024 && not (is_listed_after_change change (apk_new_name path)))
-    (not_from_false (agrees_with_old_entry (old_entry change path) l.entry) (new_disagrees change path l.entry differs))
+    let tests : (not (agrees_with_old_entry (old_file_entry change path) l.entry) && (nat_le (length (apk_new_name path)) 1024 && not (is_listed_after_change change (apk_new_name path)))) ≡ true =
+    and_from (not (agrees_with_old_entry (old_file_entry change path) l.entry)) (nat_le (length (apk_new_name path)) 1024 && not (is_listed_after_change change (apk_new_name path)))
+    (not_from_false (agrees_with_old_entry (old_file_entry change path) l.entry) (new_disagrees change path l.entry differs))
     (and_from (nat_le (length (apk_new_name path)) 1024) (not (is_listed_after_change change (apk_new_name path))) (name_is_short (apk_new_name path) named)
     (not_from_false (is_listed_after_change change (apk_new_name path)) free)) in
     ap (option_and_then (λ l. if_written_as_apk_new l (fate_of change files l))) comes
@@ -106,9 +106,9 @@ beside_users_file change files path l laid =
     by_file : added_owner_listing change path ≡ Some l → (found : Option (List ℕ)) → files path ≡ found → fate_with_file_found change path l.entry found ≡ goes_aside
         → ((bytes : List ℕ) × IsModifiedConfigFile change files path bytes) × DiffersFromOldEntryIfAny change path l.entry
     by_file comes None present aside = absurd (cc)
-    by_file comes (Some bytes) present aside = by_tests (not (is_protected_path path) || (is_as_listed l.entry bytes || is_as_old_entry_lists (old_entry change path) bytes)) refl aside
+    by_file comes (Some bytes) present aside = by_tests (not (is_protected_path path) || (is_as_listed l.entry bytes || is_as_old_entry_lists (old_file_entry change path) bytes)) refl aside
       where
-        by_tests : (b : Bool) → (not (is_protected_path path) || (is_as_listed l.entry bytes || is_as_old_entry_lists (old_entry change path) bytes)) ≡ b → (if b then goes_in else fate_if_user_modified_file change path l.entry) ≡ goes_aside
+        by_tests : (b : Bool) → (not (is_protected_path path) || (is_as_listed l.entry bytes || is_as_old_entry_lists (old_file_entry change path) bytes)) ≡ b → (if b then goes_in else fate_if_user_modified_file change path l.entry) ≡ goes_aside
             → ((bytes : List ℕ) × IsModifiedConfigFile change files path bytes) × DiffersFromOldEntryIfAny change path l.entry
         by_tests true tests aside = absurd (cc)
         by_tests false tests aside = ((bytes, users_file change files path bytes l comes present tests), new_entry change path l.entry aside)

@@ -9,18 +9,18 @@ use Rattle.base_core.proofs.Rising.{IsIn}
 use Rattle.file_owners.specs.db_core.Members.{Listing}
 use Rattle.file_guard.specs.AsListed.{is_as_listed}
 use Rattle.change_files.specs.Fate.{is_protected_path}
-use Rattle.change_files.specs.FileChange.{FileChange, old_entry, old_listings}
+use Rattle.change_files.specs.FileChange.{FileChange, old_file_entry, old_listings}
 use Rattle.change_files.specs.FilesAfter.{is_present_and_modified_from_entry, is_left_over_modified_file_kept, is_left_over_and_not_written, is_removed, is_modified_config_to_keep}
 use Rattle.change_files.specs.Touched.{IsModifiedConfigFile}
 use Rattle.change_files.proofs.OwnedFiles.{claimed_by_owner, coming_is, in_old_paths}
 use Rattle.change_files.proofs.Untouched.{IsLeftOver, kept_is, left_over_is, removed_is}
 
 -- what may stay is the user's file, and is not to be purged
-stays_is_users : (change : FileChange) (files : Files) (path : List ℕ) → IsLeftOver change files path → is_modified_config_to_keep change path (files path) (old_entry change path) ≡ true
+stays_is_users : (change : FileChange) (files : Files) (path : List ℕ) → IsLeftOver change files path → is_modified_config_to_keep change path (files path) (old_file_entry change path) ≡ true
     → ((bytes : List ℕ) × IsModifiedConfigFile change files path bytes) × (change.purge ≡ false)
-stays_is_users change files path left stays = by_entry (old_entry change path) refl stays
+stays_is_users change files path left stays = by_entry (old_file_entry change path) refl stays
   where
-    by_file : (entry : Plain) → old_entry change path ≡ Some entry → is_protected_path path ≡ true → (found : Option (List ℕ)) → files path ≡ found → is_present_and_modified_from_entry entry found ≡ true → (bytes : List ℕ) × IsModifiedConfigFile change files path bytes
+    by_file : (entry : Plain) → old_file_entry change path ≡ Some entry → is_protected_path path ≡ true → (found : Option (List ℕ)) → files path ≡ found → is_present_and_modified_from_entry entry found ≡ true → (bytes : List ℕ) × IsModifiedConfigFile change files path bytes
     by_file entry listed guarded None present changed = absurd (true≢false (sym changed))
     by_file entry listed guarded (Some bytes) present changed = (
       bytes,
@@ -34,7 +34,7 @@ stays_is_users change files path left stays = by_entry (old_entry change path) r
       },
     )
 
-    by_entry : (o : Option Plain) → old_entry change path ≡ o → is_modified_config_to_keep change path (files path) o ≡ true → ((bytes : List ℕ) × IsModifiedConfigFile change files path bytes) × (change.purge ≡ false)
+    by_entry : (o : Option Plain) → old_file_entry change path ≡ o → is_modified_config_to_keep change path (files path) o ≡ true → ((bytes : List ℕ) × IsModifiedConfigFile change files path bytes) × (change.purge ≡ false)
     by_entry None listed stays = absurd (true≢false (sym stays))
     by_entry (Some entry) listed stays =
         let (guarded, behind) = and_parts (is_protected_path path) (not change.purge && is_present_and_modified_from_entry entry (files path)) stays in
@@ -44,10 +44,10 @@ stays_is_users change files path left stays = by_entry (old_entry change path) r
 pub left_over_goes : (change : FileChange) (files : Files) (path : List ℕ) → is_left_over_and_not_written change files path ≡ true → ((bytes : List ℕ) → IsModifiedConfigFile change files path bytes → ⊥) ⊎ (change.purge ≡ true)
     → is_removed change files path ≡ true
 unfolding is_removed
-left_over_goes change files path left free = by_test (is_modified_config_to_keep change path (files path) (old_entry change path)) refl
+left_over_goes change files path left free = by_test (is_modified_config_to_keep change path (files path) (old_file_entry change path)) refl
   where
-    by_test : (b : Bool) → is_modified_config_to_keep change path (files path) (old_entry change path) ≡ b → (is_left_over_and_not_written change files path && not (is_modified_config_to_keep change path (files path) (old_entry change path))) ≡ true
-    by_test false gone = and_from (is_left_over_and_not_written change files path) (not (is_modified_config_to_keep change path (files path) (old_entry change path))) left (not_from_false (is_modified_config_to_keep change path (files path) (old_entry change path)) gone)
+    by_test : (b : Bool) → is_modified_config_to_keep change path (files path) (old_file_entry change path) ≡ b → (is_left_over_and_not_written change files path && not (is_modified_config_to_keep change path (files path) (old_file_entry change path))) ≡ true
+    by_test false gone = and_from (is_left_over_and_not_written change files path) (not (is_modified_config_to_keep change path (files path) (old_file_entry change path))) left (not_from_false (is_modified_config_to_keep change path (files path) (old_file_entry change path)) gone)
     by_test true stays =
         let (own, unpurged) = stays_is_users change files path (left_over_is change files path left) stays in
         absurd (elim free [ inl nobodys ↦ nobodys own.0 own.1 | inr purged ↦ true≢false (sym purged ∙ unpurged) ])

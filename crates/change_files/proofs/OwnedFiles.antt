@@ -13,7 +13,7 @@ use Rattle.file_owners.specs.db_core.Members.{Listing, Member, listings_of_path,
 use Rattle.file_owners.specs.Owners.{owner_of_path}
 use Rattle.file_guard.specs.AsListed.{is_as_listed}
 use Rattle.change_files.specs.Fate.{AddedFileFate, agrees_with_old_entry, apk_new_name, fate_if_user_modified_file, fate_with_file_found, fate_of, gives_way, goes_aside, goes_in, is_as_old_entry_lists, is_protected_path}
-use Rattle.change_files.specs.FileChange.{FileChange, added_owner_listing, if_member_added, is_listed_after_change, old_entry, old_listings, owner_listing}
+use Rattle.change_files.specs.FileChange.{FileChange, added_owner_listing, if_member_added, is_listed_after_change, old_file_entry, old_listings, owner_listing}
 use Rattle.change_files.specs.FilesAfter.{if_written_as_apk_new, if_written_in_place, listing_written_as_apk_new_beside, path_of_apk_new_name, listing_written_under_name, listing_written_in_place}
 use Rattle.std.specs.Option.{option_or}
 use Rattle.change_files.specs.NamesAfter.{added_paths}
@@ -75,8 +75,8 @@ in_coming_paths change path l e =
 
 -- ---- what was listed before
 
-pub in_old_paths : (change : FileChange) (path : List ℕ) → is_some (old_entry change path) ≡ true → IsIn path (map (λ l. l.path) (old_listings change))
-unfolding old_entry
+pub in_old_paths : (change : FileChange) (path : List ℕ) → is_some (old_file_entry change path) ≡ true → IsIn path (map (λ l. l.path) (old_listings change))
+unfolding old_file_entry
 in_old_paths change path listed = by_found (find (λ l. bytes_eq l.path path) (old_listings change)) refl listed
   where
     by_found : (o : Option Listing) → find (λ l. bytes_eq l.path path) (old_listings change) ≡ o → is_some (option_map (λ l. l.entry) o) ≡ true → IsIn path (map (λ l. l.path) (old_listings change))
@@ -114,7 +114,7 @@ aside_found change files path l e = only_aside (added_owner_listing change path)
 
 -- beside a file nothing is laid under a name that a package lists
 free_beside : (change : FileChange) (path : List ℕ) (entry : Plain) → fate_if_user_modified_file change path entry ≡ goes_aside → is_listed_after_change change (apk_new_name path) ≡ false
-free_beside change path entry e = by_tests (not (agrees_with_old_entry (old_entry change path) entry)) (nat_le (length (apk_new_name path)) 1024) (is_listed_after_change change (apk_new_name path)) e
+free_beside change path entry e = by_tests (not (agrees_with_old_entry (old_file_entry change path) entry)) (nat_le (length (apk_new_name path)) 1024) (is_listed_after_change change (apk_new_name path)) e
   where
     by_tests : (a b claimed : Bool) → (if a && (b && not claimed) then goes_aside else gives_way) ≡ goes_aside → claimed ≡ false
     by_tests a b false e = refl
@@ -124,7 +124,7 @@ free_beside change path entry e = by_tests (not (agrees_with_old_entry (old_entr
 
 free_by : (change : FileChange) (path : List ℕ) (entry : Plain) (found : Option (List ℕ)) → fate_with_file_found change path entry found ≡ goes_aside → is_listed_after_change change (apk_new_name path) ≡ false
 free_by change path entry None e = absurd (cc)
-free_by change path entry (Some bytes) e = by_test (not (is_protected_path path) || (is_as_listed entry bytes || is_as_old_entry_lists (old_entry change path) bytes)) e
+free_by change path entry (Some bytes) e = by_test (not (is_protected_path path) || (is_as_listed entry bytes || is_as_old_entry_lists (old_file_entry change path) bytes)) e
   where
     by_test : (b : Bool) → (if b then goes_in else fate_if_user_modified_file change path entry) ≡ goes_aside → is_listed_after_change change (apk_new_name path) ≡ false
     by_test true e = absurd (cc)

@@ -4,7 +4,7 @@ use Rattle.std.specs.Prelude.{option_map}
 use Rattle.std.specs.List.{cons_option, filter, filter_map, list_any}
 use Rattle.std.specs.Str.{bytes_eq}
 use Rattle.base_core.specs.Files.{Files}
-use Rattle.base_core.specs.Listed.{AreSortedDistinctNames}
+use Rattle.base_core.specs.Listed.{AreSortedDistinctTexts}
 use Rattle.base_core.proofs.Rising.{IsIn, contains_from_in, in_from_contains, pairs_from_rises}
 use Rattle.file_owners.specs.db_core.Members.{Listing}
 use Rattle.change_files.specs.Fate.{apk_new_name}
@@ -74,9 +74,9 @@ pub writes_names : (change : FileChange) (files : Files) → map (λ w. w.name) 
 unfolding file_writes_of
 writes_names change files = names_written (listing_written_under_name change files) (written_names change)
 
-pub writes_rise : (change : FileChange) (files : Files) → AreSortedDistinctNames (map (λ w. w.name) (file_writes_of change files))
+pub writes_rise : (change : FileChange) (files : Files) → AreSortedDistinctTexts (map (λ w. w.name) (file_writes_of change files))
 writes_rise change files =
-    subst AreSortedDistinctNames (sym (writes_names change files))
+    subst AreSortedDistinctTexts (sym (writes_names change files))
     (pairs_from_rises _ (filter_rises (is_listing_written_under_name change files) (written_names change) (order_rises (added_paths change.members ++ map apk_new_name (added_paths change.members)))))
 
 pub writes_hold : (change : FileChange) (files : Files) (name : List ℕ) → Contains (map (λ w. w.name) (file_writes_of change files)) name ↔ (is_listing_written_under_name change files name ≡ true)
@@ -111,7 +111,7 @@ holds_just p names all q = (
   λ passes. contains_from_in _ q (in_filter p (sorted_distinct_names names) q (in_order q names (all q passes)) passes),
 )
 
-rises_just : (p : List ℕ → Bool) (names : List (List ℕ)) → AreSortedDistinctNames (filter p (sorted_distinct_names names))
+rises_just : (p : List ℕ → Bool) (names : List (List ℕ)) → AreSortedDistinctTexts (filter p (sorted_distinct_names names))
 rises_just p names = pairs_from_rises _ (filter_rises p (sorted_distinct_names names) (order_rises names))
 
 pub removals_hold : (change : FileChange) (files : Files) (path : List ℕ) → Contains (removals_of change files) path ↔ (is_removed change files path ≡ true)
@@ -119,7 +119,7 @@ unfolding removals_of
 removals_hold change files path =
     holds_just (is_removed change files) (old_paths change) (λ q removed. in_old_paths change q ((removed_is change files q removed).0).listed) path
 
-pub removals_rise : (change : FileChange) (files : Files) → AreSortedDistinctNames (removals_of change files)
+pub removals_rise : (change : FileChange) (files : Files) → AreSortedDistinctTexts (removals_of change files)
 unfolding removals_of
 removals_rise change files = rises_just (is_removed change files) (old_paths change)
 
@@ -127,7 +127,7 @@ pub kept_hold : (change : FileChange) (files : Files) (path : List ℕ) → Cont
 unfolding kept_left_over_paths_of
 kept_hold change files path = holds_just (is_left_over_modified_file_kept change files) (old_paths change) (λ q kept. in_old_paths change q ((kept_is change files q kept).0).listed) path
 
-pub kept_rise : (change : FileChange) (files : Files) → AreSortedDistinctNames (kept_left_over_paths_of change files)
+pub kept_rise : (change : FileChange) (files : Files) → AreSortedDistinctTexts (kept_left_over_paths_of change files)
 unfolding kept_left_over_paths_of
 kept_rise change files = rises_just (is_left_over_modified_file_kept change files) (old_paths change)
 
@@ -137,7 +137,7 @@ aside_hold change files path =
     holds_just (λ path. is_some (listing_written_as_apk_new_beside change files path)) (added_paths change.members)
     (λ q laid. (let found = some_listing (listing_written_as_apk_new_beside change files q) laid in in_coming_paths change q found.0 ((aside_found change files q found.0 found.1).0))) path
 
-pub aside_rise : (change : FileChange) (files : Files) → AreSortedDistinctNames (paths_with_apk_new_file change files)
+pub aside_rise : (change : FileChange) (files : Files) → AreSortedDistinctTexts (paths_with_apk_new_file change files)
 unfolding paths_with_apk_new_file
 aside_rise change files = rises_just (λ path. is_some (listing_written_as_apk_new_beside change files path)) (added_paths change.members)
 

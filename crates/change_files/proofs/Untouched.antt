@@ -8,7 +8,7 @@ use Rattle.base_core.specs.Files.{Files}
 use Rattle.file_owners.specs.db_core.Members.{Listing, is_added}
 use Rattle.file_guard.specs.AsListed.{is_as_listed}
 use Rattle.change_files.specs.Fate.{agrees_with_old_entry, apk_new_name, fate_if_user_modified_file, fate_with_file_found, fate_of, gives_way, goes_aside, goes_in, is_as_old_entry_lists, is_protected_path}
-use Rattle.change_files.specs.FileChange.{FileChange, added_owner_listing, is_listed_after_change, old_entry, owner_listing, was_listed}
+use Rattle.change_files.specs.FileChange.{FileChange, added_owner_listing, is_listed_after_change, old_file_entry, owner_listing, was_listed}
 use Rattle.change_files.specs.FilesAfter.{DatabaseAndWorldAfter, bytes_after_write_or_removal, files_after_change, database_name, if_written_in_place, is_present_and_modified_from_entry, is_left_over_modified_file_kept, is_left_over_and_not_written, is_removed, is_listing_written_under_name, listing_written_as_apk_new_beside, is_modified_config_to_keep, path_of_apk_new_name, text_database_name, new_world_bytes_unless_empty_and_absent, world_name, listing_written_under_name, listing_written_in_place}
 use Rattle.change_files.specs.NamesAfter.{added_paths}
 use Rattle.change_files.specs.Touched.{IsModifiedConfigFile, is_name_of_written_apk_new_file, is_added_path, is_old_or_new_database_or_world_name}
@@ -44,7 +44,7 @@ claimed_not_left change files path claimed =
 
 removed_left : (change : FileChange) (files : Files) (path : List ℕ) → is_left_over_and_not_written change files path ≡ false → is_removed change files path ≡ false
 unfolding is_removed
-removed_left change files path e = and_left (is_left_over_and_not_written change files path) (not (is_modified_config_to_keep change path (files path) (old_entry change path))) e
+removed_left change files path e = and_left (is_left_over_and_not_written change files path) (not (is_modified_config_to_keep change path (files path) (old_file_entry change path))) e
 
 never_listed : (change : FileChange) (files : Files) (name : List ℕ) → was_listed change name ≡ false → is_removed change files name ≡ false
 never_listed change files name never =
@@ -62,16 +62,16 @@ left_over_is change files path e =
     let (unclaimed, unwritten) = and_parts (not (is_listed_after_change change path)) (not (is_listing_written_under_name change files path)) behind in
     record { listed = listed; unclaimed = not-true (is_listed_after_change change path) unclaimed; unwritten = not-true (is_listing_written_under_name change files path) unwritten }
 
-pub removed_is : (change : FileChange) (files : Files) (path : List ℕ) → is_removed change files path ≡ true → IsLeftOver change files path × (is_modified_config_to_keep change path (files path) (old_entry change path) ≡ false)
+pub removed_is : (change : FileChange) (files : Files) (path : List ℕ) → is_removed change files path ≡ true → IsLeftOver change files path × (is_modified_config_to_keep change path (files path) (old_file_entry change path) ≡ false)
 unfolding is_removed
 removed_is change files path e =
-    let (left, gone) = and_parts (is_left_over_and_not_written change files path) (not (is_modified_config_to_keep change path (files path) (old_entry change path))) e in
-    (left_over_is change files path left, not-true (is_modified_config_to_keep change path (files path) (old_entry change path)) gone)
+    let (left, gone) = and_parts (is_left_over_and_not_written change files path) (not (is_modified_config_to_keep change path (files path) (old_file_entry change path))) e in
+    (left_over_is change files path left, not-true (is_modified_config_to_keep change path (files path) (old_file_entry change path)) gone)
 
-pub kept_is : (change : FileChange) (files : Files) (path : List ℕ) → is_left_over_modified_file_kept change files path ≡ true → IsLeftOver change files path × (is_modified_config_to_keep change path (files path) (old_entry change path) ≡ true)
+pub kept_is : (change : FileChange) (files : Files) (path : List ℕ) → is_left_over_modified_file_kept change files path ≡ true → IsLeftOver change files path × (is_modified_config_to_keep change path (files path) (old_file_entry change path) ≡ true)
 unfolding is_left_over_modified_file_kept
 kept_is change files path e =
-    let (left, stays) = and_parts (is_left_over_and_not_written change files path) (is_modified_config_to_keep change path (files path) (old_entry change path)) e in
+    let (left, stays) = and_parts (is_left_over_and_not_written change files path) (is_modified_config_to_keep change path (files path) (old_file_entry change path)) e in
     (left_over_is change files path left, stays)
 
 pub not_some : (o : Option Listing) → is_some o ≡ false → o ≡ None
@@ -94,11 +94,11 @@ is_gone change bytes_of records files name gone other =
     ∙ (ap (λ (o : Option Listing). bytes_after_write_or_removal bytes_of o (is_removed change files name) (files name)) (not_some (listing_written_under_name change files name) left.unwritten)
     ∙ ap (λ (b : Bool). bytes_after_write_or_removal bytes_of None b (files name)) gone)
 
-may_stay_unremoved : (change : FileChange) (files : Files) (name : List ℕ) → is_modified_config_to_keep change name (files name) (old_entry change name) ≡ true → is_removed change files name ≡ false
+may_stay_unremoved : (change : FileChange) (files : Files) (name : List ℕ) → is_modified_config_to_keep change name (files name) (old_file_entry change name) ≡ true → is_removed change files name ≡ false
 unfolding is_removed
 may_stay_unremoved change files name stays =
-    and_right (is_left_over_and_not_written change files name) (not (is_modified_config_to_keep change name (files name) (old_entry change name)))
-    (not_from_true (is_modified_config_to_keep change name (files name) (old_entry change name)) stays)
+    and_right (is_left_over_and_not_written change files name) (not (is_modified_config_to_keep change name (files name) (old_file_entry change name)))
+    (not_from_true (is_modified_config_to_keep change name (files name) (old_file_entry change name)) stays)
 
 pub is_spared : (change : FileChange) (bytes_of : Listing → List ℕ) (records : DatabaseAndWorldAfter) (files : Files) (name : List ℕ) → is_left_over_modified_file_kept change files name ≡ true → is_old_or_new_database_or_world_name records name ≡ false
     → files_after_change change bytes_of records files name ≡ files name
@@ -141,8 +141,8 @@ stays_as_it_is change bytes_of records files path l owner stays other =
 
 -- ---- configuration that the user changed
 
-unlike_old : (change : FileChange) (path bytes : List ℕ) → ((entry : Plain) → old_entry change path ≡ Some entry → is_as_listed entry bytes ≡ false) → is_as_old_entry_lists (old_entry change path) bytes ≡ false
-unlike_old change path bytes differs = by_entry (old_entry change path) differs
+unlike_old : (change : FileChange) (path bytes : List ℕ) → ((entry : Plain) → old_file_entry change path ≡ Some entry → is_as_listed entry bytes ≡ false) → is_as_old_entry_lists (old_file_entry change path) bytes ≡ false
+unlike_old change path bytes differs = by_entry (old_file_entry change path) differs
   where
     by_entry : (o : Option Plain) → ((entry : Plain) → o ≡ Some entry → is_as_listed entry bytes ≡ false) → is_as_old_entry_lists o bytes ≡ false
     by_entry None differs = refl
@@ -152,9 +152,9 @@ pub users_fate : (change : FileChange) (files : Files) (path bytes : List ℕ) (
 unfolding fate_of
 users_fate change files path bytes l own comes =
     let (owner, coming) = coming_is change path l comes in
-    let test : (not (is_protected_path path) || (is_as_listed l.entry bytes || is_as_old_entry_lists (old_entry change path) bytes)) ≡ false =
-    or_from (not (is_protected_path path)) (is_as_listed l.entry bytes || is_as_old_entry_lists (old_entry change path) bytes) (not_from_true (is_protected_path path) own.guarded)
-    (or_from (is_as_listed l.entry bytes) (is_as_old_entry_lists (old_entry change path) bytes) (own.unlike_new l comes) (unlike_old change path bytes own.unlike_old)) in
+    let test : (not (is_protected_path path) || (is_as_listed l.entry bytes || is_as_old_entry_lists (old_file_entry change path) bytes)) ≡ false =
+    or_from (not (is_protected_path path)) (is_as_listed l.entry bytes || is_as_old_entry_lists (old_file_entry change path) bytes) (not_from_true (is_protected_path path) own.guarded)
+    (or_from (is_as_listed l.entry bytes) (is_as_old_entry_lists (old_file_entry change path) bytes) (own.unlike_new l comes) (unlike_old change path bytes own.unlike_old)) in
     ap (λ (q : List ℕ). fate_with_file_found change q l.entry (files q)) owner.of_path
     ∙ (ap (fate_with_file_found change path l.entry) own.present
     ∙ ap (λ (b : Bool). if b then goes_in else fate_if_user_modified_file change path l.entry) test)
@@ -171,20 +171,20 @@ users_file_not_taken change files path bytes own = by_owner (added_owner_listing
     by_owner (Some l) comes =
         ap (option_and_then (λ l. if_written_in_place l (fate_of change files l))) comes
         ∙ (ap (if_written_in_place l) (users_fate change files path bytes l own comes)
-        ∙ never_in l (not (agrees_with_old_entry (old_entry change path) l.entry) && (nat_le (length (apk_new_name path)) 1024 && not (is_listed_after_change change (apk_new_name path)))))
+        ∙ never_in l (not (agrees_with_old_entry (old_file_entry change path) l.entry) && (nat_le (length (apk_new_name path)) 1024 && not (is_listed_after_change change (apk_new_name path)))))
 
 users_file_stays : (change : FileChange) (files : Files) (path bytes : List ℕ) → (change.purge ≡ false) ⊎ (is_listed_after_change change path ≡ true) → IsModifiedConfigFile change files path bytes → is_removed change files path ≡ false
 users_file_stays change files path bytes (inr claimed) own = removed_left change files path (claimed_not_left change files path claimed)
-users_file_stays change files path bytes (inl no_purge) own = by_entry (old_entry change path) refl
+users_file_stays change files path bytes (inl no_purge) own = by_entry (old_file_entry change path) refl
   where
-    by_entry : (o : Option Plain) → old_entry change path ≡ o → is_removed change files path ≡ false
+    by_entry : (o : Option Plain) → old_file_entry change path ≡ o → is_removed change files path ≡ false
     by_entry None e = never_listed change files path (ap is_some e)
     by_entry (Some entry) e =
         let stays : (is_protected_path path && (not change.purge && is_present_and_modified_from_entry entry (Some bytes))) ≡ true =
         and_from (is_protected_path path) (not change.purge && is_present_and_modified_from_entry entry (Some bytes)) own.guarded
         (and_from (not change.purge) (is_present_and_modified_from_entry entry (Some bytes)) (not_from_false change.purge no_purge) (not_from_false (is_as_listed entry bytes) (own.unlike_old entry e))) in
         may_stay_unremoved change files path
-        (ap (λ (found : Option (List ℕ)). is_modified_config_to_keep change path found (old_entry change path)) own.present
+        (ap (λ (found : Option (List ℕ)). is_modified_config_to_keep change path found (old_file_entry change path)) own.present
         ∙ (ap (is_modified_config_to_keep change path (Some bytes)) e ∙ stays))
 
 pub users_file_is_spared : (change : FileChange) (bytes_of : Listing → List ℕ) (records : DatabaseAndWorldAfter) (files : Files) (path bytes : List ℕ) → (change.purge ≡ false) ⊎ (is_listed_after_change change path ≡ true) → IsModifiedConfigFile change files path bytes → is_name_of_written_apk_new_file change files path ≡ false → is_old_or_new_database_or_world_name records path ≡ false

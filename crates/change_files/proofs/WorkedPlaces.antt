@@ -7,7 +7,7 @@ use Rattle.file_owners.specs.path_claims.Contest.{member_beating_all_others}
 use Rattle.file_guard.specs.pkg_core.Contents.{Contents}
 use Rattle.file_owners.specs.Owners.{claims_in, owner_of_path}
 use Rattle.change_files.specs.Fate.{fate_of}
-use Rattle.change_files.specs.FileChange.{FileChange, is_listed_after_change, old_entry, old_listings, owner_listing}
+use Rattle.change_files.specs.FileChange.{FileChange, is_listed_after_change, old_file_entry, old_listings, owner_listing}
 use Rattle.change_files.specs.FilesAfter.{listing_bytes, listing_written_under_name}
 use Rattle.change_files.specs.PlanLists.{file_writes_of, sorted_distinct_names}
 use Rattle.file_guard.proofs.Sample.{link, plain_file}
@@ -22,7 +22,7 @@ comes = record { old = []; members = member_of_added two [] ∷ []; purge = fals
 -- ---- where a plan finds the files
 
 two_writes : file_writes_of comes no_names ≡ record { name = codes "a/x"; member = 0; folder = 1; file = 1 } ∷ record { name = codes "a/y"; member = 0; folder = 1; file = 2 } ∷ []
-unfolding listings_of_members listings_of_path owner_of_path claims_in member_beating_all_others old_listings old_entry is_listed_after_change owner_listing fate_of listing_written_under_name sorted_distinct_names file_writes_of
+unfolding listings_of_members listings_of_path owner_of_path claims_in member_beating_all_others old_listings old_file_entry is_listed_after_change owner_listing fate_of listing_written_under_name sorted_distinct_names file_writes_of
 two_writes = refl
 
 -- ---- what they have

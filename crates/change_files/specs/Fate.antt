@@ -6,7 +6,7 @@ use Rattle.adb_view.specs.Plain.{Plain}
 use Rattle.base_core.specs.Files.{Files}
 use Rattle.file_owners.specs.db_core.Members.{Listing}
 use Rattle.file_guard.specs.AsListed.{are_sizes_hashes_targets_equal, is_as_listed}
-use Rattle.change_files.specs.FileChange.{FileChange, is_listed_after_change, old_entry}
+use Rattle.change_files.specs.FileChange.{FileChange, is_listed_after_change, old_file_entry}
 
 -- whether a path is a protected configuration file, which the user may change: it is below `etc/`
 abbrev pub is_protected_path : List ℕ → Bool
@@ -48,7 +48,7 @@ most_name_bytes = 1024
 -- the name is not too long. Otherwise it is not written.
 abbrev pub fate_if_user_modified_file : FileChange → List ℕ → Plain → AddedFileFate
 fate_if_user_modified_file change path entry =
-    if not (agrees_with_old_entry (old_entry change path) entry)
+    if not (agrees_with_old_entry (old_file_entry change path) entry)
     && (nat_le (length (apk_new_name path)) most_name_bytes
     && not (is_listed_after_change change (apk_new_name path)))
     then goes_aside else gives_way
@@ -59,7 +59,7 @@ abbrev pub fate_with_file_found : FileChange → List ℕ → Plain → Option (
 fate_with_file_found change path entry None = goes_in
 fate_with_file_found change path entry (Some bytes) =
     if not (is_protected_path path)
-    || (is_as_listed entry bytes || is_as_old_entry_lists (old_entry change path) bytes)
+    || (is_as_listed entry bytes || is_as_old_entry_lists (old_file_entry change path) bytes)
     then goes_in else fate_if_user_modified_file change path entry
 
 -- the fate of the listed file `l`, whose member is added and owns its path; `files` are those before the change

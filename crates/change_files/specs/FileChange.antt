@@ -22,13 +22,13 @@ unfoldable pub old_listings : FileChange → List Listing
 old_listings change = listings_of_members (map member_of_kept change.old)
 
 -- the entry for the path in the packages before the change, of which at most one lists the path
-unfoldable pub old_entry : FileChange → List ℕ → Option Plain
-old_entry change path =
+unfoldable pub old_file_entry : FileChange → List ℕ → Option Plain
+old_file_entry change path =
     option_map (λ l. l.entry) (find (λ l. bytes_eq l.path path) (old_listings change))
 
 -- whether a package before the change lists the path
 abbrev pub was_listed : FileChange → List ℕ → Bool
-was_listed change path = is_some (old_entry change path)
+was_listed change path = is_some (old_file_entry change path)
 
 -- ---- the packages after the change
 

@@ -10,7 +10,7 @@ use Rattle.file_guard.specs.pkg_core.Contents as Packages
 use Rattle.file_guard.specs.AsListed.{has_target, is_as_listed, link_file_bytes_of_entry}
 pub use Rattle.root_names.specs.RootNames.{database_name, text_database_name, world_name}
 use Rattle.change_files.specs.Fate.{AddedFileFate, apk_new_ending, fate_of, gives_way, goes_aside, goes_in, is_protected_path}
-use Rattle.change_files.specs.FileChange.{FileChange, added_owner_listing, is_listed_after_change, old_entry, was_listed}
+use Rattle.change_files.specs.FileChange.{FileChange, added_owner_listing, is_listed_after_change, old_file_entry, was_listed}
 
 -- ---- what is written
 
@@ -81,13 +81,13 @@ is_left_over_and_not_written change files path =
 unfoldable pub is_left_over_modified_file_kept : FileChange → Files → List ℕ → Bool
 is_left_over_modified_file_kept change files path =
     is_left_over_and_not_written change files path
-    && is_modified_config_to_keep change path (files path) (old_entry change path)
+    && is_modified_config_to_keep change path (files path) (old_file_entry change path)
 
 -- whether the change removes the file at the path, if there is one; `files` are those before the change
 unfoldable pub is_removed : FileChange → Files → List ℕ → Bool
 is_removed change files path =
     is_left_over_and_not_written change files path
-    && not (is_modified_config_to_keep change path (files path) (old_entry change path))
+    && not (is_modified_config_to_keep change path (files path) (old_file_entry change path))
 
 -- ---- the bytes of an added file
 

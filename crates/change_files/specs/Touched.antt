@@ -8,7 +8,7 @@ use Rattle.file_owners.specs.db_core.Members.{Listing}
 use Rattle.adb_view.specs.Plain.{Plain}
 use Rattle.file_guard.specs.AsListed.{are_sizes_hashes_targets_equal, is_as_listed}
 use Rattle.change_files.specs.Fate.{is_protected_path}
-use Rattle.change_files.specs.FileChange.{FileChange, added_owner_listing, old_entry}
+use Rattle.change_files.specs.FileChange.{FileChange, added_owner_listing, old_file_entry}
 use Rattle.change_files.specs.FilesAfter.{DatabaseAndWorldAfter, database_name, listing_written_as_apk_new_beside, path_of_apk_new_name, text_database_name, world_name, listing_written_under_name}
 use Rattle.change_files.specs.NamesAfter.{added_paths}
 use Rattle.change_files.specs.PlanLists.{FileWrite, file_write_under_name}
@@ -39,13 +39,13 @@ pub record IsModifiedConfigFile (change : FileChange) (files : Files) (path byte
   pub unlike_new : (l : Listing) → added_owner_listing change path ≡ Some l
       → is_as_listed l.entry bytes ≡ false
   -- if a package listed the path before, its entry does not describe these bytes
-  pub unlike_old : (entry : Plain) → old_entry change path ≡ Some entry
+  pub unlike_old : (entry : Plain) → old_file_entry change path ≡ Some entry
       → is_as_listed entry bytes ≡ false
 
 -- if a package listed the path before the change, its entry describes other bytes than the given entry
 abbrev pub DiffersFromOldEntryIfAny : FileChange → List ℕ → Plain → Type 0
 DiffersFromOldEntryIfAny change path entry =
-    (old : Plain) → old_entry change path ≡ Some old → are_sizes_hashes_targets_equal old entry ≡ false
+    (old : Plain) → old_file_entry change path ≡ Some old → are_sizes_hashes_targets_equal old entry ≡ false
 
 -- the write is one of the change: a listed file is written under its name, and it has the contents of this file
 pub record IsPlannedWrite (change : FileChange) (files : Files) (write : FileWrite) : Type 0 where

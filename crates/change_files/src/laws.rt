@@ -5,14 +5,14 @@ ghost use Rattle.std.specs.Prelude.{◌≡◌, ◌≢◌, ◌⊎◌, ◌↔◌, 
 ghost use Rattle.file_guard.specs.adb_schema.Reserved.{is_reserved};
 ghost use Rattle.file_guard.specs.adb_schema.Texts.{is_file_with_contents};
 ghost use Rattle.base_core.specs.Files.{Files};
-ghost use Rattle.base_core.specs.Listed.{AreSortedDistinctNames};
+ghost use Rattle.base_core.specs.Listed.{AreSortedDistinctTexts};
 ghost use Rattle.base_core.specs.Name.{IsName};
 ghost use Rattle.file_owners.specs.db_core.Members.{Listing, Member, is_added, listings_of_members};
 ghost use Rattle.file_guard.specs.AsListed.{has_target, is_as_listed};
 ghost use Rattle.file_owners.specs.Owners.{owner_of_path};
 ghost use Rattle.path_clashes.specs.Clash.{is_present_after_change};
 ghost use Rattle.file_guard.specs.pkg_core.Contents.{Contents, expected_files_of_package};
-ghost use Rattle.file_guard.specs.pkg_core.GoodContents.{AreContentsOfExpectedFiles, HaveValidDigestLengths};
+ghost use Rattle.file_guard.specs.pkg_core.GoodContents.{MatchEachExpectedSizeAndKnownDigest, HaveValidDigestLengths};
 ghost use Rattle.change_files.specs.Fate.{apk_new_name};
 ghost use Rattle.change_files.specs.FileChange.{FileChange, added_owner_listing, is_listed_after_change, old_listings, owner_listing, was_listed};
 ghost use Rattle.change_files.specs.FilesAfter.{DatabaseAndWorldAfter, files_after_change, database_name, is_left_over_modified_file_kept, is_left_over_and_not_written, is_removed, is_listing_written_under_name, listing_written_as_apk_new_beside, listing_bytes, text_database_name, world_name, listing_written_under_name};
@@ -83,7 +83,7 @@ pub fn the_files_of_an_added_package_are_as_listed()
     ensures { (contents : ℕ → List Contents) (members : List Member) (l : Listing)
         → Contains (listings_of_members members) l
         → HaveValidDigestLengths (expected_files_of_package l.member.pkg)
-        → AreContentsOfExpectedFiles (expected_files_of_package l.member.pkg) (contents l.place)
+        → MatchEachExpectedSizeAndKnownDigest (expected_files_of_package l.member.pkg) (contents l.place)
         → (is_file_with_contents l.entry ≡ false → has_target l.entry ≡ false
         → is_as_listed l.entry [] ≡ true)
         → is_as_listed l.entry (listing_bytes contents l) ≡ true }
@@ -298,16 +298,16 @@ pub fn the_lists_of_a_plan_hold_just_its_names()
 pub fn the_lists_of_a_plan_rise()
     // The writes are in byte order of their names, each name once.
     ensures writes { (change : FileChange) (files : Files)
-        → AreSortedDistinctNames (map (λ write. write.name) (file_writes_of change files)) }
+        → AreSortedDistinctTexts (map (λ write. write.name) (file_writes_of change files)) }
     // The removed paths are in byte order, each once.
     ensures removals { (change : FileChange) (files : Files)
-        → AreSortedDistinctNames (removals_of change files) }
+        → AreSortedDistinctTexts (removals_of change files) }
     // The kept paths are in byte order, each once.
     ensures kept { (change : FileChange) (files : Files)
-        → AreSortedDistinctNames (kept_left_over_paths_of change files) }
+        → AreSortedDistinctTexts (kept_left_over_paths_of change files) }
     // The paths beside which an `.apk-new` file is written are in byte order, each once.
     ensures aside { (change : FileChange) (files : Files)
-        → AreSortedDistinctNames (paths_with_apk_new_file change files) }
+        → AreSortedDistinctTexts (paths_with_apk_new_file change files) }
 {}
 
 /// A law: no name is both written and removed, and no kept path is written or removed.

@@ -15,8 +15,8 @@ use Rattle.command_core.specs.declared.operands.Operand.{Operand}
 use Rattle.command_core.proofs.Entries.{left_at}
 use Rattle.dep_core.specs.Dependency.{Dependency}
 use Rattle.dep_core.specs.DependencyText.{is_dependency}
-use Rattle.dep_core.specs.World.{IsWorld, is_in_order, world_with_dependency_set, world_without_name}
-use Rattle.dep_core.proofs.Worlds.{IsWorld-without, cmp-back, is_behind}
+use Rattle.dep_core.specs.World.{IsWorldSortedByName, is_in_order, world_with_dependency_put_in_name_order, world_without_name}
+use Rattle.dep_core.proofs.Worlds.{IsWorldSortedByName-without, cmp-back, is_behind}
 use Rattle.dep_core.proofs.WorldText.{behind-at}
 use Rattle.change_inputs.specs.World.{operand_texts, world_without_operands}
 use Rattle.change_inputs.specs.WorldRest.{world_without_names}
@@ -52,21 +52,21 @@ pub taken_out : (os : List Operand) (texts sorted : List (List ℕ)) (w rest : L
 taken_out os texts sorted w rest are same is =
     is ∙ without_sorted texts sorted w same ∙ ap (λ (names : List (List ℕ)). world_without_names names w) are ∙ without_operands os w
 
-rest_is_world : (names : List (List ℕ)) (w : List Dependency) → IsWorld w → IsWorld (world_without_names names w)
-rest_is_world [] w h = subst IsWorld (sym (without_none w)) h
+rest_is_world : (names : List (List ℕ)) (w : List Dependency) → IsWorldSortedByName w → IsWorldSortedByName (world_without_names names w)
+rest_is_world [] w h = subst IsWorldSortedByName (sym (without_none w)) h
 rest_is_world (name ∷ names) w h =
-    subst IsWorld (without_one_more name names w) (rest_is_world names (world_without_name name w) (IsWorld-without name w h))
+    subst IsWorldSortedByName (without_one_more name names w) (rest_is_world names (world_without_name name w) (IsWorldSortedByName-without name w h))
 
 -- ---- entry by entry
 
 -- the entry that is after all others is inserted at the end
-last_entry : (w : List Dependency) (d : Dependency) (rest : List Dependency) → is_in_order (w ++ (d ∷ rest)) ≡ true → world_with_dependency_set d w ≡ w ++ (d ∷ [])
+last_entry : (w : List Dependency) (d : Dependency) (rest : List Dependency) → is_in_order (w ++ (d ∷ rest)) ≡ true → world_with_dependency_put_in_name_order d w ≡ w ++ (d ∷ [])
 last_entry [] d rest h = refl
 last_entry (e ∷ w) d rest h =
     let parts : (list_all (is_behind e.name) (w ++ (d ∷ rest)) ≡ true) × (is_in_order (w ++ (d ∷ rest)) ≡ true) =
     and_parts (list_all (is_behind e.name) (w ++ (d ∷ rest))) (is_in_order (w ++ (d ∷ rest))) h in
     let before : bytes_cmp e.name d.name ≡ Less = is_less (bytes_cmp e.name d.name) (behind-at (is_behind e.name) w d rest parts.0) in
-    ap (λ o. match_ordering o (d ∷ (e ∷ w)) (d ∷ w) (e ∷ world_with_dependency_set d w)) (cmp-back e.name d.name Less before)
+    ap (λ o. match_ordering o (d ∷ (e ∷ w)) (d ∷ w) (e ∷ world_with_dependency_put_in_name_order d w)) (cmp-back e.name d.name Less before)
     ∙ ap (λ (ds : List Dependency). e ∷ ds) (last_entry w d rest parts.1)
 
 -- the entries found so far, and those that are still to be looked at
@@ -84,13 +84,13 @@ module _ (names : List (List ℕ)) (w : List Dependency) (i : ℕ) (rest : List 
   entry_removed d b at is found =
       sym (ap (λ (t : Bool). rest ++ cond (not t) (d ∷ world_without_names names (drop (i + 1) w)) (world_without_names names (drop (i + 1) w))) found) ∙ looked_at d b at is
 
-  pub entry_kept : (d : Dependency) (b : Bool) (more : List Dependency) → IsWorld w → slice_get w i ≡ Some d → b ≡ list_any (bytes_eq d.name) names → b ≡ false → more ≡ world_with_dependency_set d rest
+  pub entry_kept : (d : Dependency) (b : Bool) (more : List Dependency) → IsWorldSortedByName w → slice_get w i ≡ Some d → b ≡ list_any (bytes_eq d.name) names → b ≡ false → more ≡ world_with_dependency_put_in_name_order d rest
       → IsRestSoFar names w (i + 1) more
   entry_kept d b more is_world at is none added =
       let later : List Dependency = world_without_names names (drop (i + 1) w) in
       let all : rest ++ d ∷ later ≡ world_without_names names w =
       sym (ap (λ (t : Bool). rest ++ cond (not t) (d ∷ later) later) none) ∙ looked_at d b at is in
-      let whole : IsWorld (rest ++ d ∷ later) = subst IsWorld (sym all) (rest_is_world names w is_world) in
+      let whole : IsWorldSortedByName (rest ++ d ∷ later) = subst IsWorldSortedByName (sym all) (rest_is_world names w is_world) in
       ap (λ (l : List Dependency). l ++ later) (added ∙ last_entry rest d later (and_parts (list_all is_dependency (rest ++ d ∷ later)) (is_in_order (rest ++ d ∷ later)) whole).1)
       ∙ (append_assoc rest (d ∷ []) later ∙ all)
 

@@ -2,9 +2,9 @@
 -- `docs/commands.md`, "`add` and `del`" (part "What is read") and "A root of version 2"; a database's
 -- tests in `docs/formats.md`, "Tests of a container".
 use Rattle.std.specs.Prelude.{ℕ, Bool, true, false, List, [], Option, Some, None, Result, Ok, Err}
-use Rattle.db_core.specs.adb_fields.Repeated.{entries_at}
+use Rattle.db_core.specs.adb_fields.Repeated.{entries_of_field_at_index}
 use Rattle.db_core.specs.adb_schema.Soundness.{container_fault_except_contents, payload_in, root_value_of_payload}
-use Rattle.adb_view.specs.FieldIndexes.{IDB_PACKAGES}
+use Rattle.adb_view.specs.FieldIndexes.{IDB_PACKAGES_INDEX}
 use Rattle.adb_view.specs.declared.tables.Which.TheVariants.{Idb}
 use Rattle.adb_view.specs.Plain.{Plain}
 use Rattle.report_core.specs.declared.refusal.Refusal.{Refusal}
@@ -35,13 +35,13 @@ abbrev pub container_database : List ℕ → Result Database Refusal
 container_database file =
     unless_cause DatabaseBad (container_fault_except_contents Idb file)
     (database_of_packages_file_and_is_text
-    (entries_at IDB_PACKAGES (root_value_of_payload Idb (payload_in file))) (Some file) false)
+    (entries_of_field_at_index IDB_PACKAGES_INDEX (root_value_of_payload Idb (payload_in file))) (Some file) false)
 
 -- the database in the payload to which a text database was converted, or the refusal if it could not be converted
 abbrev pub payload_database : Result (List ℕ) V2Fault → Result Database Refusal
 payload_database (Ok payload) =
     Ok (database_of_packages_file_and_is_text
-    (entries_at IDB_PACKAGES (root_value_of_payload Idb payload)) None true)
+    (entries_of_field_at_index IDB_PACKAGES_INDEX (root_value_of_payload Idb payload)) None true)
 payload_database (Err (Bad cause)) = Err (DatabaseBad cause)
 payload_database (Err (TooLarge bytes values)) = Err (ResultTooLarge bytes values)
 -- never the case: *payload_of_text* never runs out of memory

@@ -1,8 +1,8 @@
 -- The values of definitions that the values of the program denote. Serves the contracts of `Loaded` and `Installed`.
 use Rattle.std.specs.Prelude.{true, false, List, [], Some, None, map}
-use Rattle.db_core.specs.adb_fields.Repeated.{entries_at}
+use Rattle.db_core.specs.adb_fields.Repeated.{entries_of_field_at_index}
 use Rattle.db_core.specs.adb_schema.Soundness.{payload_in, root_value_of_payload}
-use Rattle.adb_view.specs.FieldIndexes.{IDB_PACKAGES}
+use Rattle.adb_view.specs.FieldIndexes.{IDB_PACKAGES_INDEX}
 use Rattle.adb_view.specs.declared.tables.Which.TheVariants.{Idb}
 use Rattle.adb_view.specs.Plain.{Plain}
 use Rattle.change_inputs.specs.Database.{Database, database_of_packages_file_and_is_text}
@@ -20,11 +20,11 @@ use Rattle.change_inputs.specs.declared.root.TestedRoot.{TestedRoot}
 abbrev pub database_seen : DatabaseFile → Database
 database_seen (Container own) =
     database_of_packages_file_and_is_text
-    (entries_at IDB_PACKAGES (root_value_of_payload Idb (payload_in own.file.items)))
+    (entries_of_field_at_index IDB_PACKAGES_INDEX (root_value_of_payload Idb (payload_in own.file.items)))
     (Some own.file.items) false
 database_seen (Payload own) =
     database_of_packages_file_and_is_text
-    (entries_at IDB_PACKAGES (root_value_of_payload Idb own.payload.items)) None true
+    (entries_of_field_at_index IDB_PACKAGES_INDEX (root_value_of_payload Idb own.payload.items)) None true
 database_seen New = database_of_packages_file_and_is_text [] None false
 
 -- the database of an `Installed`, which was read alone, as contracts see it

@@ -7,7 +7,7 @@ use Rattle.command_core.specs.declared.command.Applet.TheVariants.{Add, Del}
 use Rattle.command_core.specs.declared.operands.Operand.{Operand}
 use Rattle.dep_core.specs.Dependency.{Dependency}
 use Rattle.dep_core.specs.Reading.{dependency_of}
-use Rattle.dep_core.specs.World.{world_with_dependency_set, world_without_name, world_of}
+use Rattle.dep_core.specs.World.{world_with_dependency_put_in_name_order, world_without_name, world_of}
 use Rattle.report_core.specs.declared.refusal.Refusal.{Refusal}
 use Rattle.report_core.specs.declared.refusal.Refusal.TheVariants.{WorldBad}
 use Rattle.change_inputs.specs.Chains.{with_error_as_refusal}
@@ -30,7 +30,7 @@ operand_texts operands = map (λ o. o.text) operands
 -- operand is no dependency
 abbrev pub world_with_operand : Operand → List Dependency → List Dependency
 world_with_operand o world =
-    option_map_or (λ d. world_with_dependency_set d world) (dependency_of o.text) world
+    option_map_or (λ d. world_with_dependency_put_in_name_order d world) (dependency_of o.text) world
 
 -- world after each operand of `add` is inserted; of two with one name the later one is kept
 abbrev pub world_with_operands : List Operand → List Dependency → List Dependency

@@ -13,7 +13,7 @@ use Rattle.package_changes.specs.change_files.NamesAfter.{added_paths, counts_as
 use Rattle.package_changes.proofs.change_files.InOrder.{in_left, in_map, in_right}
 use Rattle.package_changes.proofs.change_files.OwnedFiles.{aside_found, beside_is, in_coming_paths}
 use Rattle.db_write.specs.db_core.Members.{Listing}
-use Rattle.package_changes.specs.path_clashes.Clash.{IsClash, NameChange, NamePair, is_present_after_change, precedes_pair}
+use Rattle.package_changes.specs.path_clashes.Clash.{IsClash, NameChange, NamePair, is_present_after_change, is_pair_before_by_first_then_second_name}
 use Rattle.package_changes.specs.path_clashes.FirstClash.{IsFirstClashOrNone}
 use Rattle.package_changes.specs.path_clashes.NearName.{IsClashIfSome, IsNoEarlierClash}
 use Rattle.package_changes.proofs.path_clashes.PairOrder.{pairs_chain, pairs_one_way}
@@ -68,10 +68,10 @@ record FirstAmong (change : NameChange) (files : Files) (pairs : List NamePair) 
   is_one : IsClashIfSome change files found
   first : (other : NamePair) → IsAmongPairs other pairs → IsNoEarlierClash change files found other
 
-itself : (pair : NamePair) → precedes_pair pair pair ≡ false
-itself pair = by_test (precedes_pair pair pair) refl
+itself : (pair : NamePair) → is_pair_before_by_first_then_second_name pair pair ≡ false
+itself pair = by_test (is_pair_before_by_first_then_second_name pair pair) refl
   where
-    by_test : (b : Bool) → precedes_pair pair pair ≡ b → b ≡ false
+    by_test : (b : Bool) → is_pair_before_by_first_then_second_name pair pair ≡ b → b ≡ false
     by_test true e = sym e ∙ pairs_one_way pair pair e
     by_test false e = refl
 
@@ -91,18 +91,18 @@ one_more change files pair pairs clash None is_one first = record {
   found = Some pair;
   is_one = clash;
   first = λ other here. elim here [
-    | inl is ↦ λ c. subst (λ (x : NamePair). precedes_pair x pair ≡ false) (sym is) (itself pair)
+    | inl is ↦ λ c. subst (λ (x : NamePair). is_pair_before_by_first_then_second_name x pair ≡ false) (sym is) (itself pair)
     | inr more ↦ λ c. absurd (first other more c)
   ];
 }
-one_more change files pair pairs clash (Some f) is_one first = by_order (precedes_pair pair f) refl
+one_more change files pair pairs clash (Some f) is_one first = by_order (is_pair_before_by_first_then_second_name pair f) refl
   where
-    by_order : (b : Bool) → precedes_pair pair f ≡ b → FirstAmong change files (pair ∷ pairs)
+    by_order : (b : Bool) → is_pair_before_by_first_then_second_name pair f ≡ b → FirstAmong change files (pair ∷ pairs)
     by_order true e = record {
       found = Some pair;
       is_one = clash;
       first = λ other here. elim here [
-        | inl is ↦ λ c. subst (λ (x : NamePair). precedes_pair x pair ≡ false) (sym is) (itself pair)
+        | inl is ↦ λ c. subst (λ (x : NamePair). is_pair_before_by_first_then_second_name x pair ≡ false) (sym is) (itself pair)
         | inr more ↦ λ c. pairs_chain other f pair (first other more c) (pairs_one_way pair f e)
       ];
     }
@@ -110,7 +110,7 @@ one_more change files pair pairs clash (Some f) is_one first = by_order (precede
       found = Some f;
       is_one = is_one;
       first = λ other here. elim here [
-        | inl is ↦ λ c. subst (λ (x : NamePair). precedes_pair x f ≡ false) (sym is) e
+        | inl is ↦ λ c. subst (λ (x : NamePair). is_pair_before_by_first_then_second_name x f ≡ false) (sym is) e
         | inr more ↦ first other more
       ];
     }

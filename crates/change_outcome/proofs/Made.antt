@@ -1,6 +1,6 @@
 -- What is known of a change that nothing refuses.
 use Rattle.std.proofs.Common.{◌≡◌, ◌∙◌, ℕ, false, List, Option, Some, None, Result, Ok, Err, refl, sym, ap, subst}
-use Rattle.db_write.specs.adb_write.Canonical.{ByteAndValueCounts, overflow_of}
+use Rattle.db_write.specs.adb_write.Canonical.{ByteAndValueCounts, counts_at_first_overflow}
 use Rattle.base_core.specs.Files.{Files, HasOnlyNamesAmong}
 use Rattle.package_changes.specs.change_files.FileChange.{FileChange}
 use Rattle.package_changes.specs.change_files.NamesAfter.{name_change}
@@ -67,9 +67,9 @@ module _ (inputs : Inputs) (r : Replacement) (wishes : ChangeWishes) (read : Rea
       (and_then (unless_trigger_due wishes.no_scripts (touched_paths change files) change.members) (λ is_allowed. change_done_unless_too_large inputs r wishes found files)) done clashes.1 in
       let triggers = and_then_ok (unless_trigger_due wishes.no_scripts (touched_paths change files) change.members) (λ is_allowed. change_done_unless_too_large inputs r wishes found files) done contested.1 in
       let large = and_then_ok (or_result_too_large (database_of change.members (owned_flags_of change.members))) (λ database.
-      unless_overflow (overflow_of (value_of_intent (intent_of_change inputs change files (database_and_world_after_change inputs database))))
+      unless_overflow (counts_at_first_overflow (value_of_intent (intent_of_change inputs change files (database_and_world_after_change inputs database))))
       (change_done inputs r wishes found files (database_and_world_after_change inputs database))) done triggers.2 in
-      let over = overflow_ok (overflow_of (value_of_intent (intent_of_change inputs change files (database_and_world_after_change inputs large.0))))
+      let over = overflow_ok (counts_at_first_overflow (value_of_intent (intent_of_change inputs change files (database_and_world_after_change inputs large.0))))
       (change_done inputs r wishes found files (database_and_world_after_change inputs large.0)) done large.2 in
       record {
         found = found;

@@ -2,9 +2,9 @@
 -- parts "What is written", "What is reported" and "What is refused" (in this order).
 use Rattle.std.specs.Prelude.{◌≡◌, ℕ, ◌==◌, Bool, true, false, not, ◌||◌, List, [], ◌∷◌, ◌++◌, length, map, sum_by, Option, Some, None, Result, Ok, Err, bytes_eq, slice_get, unwrap_or}
 use Rattle.std.specs.Option.{option_map_or}
-use Rattle.adb_view.specs.FieldIndexes.{INFO_INSTALLED_SIZE, PACKAGE_INFO}
-use Rattle.adb_view.specs.Values.{entry_in, int_in}
-use Rattle.db_write.specs.adb_write.Canonical.{ByteAndValueCounts, overflow_of}
+use Rattle.adb_view.specs.FieldIndexes.{INFO_INSTALLED_SIZE_INDEX, PACKAGE_INFO_INDEX}
+use Rattle.adb_view.specs.Values.{entry_at_index, int_in}
+use Rattle.db_write.specs.adb_write.Canonical.{ByteAndValueCounts, counts_at_first_overflow}
 use Rattle.base_core.specs.Files.{Files}
 use Rattle.package_changes.specs.change_files.FileChange.{FileChange}
 use Rattle.package_changes.specs.change_files.FilesAfter.{DatabaseAndWorldAfter, files_after_change, listing_bytes}
@@ -137,7 +137,7 @@ has_actions actions = not (length actions.removals == 0) || not (length actions.
 
 -- the bytes that a package takes when it is installed, by its information
 abbrev pub member_installed_size : Member → ℕ
-member_installed_size m = int_in (entry_in (entry_in m.pkg PACKAGE_INFO) INFO_INSTALLED_SIZE)
+member_installed_size m = int_in (entry_at_index (entry_at_index m.pkg PACKAGE_INFO_INDEX) INFO_INSTALLED_SIZE_INDEX)
 
 -- the last line of a report: how many bytes and packages are installed
 abbrev pub member_sum_line : List Member → List ℕ
@@ -189,7 +189,7 @@ change_done_unless_too_large inputs r wishes found files =
     and_then (or_result_too_large (database_of change.members (owned_flags_of change.members))) (λ database.
     let records = database_and_world_after_change inputs database in
     let actions = intent_of_change inputs change files records in
-    unless_overflow (overflow_of (value_of_intent actions))
+    unless_overflow (counts_at_first_overflow (value_of_intent actions))
     (change_done inputs r wishes found files records))
 
 -- The result of a change, given the packages after it (`found`) and the first clash of its names, if there is one. The

@@ -1,7 +1,7 @@
 -- A change that is not refused. It serves the law `a_change_that_is_made_passes_each_test`; the tests
 -- are defined in `docs/commands.md`, "What a change does with files".
 use Rattle.std.specs.Prelude.{◌≡◌, ℕ, List, Option, None, Ok}
-use Rattle.db_write.specs.adb_write.Canonical.{overflow_of}
+use Rattle.db_write.specs.adb_write.Canonical.{counts_at_first_overflow}
 use Rattle.base_core.specs.Files.{Files}
 use Rattle.package_changes.specs.change_files.PlanLists.{first_reserved_added_path_in_byte_order}
 use Rattle.change_inputs.specs.Inputs.{Inputs}
@@ -36,6 +36,6 @@ pub record IsChangeMade (inputs : Inputs) (r : Replacement) (wishes : ChangeWish
   pub fits : (let actions =
       intent_of_change inputs (packages_before_and_after_with_purge inputs wishes found) files
       (database_and_world_after_change inputs database) in
-      overflow_of (value_of_intent actions) ≡ None)
+      counts_at_first_overflow (value_of_intent actions) ≡ None)
   -- `done` is the result of the change
   pub is : done ≡ change_done inputs r wishes found files (database_and_world_after_change inputs database)

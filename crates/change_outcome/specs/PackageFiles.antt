@@ -3,8 +3,8 @@
 -- "Scripts", and their numbers in `docs/formats.md`, "Schemas", table 6.
 use Rattle.std.specs.Prelude.{ℕ, ◌==◌, ◌-◌, Bool, true, false, not, if◌then◌else◌, List, [], ◌∷◌, length, Option, Some, None, Result, Ok, Err, bytes_eq, slice_get}
 use Rattle.db_write.specs.adb_schema.Soundness.{payload_in, root_value_of_payload}
-use Rattle.adb_view.specs.FieldIndexes.{PACKAGE_SCRIPTS}
-use Rattle.adb_view.specs.Values.{entry_in, text_in}
+use Rattle.adb_view.specs.FieldIndexes.{PACKAGE_SCRIPTS_INDEX}
+use Rattle.adb_view.specs.Values.{entry_at_index, text_in}
 use Rattle.adb_view.specs.declared.tables.Which.TheVariants as Tables
 use Rattle.adb_view.specs.Plain.{Plain}
 use Rattle.base_core.specs.declared.cause.Cause.{Cause}
@@ -13,8 +13,8 @@ use Rattle.dep_core.specs.Repositories.{Repository}
 use Rattle.package_changes.specs.file_owners.Replaces.{package_version_text}
 use Rattle.package_changes.specs.Changes.{candidate_version_text}
 use Rattle.db_write.specs.pkg_core.Contents.{Contents, contents_in}
-use Rattle.db_write.specs.pkg_core.Whole.{files_read_from_package, package_fault, package_id}
-use Rattle.change_inputs.specs.candidate_core.Candidates.{Candidate, is_same_id}
+use Rattle.db_write.specs.pkg_core.Whole.{files_read_from_package, package_fault, payload_sha256_of_package_file}
+use Rattle.change_inputs.specs.candidate_core.Candidates.{Candidate, is_same_id_by_nonempty_prefix}
 use Rattle.report_core.specs.Numbers.{NAME_FIELD, VERSION_FIELD, HASHES_FIELD, PRE_INSTALL_SCRIPT, POST_INSTALL_SCRIPT, PRE_DEINSTALL_SCRIPT, POST_DEINSTALL_SCRIPT, PRE_UPGRADE_SCRIPT, POST_UPGRADE_SCRIPT}
 use Rattle.report_core.specs.Reports.{Change, Downgrade, Install, Purge, Reinstall, Replace, Upgrade}
 use Rattle.report_core.specs.declared.refusal.Refusal.{Refusal}
@@ -59,7 +59,7 @@ abbrev pub package_in_file : List ℕ → AddedPackage
 package_in_file file = record {
   file = file;
   value = root_value_of_payload Tables.Package (payload_in file);
-  id = package_id file;
+  id = payload_sha256_of_package_file file;
   contents = contents_in (files_read_from_package file);
 }
 
@@ -67,7 +67,7 @@ package_in_file file = record {
 -- names, then the texts of the versions
 abbrev pub package_unless_other_than_candidate : Candidate → AddedPackage → Result AddedPackage Refusal
 package_unless_other_than_candidate c pkg =
-    if not (is_same_id c.id pkg.id)
+    if not (is_same_id_by_nonempty_prefix c.id pkg.id)
     then Err (PackageDiffers c.name (candidate_version_text c) HASHES_FIELD c.id pkg.id)
     else if not (bytes_eq c.name (package_name pkg.value))
     then Err (PackageDiffers c.name (candidate_version_text c) NAME_FIELD c.name (package_name pkg.value))
@@ -93,7 +93,7 @@ added_package_or_refusal c (Some file) =
 
 -- the script of a package with this number in the table of scripts (numbers count from 1), or no bytes if there is none
 abbrev pub script_of : Plain → ℕ → List ℕ
-script_of pkg number = text_in (entry_in (entry_in pkg PACKAGE_SCRIPTS) (number - 1))
+script_of pkg number = text_in (entry_at_index (entry_at_index pkg PACKAGE_SCRIPTS_INDEX) (number - 1))
 
 -- whether the package has a script with this number
 abbrev pub has_script_with_number : Plain → ℕ → Bool

@@ -3,15 +3,15 @@
 use Rattle.std.specs.Prelude.{ℕ, ◌==◌, Bool, true, false, ◌&&◌, if◌then◌else◌, List, [], ◌∷◌, length, map, codes, Result, Ok, Err, bytes_eq}
 use Rattle.std.specs.List.{filter, flat_map, list_any}
 use Rattle.base_core.specs.Name.{path_parts_of}
-use Rattle.db_write.specs.adb_fields.Repeated.{entries_at, package_name}
-use Rattle.adb_view.specs.FieldIndexes.{PACKAGE_TRIGGERS}
+use Rattle.db_write.specs.adb_fields.Repeated.{entries_of_field_at_index, package_name}
+use Rattle.adb_view.specs.FieldIndexes.{PACKAGE_TRIGGERS_INDEX}
 use Rattle.adb_view.specs.Values.{text_in}
 use Rattle.adb_view.specs.Plain.{Plain}
 use Rattle.package_changes.specs.change_files.PlanLists.{sorted_distinct_names}
 use Rattle.db_write.specs.db_core.Members.{Member, member_name}
-use Rattle.dep_core.specs.LeadingSlash.{without_slash}
+use Rattle.dep_core.specs.LeadingSlash.{without_leading_slash}
 use Rattle.change_inputs.specs.package_files.Folders.{folder_of}
-use Rattle.report_core.specs.Reports.{report_line, trigger_due_text}
+use Rattle.report_core.specs.Reports.{report_line, trigger_due_for_folder_text}
 use Rattle.report_core.specs.declared.refusal.Refusal.{Refusal}
 use Rattle.report_core.specs.declared.refusal.Refusal.TheVariants.{TriggerNeeded}
 use Rattle.star_patterns.specs.Patterns.{is_whole_text_matched}
@@ -34,11 +34,11 @@ do_patterns_match_parts_one_to_one (p ∷ patterns) (part ∷ parts) =
 unfoldable pub is_folder_matched_by_pattern : List ℕ → List ℕ → Bool
 is_folder_matched_by_pattern folder pattern =
     if length folder == 0 then bytes_eq pattern (codes "/")
-    else do_patterns_match_parts_one_to_one (path_parts_of (without_slash pattern)) (path_parts_of folder)
+    else do_patterns_match_parts_one_to_one (path_parts_of (without_leading_slash pattern)) (path_parts_of folder)
 
 -- the patterns of the folders that a package watches
 abbrev pub trigger_patterns_of_package : Plain → List (List ℕ)
-trigger_patterns_of_package pkg = map text_in (entries_at PACKAGE_TRIGGERS pkg)
+trigger_patterns_of_package pkg = map text_in (entries_of_field_at_index PACKAGE_TRIGGERS_INDEX pkg)
 
 -- ---- what is due
 
@@ -57,7 +57,7 @@ folders_of_paths paths = sorted_distinct_names (map folder_of paths)
 
 -- the line that says that the package's trigger is due for the folder
 abbrev pub due_trigger_line : Plain → List ℕ → List ℕ
-due_trigger_line pkg folder = report_line (trigger_due_text (package_name pkg) folder)
+due_trigger_line pkg folder = report_line (trigger_due_for_folder_text (package_name pkg) folder)
 
 -- a line for each of the folders for which the package's trigger is due
 abbrev pub due_trigger_lines_for_folders : List (List ℕ) → Plain → List ℕ

@@ -36,7 +36,7 @@ pub use laws::{
     the_names_of_a_change_may_be_changed, what_is_read_of_a_root_is_in_the_tree,
 };
 pub use package_changes::{
-    Change, Changes, PlacedName, PlacedNames, Trace, is_same_id,
+    Change, Changes, PlacedName, PlacedNames, Trace, is_same_id_by_nonempty_prefix,
     places_lead_to_packages_and_candidates, push_change_lines, push_stay_lines, push_sum_line,
     simulated_report, solve, sorted_distinct_names, the_first_selection_is_unique,
     the_lists_of_a_plan_hold_just_its_names,

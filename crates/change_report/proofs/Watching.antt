@@ -5,7 +5,7 @@ use Rattle.std.specs.Option.{option_map_or}
 use Rattle.std.specs.List.{list_any}
 use Rattle.std.proofs.lemmas.List.{drop_all}
 use Rattle.adb_view.specs.Plain.{Plain}
-use Rattle.adb_view.specs.Values.{count_of, entries_in, entry_in, text_in}
+use Rattle.adb_view.specs.Values.{count_of, entries_in, entry_at_index, text_in}
 use Rattle.change_outcome.specs.adb_fields.Repeated.{list_of}
 use Rattle.change_outcome.proofs.adb_fields.NameLists.{count-listed}
 use Rattle.change_outcome.proofs.adb_fields.Listed.{next_listed}
@@ -23,27 +23,27 @@ abbrev pub matches : List ℕ → Plain → Bool
 matches folder v = is_folder_matched_by_pattern folder (text_in v)
 
 -- the patterns are those of a package
-watched_by : (folder : List ℕ) (pkg patterns : Plain) → patterns ≡ entry_in pkg 3 → list_any (matches folder) (list_of (entries_in patterns)) ≡ watches_folder pkg folder
+watched_by : (folder : List ℕ) (pkg patterns : Plain) → patterns ≡ entry_at_index pkg 3 → list_any (matches folder) (list_of (entries_in patterns)) ≡ watches_folder pkg folder
 watched_by folder pkg patterns are =
     any_mapped (is_folder_matched_by_pattern folder) text_in (list_of (entries_in patterns))
     ∙ ap (λ z. list_any (is_folder_matched_by_pattern folder) (map text_in (list_of (entries_in z)))) are
 
-pub pattern_matches : (folder : List ℕ) (pkg patterns : Plain) (i : ℕ) (t : Bool) → patterns ≡ entry_in pkg 3 → i < count_of (entries_in patterns)
-    → t ≡ is_folder_matched_by_pattern folder (text_in (entry_in patterns i)) → t ≡ true
+pub pattern_matches : (folder : List ℕ) (pkg patterns : Plain) (i : ℕ) (t : Bool) → patterns ≡ entry_at_index pkg 3 → i < count_of (entries_in patterns)
+    → t ≡ is_folder_matched_by_pattern folder (text_in (entry_at_index patterns i)) → t ≡ true
     → list_any (matches folder) (drop i (list_of (entries_in patterns))) ≡ list_any (matches folder) (list_of (entries_in patterns))
     → true ≡ watches_folder pkg folder
 pattern_matches folder pkg patterns i t are within is e inv =
-    any_here (matches folder) (list_of (entries_in patterns)) i (entry_in patterns i) t (next_listed (entries_in patterns) i within) is e inv
+    any_here (matches folder) (list_of (entries_in patterns)) i (entry_at_index patterns i) t (next_listed (entries_in patterns) i within) is e inv
     ∙ watched_by folder pkg patterns are
 
 pub pattern_fails : (folder : List ℕ) (patterns : Plain) (i : ℕ) (t : Bool) → i < count_of (entries_in patterns)
-    → t ≡ is_folder_matched_by_pattern folder (text_in (entry_in patterns i)) → t ≡ false
+    → t ≡ is_folder_matched_by_pattern folder (text_in (entry_at_index patterns i)) → t ≡ false
     → list_any (matches folder) (drop i (list_of (entries_in patterns))) ≡ list_any (matches folder) (list_of (entries_in patterns))
     → list_any (matches folder) (drop (i + 1) (list_of (entries_in patterns))) ≡ list_any (matches folder) (list_of (entries_in patterns))
 pattern_fails folder patterns i t within is e inv =
-    any_later (matches folder) (list_of (entries_in patterns)) i (entry_in patterns i) t (next_listed (entries_in patterns) i within) is e inv
+    any_later (matches folder) (list_of (entries_in patterns)) i (entry_at_index patterns i) t (next_listed (entries_in patterns) i within) is e inv
 
-pub no_pattern : (folder : List ℕ) (pkg patterns : Plain) (i : ℕ) → patterns ≡ entry_in pkg 3 → count_of (entries_in patterns) ≤ i
+pub no_pattern : (folder : List ℕ) (pkg patterns : Plain) (i : ℕ) → patterns ≡ entry_at_index pkg 3 → count_of (entries_in patterns) ≤ i
     → list_any (matches folder) (drop i (list_of (entries_in patterns))) ≡ list_any (matches folder) (list_of (entries_in patterns))
     → false ≡ watches_folder pkg folder
 no_pattern folder pkg patterns i are past inv =

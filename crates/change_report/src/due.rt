@@ -6,7 +6,7 @@ ghost use Rattle.change_outcome.specs.adb_schema.Views.{package_value};
 ghost use Rattle.change_outcome.specs.Triggers.{due_trigger_line, due_trigger_lines_for_folders, folders_of_paths, has_due_trigger, watches_folder, trigger_lines, unless_trigger_due};
 ghost use Rattle.change_outcome.specs.db_core.Seen.{members_of};
 ghost use Rattle.change_report.specs.Due.{refusal_if_trigger_due, planned_paths};
-ghost use Rattle.report_core.specs.Reports.{trigger_folder_text, report_line, trigger_due_text};
+ghost use Rattle.report_core.specs.Reports.{folder_path_or_slash_for_root, report_line, trigger_due_for_folder_text};
 ghost use Rattle.std.specs.Prelude.{◌≡◌, ◌<◌, ◌++◌, ℕ, List, [], false, if◌then◌else◌, length, map, IfSome, OnOk, IfOk};
 ghost use Rattle.make_package.specs.package_files.Folders.{folder_of};
 ghost use Rattle.own_core.specs.WritesSeen.{writes_in};
@@ -117,18 +117,18 @@ fn push_line_if_watched(
 /// Adds the line `NAME: trigger due for FOLDER`.
 fn push_trigger_line(report: &mut Report, name: &[u8], folder: &[u8]) -> Result<(), AllocError>
     ensures { OnOk result (report.new
-        ≡ report.old ++ report_line (trigger_due_text name.now folder.now)) }
+        ≡ report.old ++ report_line (trigger_due_for_folder_text name.now folder.now)) }
 {
     report.push(name)?;
     report.push(b": trigger due for ")?;
-    report.push(trigger_folder_text(folder))?;
+    report.push(folder_path_or_slash_for_root(folder))?;
     report.push(b"\n")?;
     Ok(())
 }
 
 /// A folder as it is printed: its path, or `/` for the root, whose name is empty.
-fn trigger_folder_text(folder: &[u8]) -> &[u8]
-    ensures { result.now ≡ trigger_folder_text folder.now }
+fn folder_path_or_slash_for_root(folder: &[u8]) -> &[u8]
+    ensures { result.now ≡ folder_path_or_slash_for_root folder.now }
 {
     if folder.is_empty() { b"/" } else { folder }
 }

@@ -6,7 +6,7 @@ ghost use Rattle.make_package.specs.package_files.Folders.{is_slash};
 ghost use Rattle.std.specs.Prelude.{◌≡◌, count_by};
 
 use change_outcome::matches;
-use dep_core::without_slash;
+use dep_core::without_leading_slash;
 
 /// Whether a pattern matches a folder; the name of the root is empty. The time is in proportion to
 /// the lengths of both.
@@ -17,7 +17,7 @@ pub(crate) fn is_folder_matched_by_pattern(folder: &[u8], pattern: &[u8]) -> boo
     if folder.is_empty() {
         return pattern == b"/".as_slice();
     }
-    do_patterns_match_parts_one_to_one(without_slash(pattern), folder)
+    do_patterns_match_parts_one_to_one(without_leading_slash(pattern), folder)
 }
 
 /// Whether a pattern and a folder have equally many parts between slashes, and each part of the

@@ -7,7 +7,7 @@
 ghost use Rattle.change_outcome.specs.adb_fields.ListValue.{list_value};
 ghost use Rattle.change_outcome.specs.adb_fields.Repeated.{package_name};
 ghost use Rattle.change_outcome.specs.adb_schema.Views.{package_value};
-ghost use Rattle.adb_view.specs.Values.{count_of, entries_in, entry_in, text_in};
+ghost use Rattle.adb_view.specs.Values.{count_of, entries_in, entry_at_index, text_in};
 ghost use Rattle.change_outcome.specs.PackageFiles.{has_script_with_number};
 ghost use Rattle.report_core.specs.Numbers.{TRIGGER_SCRIPT};
 ghost use Rattle.change_outcome.specs.Triggers.{is_folder_matched_by_pattern, watches_folder};
@@ -54,7 +54,7 @@ fn is_matched_at<'a>(patterns: &List<'a, &'a [u8]>, i: usize, folder: &[u8]) -> 
     // `i` is below the number of patterns.
     requires { i < count_of (entries_in (list_value patterns.now)) }
     ensures { result
-        ≡ is_folder_matched_by_pattern folder.now (text_in (entry_in (list_value patterns.now) i)) }
+        ≡ is_folder_matched_by_pattern folder.now (text_in (entry_at_index (list_value patterns.now) i)) }
 {
     if i >= patterns.len() {
         unreachable!();

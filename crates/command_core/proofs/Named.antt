@@ -12,15 +12,15 @@ use Rattle.command_core.specs.declared.operands.OperandRule.{OperandRule}
 use Rattle.command_core.specs.declared.values.OptionValue.{OptionValue}
 use Rattle.command_core.specs.declared.values.TheConstants.{SCRIPT}
 use Rattle.command_core.specs.declared.values.ValueEntry.{ValueEntry}
-use Rattle.command_core.specs.Files.{is_file_argument, without_dot_slash}
+use Rattle.command_core.specs.Files.{is_file_argument, without_one_leading_dot_slash}
 use Rattle.command_core.specs.Named.{file_name, are_files, operand_file, file_in, file_part_of_value}
-use Rattle.command_core.specs.Operands.{first_refused_operand, takes}
+use Rattle.command_core.specs.Operands.{place_of_first_refused_operand, takes}
 use Rattle.command_core.specs.Values.{script_file, first_value_with_letter}
 use Rattle.command_core.proofs.Entries.{agree_at, agree_found, find-map, found_passes, left_at, option_map-twice}
 
 -- a text that is a file has its name
-pub file_named : (text : List ℕ) → is_file_argument text ≡ true → file_name text ≡ Some (without_dot_slash text)
-file_named text h = ap (λ b. if b then Some (without_dot_slash text) else None) h
+pub file_named : (text : List ℕ) → is_file_argument text ≡ true → file_name text ≡ Some (without_one_leading_dot_slash text)
+file_named text h = ap (λ b. if b then Some (without_one_leading_dot_slash text) else None) h
 
 pub passes_at : {A : Type 0} (p : A → Bool) (xs : List A) (i : ℕ) (x : A) → list_all p xs ≡ true → slice_get xs i ≡ Some x → p x ≡ true
 passes_at p [] i x h e = cc
@@ -51,7 +51,7 @@ operand_named entries operands i e v a s h =
 
 pub record IsScriptFile (values : List OptionValue) (i : ℕ) (e : ValueEntry) : Type 0 where
   pub at : slice_get values i ≡ Some e.value
-  pub file : e.file ≡ Some (without_dot_slash (script_file e.value.text))
+  pub file : e.file ≡ Some (without_one_leading_dot_slash (script_file e.value.text))
 
 pub script_named : (entries : List ValueEntry) (values : List OptionValue) (i : ℕ) (e : ValueEntry) → map (λ (x : ValueEntry). x.value) entries ≡ values → map (λ (x : ValueEntry). x.file) entries ≡ map (λ (x : ValueEntry). file_in x.value) entries → slice_get entries i ≡ Some e → IfSome (slice_get values i) (λ v. v.letter ≡ SCRIPT × IsTrue (is_file_argument (script_file v.text))) → IsScriptFile values i e
 script_named entries values i e v a s h =
@@ -77,17 +77,17 @@ first_agrees see letter entries None a f = tt
 first_agrees see letter entries (Some x) a f =
     agree_found (λ (y : ValueEntry). y.file) (λ (y : ValueEntry). file_in y.value) (λ (y : ValueEntry). y.value.letter == letter) entries (see x) a (sym f)
 
-pub first_named : (letter : ℕ) (values : List OptionValue) (v : OptionValue) (file : Option (List ℕ)) → Some v ≡ first_value_with_letter letter values → file ≡ file_in v → not (letter == SCRIPT) ≡ true → IfSome (first_value_with_letter letter values) (λ w. IsTrue (is_file_argument w.text)) → file ≡ option_map (λ (w : OptionValue). without_dot_slash w.text) (first_value_with_letter letter values)
+pub first_named : (letter : ℕ) (values : List OptionValue) (v : OptionValue) (file : Option (List ℕ)) → Some v ≡ first_value_with_letter letter values → file ≡ file_in v → not (letter == SCRIPT) ≡ true → IfSome (first_value_with_letter letter values) (λ w. IsTrue (is_file_argument w.text)) → file ≡ option_map (λ (w : OptionValue). without_one_leading_dot_slash w.text) (first_value_with_letter letter values)
 first_named letter values v file f e n h =
     let same : v.letter ≡ letter = eqb-true v.letter letter (found_passes (λ (w : OptionValue). w.letter == letter) values v (sym f)) in
     let other : (v.letter == SCRIPT) ≡ false = ap (λ k. k == SCRIPT) same ∙ not-true (letter == SCRIPT) n in
     let good : is_file_argument v.text ≡ true = subst (λ o. IfSome o (λ (w : OptionValue). IsTrue (is_file_argument w.text))) (sym f) h in
-    e ∙ (ap (λ b. file_name (if b then script_file v.text else v.text)) other ∙ (file_named v.text good ∙ ap (option_map (λ (w : OptionValue). without_dot_slash w.text)) f))
+    e ∙ (ap (λ b. file_name (if b then script_file v.text else v.text)) other ∙ (file_named v.text good ∙ ap (option_map (λ (w : OptionValue). without_one_leading_dot_slash w.text)) f))
 
 -- ---- the first operand that is refused
 
-pub refused_more : (rule : OperandRule) (operands : List Operand) (i : ℕ) (operand : Operand) → slice_get operands i ≡ Some operand → takes rule i operand.text ≡ true → first_refused_operand rule i (drop i operands) ≡ first_refused_operand rule (i + 1) (drop (i + 1) operands)
+pub refused_more : (rule : OperandRule) (operands : List Operand) (i : ℕ) (operand : Operand) → slice_get operands i ≡ Some operand → takes rule i operand.text ≡ true → place_of_first_refused_operand rule i (drop i operands) ≡ place_of_first_refused_operand rule (i + 1) (drop (i + 1) operands)
 refused_more rule operands i operand at t = rw (left_at operands i operand at) (rw t refl)
 
-pub refused_here : (rule : OperandRule) (operands : List Operand) (i : ℕ) (operand : Operand) → slice_get operands i ≡ Some operand → takes rule i operand.text ≡ false → first_refused_operand rule i (drop i operands) ≡ Some operand.place
+pub refused_here : (rule : OperandRule) (operands : List Operand) (i : ℕ) (operand : Operand) → slice_get operands i ≡ Some operand → takes rule i operand.text ≡ false → place_of_first_refused_operand rule i (drop i operands) ≡ Some operand.place
 refused_here rule operands i operand at t = rw (left_at operands i operand at) (rw t refl)

@@ -13,10 +13,10 @@ use Rattle.command_core.specs.declared.operands.OperandRule.{OperandRule}
 use Rattle.command_core.specs.declared.values.OptionValue.{OptionValue}
 use Rattle.command_core.specs.declared.values.TheConstants.{FILES, OUTPUT, SCRIPT}
 use Rattle.command_core.specs.declared.values.ValueRule.{ValueRule}
-use Rattle.command_core.specs.Applets.{required_option_letter, operand_rule}
+use Rattle.command_core.specs.Applets.{required_option_letter, operand_rule_if_needed_kind_flag_given}
 use Rattle.command_core.specs.Sound.{may_have_flags, value_rules, IsValidCommand, are_allowed_operands, is_count_within_limit, may_both_be_given, are_allowed_values, is_allowed_value, value_rule_of_letter}
 use Rattle.command_core.specs.Command.{CommandLine}
-use Rattle.command_core.specs.Files.{is_file_argument, is_output_argument}
+use Rattle.command_core.specs.Files.{is_file_argument, is_file_argument_within_output_length}
 use Rattle.command_core.specs.Named.{are_files}
 use Rattle.command_core.specs.Operands.{is_operand_of_kind}
 use Rattle.command_core.specs.Values.{first_value_with_letter, is_given, is_script_argument, is_required_value_missing}
@@ -24,15 +24,15 @@ use Rattle.command_core.proofs.Entries.{found_passes}
 
 pub record HasParts (c : CommandLine) : Type 0 where
   pub flags : may_have_flags c.applet c.flags ≡ true
-  pub operands : are_allowed_operands (operand_rule c.applet c.flags) c.operands ≡ true
+  pub operands : are_allowed_operands (operand_rule_if_needed_kind_flag_given c.applet c.flags) c.operands ≡ true
   pub values : are_allowed_values (value_rules c.applet) c.values ≡ true
   pub needed : not (is_required_value_missing (required_option_letter c.applet) c.values) ≡ true
 
 pub has_parts : (c : CommandLine) → IsValidCommand c → HasParts c
 has_parts c h =
-    let last = and_parts (may_have_flags c.applet c.flags && are_allowed_operands (operand_rule c.applet c.flags) c.operands && are_allowed_values (value_rules c.applet) c.values) (not (is_required_value_missing (required_option_letter c.applet) c.values)) h in
-    let values = and_parts (may_have_flags c.applet c.flags && are_allowed_operands (operand_rule c.applet c.flags) c.operands) (are_allowed_values (value_rules c.applet) c.values) last.0 in
-    let first = and_parts (may_have_flags c.applet c.flags) (are_allowed_operands (operand_rule c.applet c.flags) c.operands) values.0 in
+    let last = and_parts (may_have_flags c.applet c.flags && are_allowed_operands (operand_rule_if_needed_kind_flag_given c.applet c.flags) c.operands && are_allowed_values (value_rules c.applet) c.values) (not (is_required_value_missing (required_option_letter c.applet) c.values)) h in
+    let values = and_parts (may_have_flags c.applet c.flags && are_allowed_operands (operand_rule_if_needed_kind_flag_given c.applet c.flags) c.operands) (are_allowed_values (value_rules c.applet) c.values) last.0 in
+    let first = and_parts (may_have_flags c.applet c.flags) (are_allowed_operands (operand_rule_if_needed_kind_flag_given c.applet c.flags) c.operands) values.0 in
     record { flags = first.0; operands = first.1; values = values.1; needed = last.1 }
 
 pub needed_given : (letter : ℕ) (values : List OptionValue) → not (is_required_value_missing (Some letter) values) ≡ true → is_given letter values ≡ true
@@ -76,7 +76,7 @@ value_found rules vs letter v h f =
           | false ↦ λ (later : find (λ (x : OptionValue). x.letter == letter) ws ≡ Some v). among ws (split_values rules w ws a).rest later
         ] e
 
-pub output_by : (applet : Applet) (text : List ℕ) → is_allowed_value (value_rule_of_letter (value_rules applet) OUTPUT) text ≡ true → is_output_argument text ≡ true
+pub output_by : (applet : Applet) (text : List ℕ) → is_allowed_value (value_rule_of_letter (value_rules applet) OUTPUT) text ≡ true → is_file_argument_within_output_length text ≡ true
 output_by Mkpkg text h = h
 output_by Mkndx text h = h
 output_by applet text h = absurd (cc)

@@ -34,23 +34,23 @@ version_operand_rule flags =
 
 -- the rule of the operands that an applet takes under some flags. None if no flag selects the kind of the command,
 -- which only `version` needs
-abbrev pub operand_rule : Applet → Flags → Option OperandRule
-operand_rule Add flags = Some (at_least 0 Dependency)
-operand_rule Del flags = Some (at_least 1 DependencyName)
-operand_rule Upgrade flags = Some (at_least 0 PackageName)
-operand_rule Fix flags = Some (at_least 1 PackageName)
-operand_rule Info flags = Some (info_operand_rule flags)
-operand_rule Verify flags = Some (at_least 1 File)
-operand_rule Adbdump flags = Some (exactly 1 File)
-operand_rule Mkpkg flags = Some (exactly 0 File)
-operand_rule Mkndx flags = Some (at_least 0 File)
-operand_rule Version flags = version_operand_rule flags
-operand_rule Demo flags = Some (exactly 1 Number)
-operand_rule Adbgen flags = Some (exactly 1 File)
-operand_rule Audit flags = Some (exactly 0 Any)
-operand_rule Manifest flags = Some (at_least 1 PackageName)
-operand_rule List flags = Some (at_least 0 Pattern)
-operand_rule Search flags = Some (at_least 1 Pattern)
-operand_rule Policy flags = Some (at_least 1 PackageName)
-operand_rule Help flags = Some (at_most 1 Any)
-operand_rule ProgramVersion flags = Some (exactly 0 Any)
+abbrev pub operand_rule_if_needed_kind_flag_given : Applet → Flags → Option OperandRule
+operand_rule_if_needed_kind_flag_given Add flags = Some (at_least 0 Dependency)
+operand_rule_if_needed_kind_flag_given Del flags = Some (at_least 1 DependencyName)
+operand_rule_if_needed_kind_flag_given Upgrade flags = Some (at_least 0 PackageName)
+operand_rule_if_needed_kind_flag_given Fix flags = Some (at_least 1 PackageName)
+operand_rule_if_needed_kind_flag_given Info flags = Some (info_operand_rule flags)
+operand_rule_if_needed_kind_flag_given Verify flags = Some (at_least 1 File)
+operand_rule_if_needed_kind_flag_given Adbdump flags = Some (exactly 1 File)
+operand_rule_if_needed_kind_flag_given Mkpkg flags = Some (exactly 0 File)
+operand_rule_if_needed_kind_flag_given Mkndx flags = Some (at_least 0 File)
+operand_rule_if_needed_kind_flag_given Version flags = version_operand_rule flags
+operand_rule_if_needed_kind_flag_given Demo flags = Some (exactly 1 Number)
+operand_rule_if_needed_kind_flag_given Adbgen flags = Some (exactly 1 File)
+operand_rule_if_needed_kind_flag_given Audit flags = Some (exactly 0 Any)
+operand_rule_if_needed_kind_flag_given Manifest flags = Some (at_least 1 PackageName)
+operand_rule_if_needed_kind_flag_given List flags = Some (at_least 0 Pattern)
+operand_rule_if_needed_kind_flag_given Search flags = Some (at_least 1 Pattern)
+operand_rule_if_needed_kind_flag_given Policy flags = Some (at_least 1 PackageName)
+operand_rule_if_needed_kind_flag_given Help flags = Some (at_most 1 Any)
+operand_rule_if_needed_kind_flag_given ProgramVersion flags = Some (exactly 0 Any)

@@ -6,16 +6,16 @@ use Rattle.std.specs.List.{list_all}
 use Rattle.command_core.specs.declared.operands.Operand.{Operand}
 use Rattle.command_core.specs.declared.values.OptionValue.{OptionValue}
 use Rattle.command_core.specs.declared.values.TheConstants.{SCRIPT}
-use Rattle.command_core.specs.Files.{is_file_argument, without_dot_slash}
+use Rattle.command_core.specs.Files.{is_file_argument, without_one_leading_dot_slash}
 use Rattle.command_core.specs.Values.{script_file}
 
 -- the name of the file that a text names, without one leading `./`; None if the text can name no file
 abbrev pub file_name : List ℕ → Option (List ℕ)
-file_name text = if is_file_argument text then Some (without_dot_slash text) else None
+file_name text = if is_file_argument text then Some (without_one_leading_dot_slash text) else None
 
 -- the name of the file that an operand names: its text without one leading `./`
 abbrev pub operand_file : Operand → List ℕ
-operand_file operand = without_dot_slash operand.text
+operand_file operand = without_one_leading_dot_slash operand.text
 
 -- whether each operand can name a file
 abbrev pub are_files : List Operand → Bool

@@ -11,11 +11,11 @@ use Rattle.command_core.specs.declared.operands.Operand.{Operand}
 use Rattle.command_core.specs.declared.operands.OperandRule.{OperandRule}
 use Rattle.command_core.specs.declared.values.OptionValue.{OptionValue}
 use Rattle.command_core.specs.declared.values.ValueRule.{ValueRule}
-use Rattle.command_core.specs.Applets.{required_option_letter, operand_rule}
+use Rattle.command_core.specs.Applets.{required_option_letter, operand_rule_if_needed_kind_flag_given}
 use Rattle.command_core.specs.Command.{CommandLine}
 use Rattle.command_core.specs.Flags.{has_flag, kinds, no_flags, with_flag}
 use Rattle.command_core.specs.Operands.{is_operand_of_kind}
-use Rattle.command_core.specs.Values.{compression_rule, description_rule, excludes, files_rule, info_rule, is_value_of_kind, is_required_value_missing, output_rule, script_rule, trigger_rule}
+use Rattle.command_core.specs.Values.{compression_rule, description_rule, excludes, files_rule, info_rule, is_value_of_kind, is_required_value_missing, output_rule, script_rule, repeatable_nonempty_trigger_rule}
 
 -- ---- flags
 
@@ -80,7 +80,7 @@ are_allowed_operands (Some rule) operands =
 -- the rules of the options of an applet that have values
 abbrev pub value_rules : Applet → List ValueRule
 value_rules Mkpkg =
-    info_rule ∷ (script_rule ∷ (trigger_rule ∷
+    info_rule ∷ (script_rule ∷ (repeatable_nonempty_trigger_rule ∷
     (files_rule ∷ (output_rule ∷ (compression_rule ∷ [])))))
 value_rules Mkndx = description_rule ∷ (output_rule ∷ (compression_rule ∷ []))
 value_rules applet = []
@@ -119,7 +119,7 @@ are_allowed_values rules (v ∷ vs) =
 -- whether the applet may have flags, operands and values together, and none is missing
 abbrev pub is_valid_command : CommandLine → Bool
 is_valid_command c =
-    may_have_flags c.applet c.flags && are_allowed_operands (operand_rule c.applet c.flags) c.operands
+    may_have_flags c.applet c.flags && are_allowed_operands (operand_rule_if_needed_kind_flag_given c.applet c.flags) c.operands
     && are_allowed_values (value_rules c.applet) c.values
     && not (is_required_value_missing (required_option_letter c.applet) c.values)
 

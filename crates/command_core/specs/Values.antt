@@ -8,11 +8,11 @@ use Rattle.command_core.specs.declared.values.TheConstants.{COMPRESSION, DESCRIP
 use Rattle.command_core.specs.declared.values.ValueKind.{ValueKind}
 use Rattle.command_core.specs.declared.values.ValueKind.TheVariants.{Any, Nonempty, File, Output, Uncompressed, Script}
 use Rattle.command_core.specs.declared.values.ValueRule.{ValueRule}
-use Rattle.command_core.specs.Files.{is_file_argument, is_output_argument}
+use Rattle.command_core.specs.Files.{is_file_argument, is_file_argument_within_output_length}
 
 -- the value of an option with this letter, at the place of its word
-abbrev pub option_value_from_place_and_letter : ℕ → ℕ → List ℕ → OptionValue
-option_value_from_place_and_letter place letter text =
+abbrev pub option_value_from_place_letter_and_text : ℕ → ℕ → List ℕ → OptionValue
+option_value_from_place_letter_and_text place letter text =
     record { place = place; letter = letter; text = text }
 
 -- the first value that the option with a letter was given
@@ -55,7 +55,7 @@ abbrev pub is_value_of_kind : ValueKind → List ℕ → Bool
 is_value_of_kind Any text = true
 is_value_of_kind Nonempty text = nat_lt 0 (length text)
 is_value_of_kind File text = is_file_argument text
-is_value_of_kind Output text = is_output_argument text
+is_value_of_kind Output text = is_file_argument_within_output_length text
 is_value_of_kind Uncompressed text = bytes_eq text (codes "none")
 is_value_of_kind Script text = is_script_argument text
 
@@ -76,8 +76,8 @@ abbrev pub script_rule : ValueRule
 script_rule = record { letter = SCRIPT; single = false; kind = Script }
 
 -- the rule of `-t`: it may be given often, and its value is not empty
-abbrev pub trigger_rule : ValueRule
-trigger_rule = record { letter = TRIGGER; single = false; kind = Nonempty }
+abbrev pub repeatable_nonempty_trigger_rule : ValueRule
+repeatable_nonempty_trigger_rule = record { letter = TRIGGER; single = false; kind = Nonempty }
 
 -- the rule of `-F`: its value names a folder, and it may be given once
 abbrev pub files_rule : ValueRule

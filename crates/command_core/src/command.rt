@@ -1,8 +1,8 @@
 //! Applets, the options without a value, and what a command line asks for. The rules are in
 //! `docs/commands.md`, "Words"; which operands an applet takes is in the section with its name.
 ghost use Rattle.std.specs.Prelude.{◌≡◌, IsTrue};
-ghost use Rattle.command_core.specs.Applets.{info_operand_rule, required_option_letter, operand_rule, version_operand_rule};
-ghost use Rattle.command_core.specs.Command.{command_from_parts};
+ghost use Rattle.command_core.specs.Applets.{info_operand_rule, required_option_letter, operand_rule_if_needed_kind_flag_given, version_operand_rule};
+ghost use Rattle.command_core.specs.Command.{command_from_parts_and_end_place};
 ghost use Rattle.command_core.specs.Sound.{IsValidCommand, is_valid_command};
 ghost use Rattle.command_core.specs.Flags.{has_flag, has_command_kind_flag, no_flags, with_flag};
 
@@ -194,7 +194,7 @@ impl Applet {
     /// The rule of the operands that the applet takes under some flags. None: no flag selects the
     /// kind of the command, which only `version` needs.
     pub fn operands(self, flags: Flags) -> Option<OperandRule>
-        ensures { result ≡ operand_rule self flags }
+        ensures { result ≡ operand_rule_if_needed_kind_flag_given self flags }
     {
         match self {
             Applet::Add => Some(OperandRule::at_least(0, OperandKind::Dependency)),
@@ -263,19 +263,19 @@ pub struct Command {
 }
 
 impl Model for Command {
-    ghost use Rattle.command_core.specs.Command.{CommandLine, command_from_parts};
+    ghost use Rattle.command_core.specs.Command.{CommandLine, command_from_parts_and_end_place};
     ghost use Rattle.command_core.specs.Sound.{is_valid_command};
     ghost use Rattle.std.specs.Prelude.{IsTrue};
 
     ghost Value = { CommandLine };
 
     // The five parts as one value.
-    ghost view = { λ c. command_from_parts c.applet c.flags c.operands c.values c.behind };
+    ghost view = { λ c. command_from_parts_and_end_place c.applet c.flags c.operands c.values c.behind };
 
     // The command is valid: it has what the rules of its applet require.
     ghost invariant = { λ c.
         IsTrue (is_valid_command
-        (command_from_parts c.applet c.flags c.operands c.values c.behind)) };
+        (command_from_parts_and_end_place c.applet c.flags c.operands c.values c.behind)) };
 }
 
 impl Command {
@@ -289,8 +289,8 @@ impl Command {
     ) -> Command
         // The applet may have these flags, operands and values, and none is missing.
         requires { IsTrue (is_valid_command
-            (command_from_parts applet flags operands values behind)) }
-        ensures { result ≡ command_from_parts applet flags operands values behind }
+            (command_from_parts_and_end_place applet flags operands values behind)) }
+        ensures { result ≡ command_from_parts_and_end_place applet flags operands values behind }
     {
         Command {
             applet,

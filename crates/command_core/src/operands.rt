@@ -4,20 +4,20 @@
 
 ghost use Rattle.std.specs.Prelude.{◌≡◌, ◌<◌, ◌==◌, ◌++◌, ◌∷◌, [], IfOk, IsTrue, None, OnErr, OnOk, Some, length, slice_get, ℕ};
 ghost use Rattle.std.specs.Option.{option_map};
-ghost use Rattle.command_core.specs.Files.{without_dot_slash, is_file_argument, is_output_argument};
+ghost use Rattle.command_core.specs.Files.{without_one_leading_dot_slash, is_file_argument, is_file_argument_within_output_length};
 ghost use Rattle.command_core.specs.Named.{file_name, are_files, operand_file};
-ghost use Rattle.command_core.specs.Operands.{at_least, at_most, exactly, first_refused_operand, allows_one_more_operand, is_operand_of_kind, operand_at, takes};
-ghost use Rattle.command_core.specs.Applets.{required_option_letter, operand_rule};
+ghost use Rattle.command_core.specs.Operands.{at_least, at_most, exactly, place_of_first_refused_operand, allows_one_more_operand, is_operand_of_kind, operand_at, takes};
+ghost use Rattle.command_core.specs.Applets.{required_option_letter, operand_rule_if_needed_kind_flag_given};
 ghost use Rattle.command_core.specs.Sound.{value_rules, IsValidCommand, are_allowed_operands, are_allowed_values, is_allowed_value, value_rule_of_letter};
 ghost use Rattle.command_core.specs.Command.{CommandLine};
 ghost use Rattle.command_core.specs.Values.{first_value_with_letter, is_given, is_script_argument};
 ghost use Rattle.command_core.specs.declared.operands.OperandRule.{OperandRule};
 ghost use Rattle.command_core.specs.declared.values.OptionValue.{OptionValue};
 
-use crate::texts::{is_demo_number, is_file_argument, is_path_argument, is_pattern, read_file};
+use crate::texts::{is_demo_number, is_file_argument, is_name_with_optional_leading_slash, is_pattern, read_file};
 use crate::values::{FILES, OUTPUT, SCRIPT};
 use base_core::{Name, Text};
-use dep_core::{is_dep_name, is_package_name, read_dep};
+use dep_core::{is_dependency_name_by_bytes_and_length, is_package_name, read_dep};
 use std::alloc::{AllocError, Global};
 use std::marker::Model;
 
@@ -51,9 +51,9 @@ impl OperandKind {
             OperandKind::File => is_file_argument(text),
             OperandKind::Any => true,
             OperandKind::Dependency => read_dep(text).is_some(),
-            OperandKind::DependencyName => is_dep_name(text),
+            OperandKind::DependencyName => is_dependency_name_by_bytes_and_length(text),
             OperandKind::PackageName => is_package_name(text),
-            OperandKind::Path => is_path_argument(text),
+            OperandKind::Path => is_name_with_optional_leading_slash(text),
             OperandKind::Number => is_demo_number(text),
             OperandKind::Pattern => is_pattern(text),
         }
@@ -107,8 +107,8 @@ impl OperandRule {
 
     /// The place, counted from 1, of the first operand that the rule does not take: its text is not
     /// of the rule's kind, or too many operands precede it.
-    pub fn first_refused_operand(&self, operands: &Operands) -> Option<u32>
-        ensures { result ≡ first_refused_operand self.now 0 operands.now }
+    pub fn place_of_first_refused_operand(&self, operands: &Operands) -> Option<u32>
+        ensures { result ≡ place_of_first_refused_operand self.now 0 operands.now }
     {
         for i in 0..operands.len() {
             let operand = operands.get(i);
@@ -254,7 +254,7 @@ impl Operands {
 pub fn a_command_has_what_its_applet_may_have()
     // The number of operands, and the kind of each, are those that the applet takes.
     ensures operands { (c : CommandLine) → IsValidCommand c →
-        IsTrue (are_allowed_operands (operand_rule c.applet c.flags) c.operands) }
+        IsTrue (are_allowed_operands (operand_rule_if_needed_kind_flag_given c.applet c.flags) c.operands) }
     // Each value is one that its option may have, and no two values exclude each other.
     ensures values { (c : CommandLine) → IsValidCommand c →
         IsTrue (are_allowed_values (value_rules c.applet) c.values) }
@@ -266,7 +266,7 @@ pub fn a_command_has_what_its_applet_may_have()
 /// A law: if the applet takes files as operands, each operand of a valid command can name a file.
 pub fn file_operands_are_files()
     ensures { (c : CommandLine) (rule : OperandRule) → IsValidCommand c →
-        operand_rule c.applet c.flags ≡ Some rule → rule.kind ≡ OperandKind.File →
+        operand_rule_if_needed_kind_flag_given c.applet c.flags ≡ Some rule → rule.kind ≡ OperandKind.File →
         IsTrue (are_files c.operands) }
 {}
 
@@ -279,7 +279,7 @@ pub fn values_are_of_their_kind()
         IsTrue (is_allowed_value (value_rule_of_letter (value_rules c.applet) v.letter) v.text) }
     // The first value of `--output` can name a file that is to be written.
     ensures output { (c : CommandLine) (v : OptionValue) → IsValidCommand c →
-        first_value_with_letter OUTPUT c.values ≡ Some v → IsTrue (is_output_argument v.text) }
+        first_value_with_letter OUTPUT c.values ≡ Some v → IsTrue (is_file_argument_within_output_length v.text) }
     // The first value of `--files` can name a folder.
     ensures folder { (c : CommandLine) (v : OptionValue) → IsValidCommand c →
         first_value_with_letter FILES c.values ≡ Some v → IsTrue (is_file_argument v.text) }

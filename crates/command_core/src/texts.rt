@@ -5,13 +5,13 @@ ghost use Rattle.std.specs.Prelude.{◌≡◌, ◌==◌, IfOk, drop};
 ghost use Rattle.std.specs.Char.{is_ascii_digit, is_ascii_graphic};
 ghost use Rattle.std.specs.List.{list_all, list_any, position};
 ghost use Rattle.std.specs.Str.{bytes_eq};
-ghost use Rattle.command_core.specs.Files.{is_file_argument, is_output_argument, is_path_argument, without_dot_slash};
+ghost use Rattle.command_core.specs.Files.{is_file_argument, is_file_argument_within_output_length, is_name_with_optional_leading_slash, without_one_leading_dot_slash};
 ghost use Rattle.command_core.specs.Named.{file_name};
-ghost use Rattle.command_core.specs.Operands.{has_superfluous_leading_zero, is_decimal, is_demo_number, is_pattern};
+ghost use Rattle.command_core.specs.Operands.{has_superfluous_leading_zero, is_decimal_without_leading_zeros, is_demo_number, is_pattern};
 ghost use Rattle.command_core.specs.Values.{colon, is_script_argument, script_file, script_type, script_types};
 
 use base_core::{Name, is_name};
-use dep_core::without_slash;
+use dep_core::without_leading_slash;
 use std::alloc::{AllocError, Global};
 use std::str;
 
@@ -34,8 +34,8 @@ static SCRIPT_TYPES: [&[u8]; 7] = [
 ];
 
 /// A text without one leading `./`.
-pub fn without_dot_slash(text: &[u8]) -> &[u8]
-    ensures { result.now ≡ without_dot_slash text.now }
+pub fn without_one_leading_dot_slash(text: &[u8]) -> &[u8]
+    ensures { result.now ≡ without_one_leading_dot_slash text.now }
 {
     if text.starts_with(b"./".as_slice()) {
         &text[2..]
@@ -49,7 +49,7 @@ pub fn without_dot_slash(text: &[u8]) -> &[u8]
 pub(crate) fn is_file_argument(text: &[u8]) -> bool
     ensures { result ≡ is_file_argument text.now }
 {
-    is_name(without_dot_slash(text))
+    is_name(without_one_leading_dot_slash(text))
 }
 
 /// The name of the file that a text names: the text without one leading `./`. None if that is no
@@ -57,25 +57,25 @@ pub(crate) fn is_file_argument(text: &[u8]) -> bool
 pub(crate) fn read_file(alloc: Global, text: &[u8]) -> Result<Option<Name>, AllocError>
     ensures { IfOk result (λ file. file ≡ file_name text.now) }
 {
-    Name::read(alloc, without_dot_slash(text))
+    Name::read(alloc, without_one_leading_dot_slash(text))
 }
 
 /// Whether a text can name a file that is to be written: its path, without one leading `./`, has at
 /// most 1,016 bytes.
-pub(crate) fn is_output_argument(text: &[u8]) -> bool
-    ensures { result ≡ is_output_argument text.now }
+pub(crate) fn is_file_argument_within_output_length(text: &[u8]) -> bool
+    ensures { result ≡ is_file_argument_within_output_length text.now }
 {
     if !is_file_argument(text) {
         return false;
     }
-    without_dot_slash(text).len() <= LONGEST_OUTPUT
+    without_one_leading_dot_slash(text).len() <= LONGEST_OUTPUT
 }
 
 /// Whether a text is a path below the root, after one optional `/`.
-pub(crate) fn is_path_argument(text: &[u8]) -> bool
-    ensures { result ≡ is_path_argument text.now }
+pub(crate) fn is_name_with_optional_leading_slash(text: &[u8]) -> bool
+    ensures { result ≡ is_name_with_optional_leading_slash text.now }
 {
-    is_name(without_slash(text))
+    is_name(without_leading_slash(text))
 }
 
 /// Whether a text is TYPE:FILE, with the type of a package's script.
@@ -151,7 +151,7 @@ fn are_visible(text: &[u8]) -> bool
 pub(crate) fn is_demo_number(text: &[u8]) -> bool
     ensures { result ≡ is_demo_number text.now }
 {
-    if !is_decimal(text) {
+    if !is_decimal_without_leading_zeros(text) {
         return false;
     }
     // All bytes are digits here, so `parse` fails only for a number of more than 32 bits.
@@ -165,8 +165,8 @@ pub(crate) fn is_demo_number(text: &[u8]) -> bool
 }
 
 /// Whether a text is a decimal number without leading zeros.
-pub fn is_decimal(text: &[u8]) -> bool
-    ensures { result ≡ is_decimal text.now }
+pub fn is_decimal_without_leading_zeros(text: &[u8]) -> bool
+    ensures { result ≡ is_decimal_without_leading_zeros text.now }
 {
     if text.is_empty() || has_superfluous_leading_zero(text) {
         return false;

@@ -2,13 +2,13 @@
 //! are in `docs/commands.md`, "Words", the table of options, the rows with a value.
 ghost use Rattle.std.specs.Prelude.{◌≡◌, ◌<◌, ◌==◌, ◌++◌, ◌∷◌, [], IfOk, IfSome, IsTrue, OnErr, OnOk, Some, length, not, slice_get};
 ghost use Rattle.std.specs.Option.{option_map};
-ghost use Rattle.command_core.specs.Files.{is_file_argument, without_dot_slash};
+ghost use Rattle.command_core.specs.Files.{is_file_argument, without_one_leading_dot_slash};
 ghost use Rattle.command_core.specs.Named.{file_name, file_in, file_part_of_value};
-ghost use Rattle.command_core.specs.Values.{excludes, is_excluded_by_earlier_value, is_given, is_single_and_given, is_value_of_kind, script_file, script_type, option_value_from_place_and_letter, first_value_with_letter};
+ghost use Rattle.command_core.specs.Values.{excludes, is_excluded_by_earlier_value, is_given, is_single_and_given, is_value_of_kind, script_file, script_type, option_value_from_place_letter_and_text, first_value_with_letter};
 ghost use Rattle.command_core.specs.declared.values.OptionValue.{OptionValue};
 
 use crate::texts::{
-    is_file_argument, is_output_argument, is_script_argument, read_file, script_file, script_type,
+    is_file_argument, is_file_argument_within_output_length, is_script_argument, read_file, script_file, script_type,
 };
 use base_core::{Name, Text};
 use std::alloc::{AllocError, Global};
@@ -67,7 +67,7 @@ impl ValueKind {
             ValueKind::Any => true,
             ValueKind::Nonempty => !text.is_empty(),
             ValueKind::File => is_file_argument(text),
-            ValueKind::Output => is_output_argument(text),
+            ValueKind::Output => is_file_argument_within_output_length(text),
             ValueKind::Uncompressed => text == b"none".as_slice(),
             ValueKind::Script => is_script_argument(text),
         }
@@ -158,7 +158,7 @@ impl Values {
     pub fn push(&mut self, place: u32, letter: u8, text: &[u8]) -> Result<(), AllocError>
         // The value is added at the end.
         ensures ok { OnOk result (self.new ≡ self.old
-            ++ option_value_from_place_and_letter place letter text.now ∷ []) }
+            ++ option_value_from_place_letter_and_text place letter text.now ∷ []) }
         ensures err { OnErr result (self.new ≡ self.old) }
     {
         let file = read_value_file(self.alloc, letter, text)?;
@@ -243,7 +243,7 @@ impl Values {
             (λ value. IsTrue (is_file_argument value.text)) }
         // The name in the first value, without one leading `./`; None if there is no value.
         ensures { option_map (λ name. name.now) result
-            ≡ option_map (λ value. without_dot_slash value.text)
+            ≡ option_map (λ value. without_one_leading_dot_slash value.text)
             (first_value_with_letter letter self.entry.now) }
     {
         match self.first_entry(letter) {
@@ -260,7 +260,7 @@ impl Values {
         // The value is one of `--script`, and has a file.
         requires script { IfSome (slice_get self.now i)
             (λ value. value.letter ≡ SCRIPT × IsTrue (is_file_argument (script_file value.text))) }
-        ensures { option_map (λ value. without_dot_slash (script_file value.text))
+        ensures { option_map (λ value. without_one_leading_dot_slash (script_file value.text))
             (slice_get self.now i) ≡ Some result.now }
     {
         match &self.entries[i].file {

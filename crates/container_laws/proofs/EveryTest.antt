@@ -3,13 +3,13 @@ use Rattle.std.proofs.Common.{◌≡◌, ◌↔◌, ◌⊎◌, inl, inr, ℕ, ze
 use Rattle.std.specs.Prelude.{slice_get, if◌then◌else◌, ◌||◌, nat_lt, ◌-◌}
 use Rattle.std.specs.Option.{option_or}
 use Rattle.std.proofs.lemmas.Bool.{eqb-true}
-use Rattle.adb_block.specs.Framing.{HeadFields, NextBlockResult, block, ended, failed, block_head_fields, kind_of_number, next_block_result_at_offset, next_block_result_by_header, next_block_result_by_kind_order, next_block_result_by_size}
+use Rattle.adb_block.specs.Framing.{HeadFields, NextBlockResult, block, ended, failed, block_head_fields, kind_of_number, next_block_result_at_offset, next_block_result_by_header, next_block_result_by_kind_order, next_block_result_by_raw_size}
 use Rattle.adb_block.specs.Header.{schema_of_header}
-use Rattle.adb_block.specs.Piece.{Piece, may_be_next_kind, least_payload_len}
-use Rattle.adb_block.specs.Reading.{Reading, done, fault, more, block_stream_after_result, bounded_block_stream_from_offset, block_stream_from}
-use Rattle.adb_block.specs.ReaderPosition.{first_block_position_of_schema_and_file}
+use Rattle.adb_block.specs.BlockWithoutOffset.{BlockWithoutOffset, may_be_next_kind, least_payload_len}
+use Rattle.adb_block.specs.Reading.{Reading, done, fault, more, block_stream_with_rest_by_padded_size, bounded_block_stream_from_offset, block_stream_from}
+use Rattle.adb_block.specs.PositionBetweenBlocks.{first_block_position_of_schema_and_file}
 use Rattle.adb_block.specs.declared.block.BlockKind.{BlockKind}
-use Rattle.pkg_core.specs.adb_schema.Soundness.{blocks_fault, file_fault_after_header, is_schema_wanted, payload_fault, root_value_of_payload, schema_fault, schema_word}
+use Rattle.pkg_core.specs.adb_schema.Soundness.{blocks_fault, file_fault_by_header_schema_or_fault, is_wanted_schema_present_and_equal, payload_fault, root_value_of_payload, schema_fault, header_schema_if_root_table}
 use Rattle.pkg_core.specs.adb_schema.declared.read.TheConstants.{PACKAGE_WORD, INDEX_WORD, IDB_WORD, INTENT_WORD}
 use Rattle.pkg_core.specs.adb_fields.Repeated.{repeated_fault}
 use Rattle.pkg_core.specs.adb_schema.Texts.{text_or_number_fault}
@@ -24,7 +24,7 @@ use Rattle.base_core.specs.declared.cause.Cause.TheVariants.{WrongSchema}
 use Rattle.base_core.proofs.Causes.{both_none}
 use Rattle.container_laws.specs.TestsInOrder.{PassesEveryContainerTest, tests_of_values}
 use Rattle.container_laws.proofs.FirstTests.{chain, five}
-use Rattle.pkg_core.specs.Whole.{fault_of_further_blocks, container_fault, container_fault_after_header, container_fault_after_schema, table_of_schema, container_fault_of_table}
+use Rattle.pkg_core.specs.Whole.{fault_of_contents_blocks_by_root_table, container_fault, container_fault_after_header, container_fault_after_schema, table_of_schema, container_fault_of_table}
 
 -- ---- a file without a block is refused
 
@@ -36,7 +36,7 @@ either_goes_on : (b : Bool) (s t : NextBlockResult) → IsNoEnd s → IsNoEnd t 
 either_goes_on true s t f g = f
 either_goes_on false s t f g = g
 
-size_goes_on : (at : ℕ) (bytes : List ℕ) (head : HeadFields) (kind : BlockKind) → IsNoEnd (next_block_result_by_size at bytes head kind)
+size_goes_on : (at : ℕ) (bytes : List ℕ) (head : HeadFields) (kind : BlockKind) → IsNoEnd (next_block_result_by_raw_size at bytes head kind)
 size_goes_on at bytes head kind =
     either_goes_on (nat_lt head.raw head.len || nat_lt (length bytes) head.raw) _ _ (λ e. absurd cc)
     (either_goes_on (nat_lt (head.raw - head.len) (least_payload_len kind)) _ _ (λ e. absurd cc) (λ e. absurd cc))
@@ -55,7 +55,7 @@ unfolding next_block_result_at_offset
 first_goes_on at bytes =
     either_goes_on (eqb (length bytes) 0) _ _ (λ e. absurd cc) (head_goes_on at bytes (block_head_fields bytes))
 
-by_step : (at : ℕ) (further : Piece → ℕ → Reading) (s : NextBlockResult) → IsNoEnd s → block_stream_after_result at further s ≡ done → ⊥
+by_step : (at : ℕ) (further : BlockWithoutOffset → ℕ → Reading) (s : NextBlockResult) → IsNoEnd s → block_stream_with_rest_by_padded_size at further s ≡ done → ⊥
 by_step at further ended on e = on refl
 by_step at further (failed c) on e = absurd cc
 by_step at further (block b size) on e = absurd cc
@@ -90,7 +90,7 @@ chosen_of : (b : Bool) (x y : Option Which) (which : Which) → (if b then x els
 chosen_of true x y which e = inl (refl, e)
 chosen_of false x y which e = inr e
 
-wanted : (schema : ℕ) (which : Which) → table_of_schema schema ≡ Some which → is_schema_wanted (schema_word which) schema ≡ true
+wanted : (schema : ℕ) (which : Which) → table_of_schema schema ≡ Some which → is_wanted_schema_present_and_equal (header_schema_if_root_table which) schema ≡ true
 wanted schema which e =
     elim (chosen_of (eqb schema PACKAGE_WORD) _ _ which e) [
       | inl x ↦ named Package PACKAGE_WORD refl refl x.0 x.1
@@ -109,26 +109,26 @@ wanted schema which e =
           ]
     ]
   where
-    named : (w : Which) (word : ℕ) → schema_word w ≡ Some word → eqb word word ≡ true → eqb schema word ≡ true → Some w ≡ Some which → is_schema_wanted (schema_word which) schema ≡ true
+    named : (w : Which) (word : ℕ) → header_schema_if_root_table w ≡ Some word → eqb word word ≡ true → eqb schema word ≡ true → Some w ≡ Some which → is_wanted_schema_present_and_equal (header_schema_if_root_table which) schema ≡ true
     named w word h same t e =
         let same_table : w ≡ which = cc in
-        ap (λ (x : Which). is_schema_wanted (schema_word x) schema) (sym same_table)
-        ∙ ap (λ (o : Option ℕ). is_schema_wanted o schema) h
+        ap (λ (x : Which). is_wanted_schema_present_and_equal (header_schema_if_root_table x) schema) (sym same_table)
+        ∙ ap (λ (o : Option ℕ). is_wanted_schema_present_and_equal o schema) h
         ∙ ap (eqb word) (eqb-true schema word t) ∙ same
 
 -- ---- both ways
 
-by_reading : (which : Which) (r : Reading) → (r ≡ done → ⊥) → blocks_fault (fault_of_further_blocks which) which r ≡ None
-    → (first : Piece) × (at : ℕ) × (behind : Reading) × (r ≡ more first at behind) × EachPasses (tests_of_values which first.payload behind)
+by_reading : (which : Which) (r : Reading) → (r ≡ done → ⊥) → blocks_fault (fault_of_contents_blocks_by_root_table which) which r ≡ None
+    → (first : BlockWithoutOffset) × (at : ℕ) × (behind : Reading) × (r ≡ more first at behind) × EachPasses (tests_of_values which first.payload behind)
 by_reading which done on e = absurd (on refl)
 by_reading which (fault c) on e = absurd cc
 by_reading which (more b at r) on e =
-    (b, at, r, refl, none_fails (tests_of_values which b.payload r) (sym (five (payload_head_fault b.payload) (shape_fault b.payload (shape_of (Obj which)) (root_word_of_payload b.payload)) (text_or_number_fault which (root_value_of_payload which b.payload)) (repeated_fault which (root_value_of_payload which b.payload)) (fault_of_further_blocks which (root_value_of_payload which b.payload) r)) ∙ e))
+    (b, at, r, refl, none_fails (tests_of_values which b.payload r) (sym (five (payload_head_fault b.payload) (shape_fault b.payload (shape_of (Obj which)) (root_word_of_payload b.payload)) (text_or_number_fault which (root_value_of_payload which b.payload)) (repeated_fault which (root_value_of_payload which b.payload)) (fault_of_contents_blocks_by_root_table which (root_value_of_payload which b.payload) r)) ∙ e))
 
 by_table : (file : List ℕ) (schema : ℕ) (which : Which) → schema_of_header file ≡ Ok schema → table_of_schema schema ≡ Some which → container_fault_of_table which file ≡ None → PassesEveryContainerTest file
 unfolding container_fault_of_table
 by_table file schema which header root e =
-    let all : file_fault_after_header (fault_of_further_blocks which) which file (Ok schema) ≡ None = sym (ap (file_fault_after_header (fault_of_further_blocks which) which file) header) ∙ e in
+    let all : file_fault_by_header_schema_or_fault (fault_of_contents_blocks_by_root_table which) which file (Ok schema) ≡ None = sym (ap (file_fault_by_header_schema_or_fault (fault_of_contents_blocks_by_root_table which) which file) header) ∙ e in
     let blocks = (both_none (schema_fault which schema) _ all).1 in
     let (first, at, behind, is, each) = by_reading which (block_stream_from (first_block_position_of_schema_and_file schema file)) (not_done schema file) blocks in
     record {
@@ -159,15 +159,15 @@ accepted : (file : List ℕ) → PassesEveryContainerTest file → container_fau
 unfolding container_fault container_fault_of_table
 accepted file p =
     let values = tests_of_values p.which p.first.payload p.behind in
-    let blocks : blocks_fault (fault_of_further_blocks p.which) p.which (block_stream_from (first_block_position_of_schema_and_file p.schema file)) ≡ None =
-    ap (blocks_fault (fault_of_further_blocks p.which) p.which) p.blocks
+    let blocks : blocks_fault (fault_of_contents_blocks_by_root_table p.which) p.which (block_stream_from (first_block_position_of_schema_and_file p.schema file)) ≡ None =
+    ap (blocks_fault (fault_of_contents_blocks_by_root_table p.which) p.which) p.blocks
     ∙ five (payload_head_fault p.first.payload) (shape_fault p.first.payload (shape_of (Obj p.which)) (root_word_of_payload p.first.payload)) (text_or_number_fault p.which (root_value_of_payload p.which p.first.payload)) (repeated_fault p.which (root_value_of_payload p.which p.first.payload))
-    (fault_of_further_blocks p.which (root_value_of_payload p.which p.first.payload) p.behind)
+    (fault_of_contents_blocks_by_root_table p.which (root_value_of_payload p.which p.first.payload) p.behind)
     ∙ each_holds values p.each in
     ap (container_fault_after_header file) p.header
     ∙ ap (container_fault_after_schema file p.schema) p.root
-    ∙ ap (file_fault_after_header (fault_of_further_blocks p.which) p.which file) p.header
-    ∙ ap (λ (b : Bool). option_or (if b then None else Some (WrongSchema p.schema)) (blocks_fault (fault_of_further_blocks p.which) p.which (block_stream_from (first_block_position_of_schema_and_file p.schema file)))) (wanted p.schema p.which p.root)
+    ∙ ap (file_fault_by_header_schema_or_fault (fault_of_contents_blocks_by_root_table p.which) p.which file) p.header
+    ∙ ap (λ (b : Bool). option_or (if b then None else Some (WrongSchema p.schema)) (blocks_fault (fault_of_contents_blocks_by_root_table p.which) p.which (block_stream_from (first_block_position_of_schema_and_file p.schema file)))) (wanted p.schema p.which p.root)
     ∙ blocks
 
 pub every_test : (file : List ℕ) → (container_fault file ≡ None) ↔ PassesEveryContainerTest file

@@ -3,7 +3,7 @@ use Rattle.std.proofs.Common.{◌≡◌, inl, inr, ℕ, Bool, true, false, not, 
 use Rattle.std.proofs.lemmas.Bool.{ltb-false, ltb-true, not-true, or_right, not-false, or_left}
 use Rattle.std.proofs.lemmas.List.{take-append-drop, take_at}
 use Rattle.std.proofs.lemmas.Slice.Eq.{bytes_eq-Decides}
-use Rattle.adb_block.specs.Header.{schema_of_header, is_compressed_file_mark, word_at}
+use Rattle.adb_block.specs.Header.{schema_of_header, is_four_byte_mark_of_compressed_file, word_at}
 use Rattle.base_core.specs.declared.Cause.{Cause}
 use Rattle.base_core.specs.declared.Cause.TheVariants.{NotAdb, Compressed, Truncated}
 use Rattle.container_laws.specs.HeaderFaults.{BeginsAs, IsCompressedFile, IsHeaderFault, BeginsAsNoContainer}
@@ -23,7 +23,7 @@ either_is true b file ea eb e = inl (front_is (codes "ADBd") file ea)
 either_is false true file ea eb e = inr (front_is (codes "ADBc") file eb)
 either_is false false file ea eb e = absurd (cc (e))
 
-none_compressed : (file : List ℕ) → is_compressed_file_mark (take 4 file) ≡ false → IsCompressedFile file → ⊥
+none_compressed : (file : List ℕ) → is_four_byte_mark_of_compressed_file (take 4 file) ≡ false → IsCompressedFile file → ⊥
 none_compressed file e (inl h) =
     let yes = or_left (bytes_eq (take 4 file) (codes "ADBd")) (bytes_eq (take 4 file) (codes "ADBc")) (front_of (codes "ADBd") file refl h) in
     cc (e, yes)
@@ -31,7 +31,7 @@ none_compressed file e (inr h) =
     let yes = or_right (bytes_eq (take 4 file) (codes "ADBd")) (bytes_eq (take 4 file) (codes "ADBc")) (front_of (codes "ADBc") file refl h) in
     cc (e, yes)
 
-by_tests : (file : List ℕ) (c : Cause) (short compressed other cut : Bool) → nat_lt (length file) 4 ≡ short → is_compressed_file_mark (take 4 file) ≡ compressed → not (bytes_eq (take 4 file) (codes "ADB.")) ≡ other → nat_lt (length file) 8 ≡ cut
+by_tests : (file : List ℕ) (c : Cause) (short compressed other cut : Bool) → nat_lt (length file) 4 ≡ short → is_four_byte_mark_of_compressed_file (take 4 file) ≡ compressed → not (bytes_eq (take 4 file) (codes "ADB.")) ≡ other → nat_lt (length file) 8 ≡ cut
     → (if short then Err (Truncated 0) else (if compressed then Err Compressed else (if other then Err NotAdb else (if cut then Err (Truncated 0) else Ok (word_at 4 file))))) ≡ Err c → IsHeaderFault file c
 by_tests file c true compressed other cut es ec eo et e =
     let same : Truncated 0 ≡ c = cc (e) in
@@ -52,4 +52,4 @@ by_tests file c false false false false es ec eo et e = absurd (cc (e))
 pub header_told : (file : List ℕ) (c : Cause) → schema_of_header file ≡ Err c → IsHeaderFault file c
 unfolding schema_of_header
 header_told file c e =
-    by_tests file c (nat_lt (length file) 4) (is_compressed_file_mark (take 4 file)) (not (bytes_eq (take 4 file) (codes "ADB."))) (nat_lt (length file) 8) refl refl refl refl e
+    by_tests file c (nat_lt (length file) 4) (is_four_byte_mark_of_compressed_file (take 4 file)) (not (bytes_eq (take 4 file) (codes "ADB."))) (nat_lt (length file) 8) refl refl refl refl e

@@ -4,14 +4,14 @@ use Rattle.std.specs.Prelude.{slice_get}
 use Rattle.std.specs.Option.{option_or}
 use Rattle.adb_block.specs.Header.{schema_of_header}
 use Rattle.adb_block.specs.Reading.{Reading, done, fault, more, block_stream_from}
-use Rattle.adb_block.specs.ReaderPosition.{first_block_position_of_schema_and_file}
-use Rattle.pkg_core.specs.adb_schema.Soundness.{blocks_fault, file_fault_after_header, is_schema_wanted, root_value_of_payload, schema_word}
+use Rattle.adb_block.specs.PositionBetweenBlocks.{first_block_position_of_schema_and_file}
+use Rattle.pkg_core.specs.adb_schema.Soundness.{blocks_fault, file_fault_by_header_schema_or_fault, is_wanted_schema_present_and_equal, root_value_of_payload, header_schema_if_root_table}
 use Rattle.adb_view.specs.declared.tables.Which.{Which}
 use Rattle.base_core.specs.declared.cause.Cause.{Cause}
 use Rattle.base_core.specs.declared.cause.Cause.TheVariants.{WrongSchema}
 use Rattle.container_laws.specs.TestsInOrder.{IsBlocksFault, IsContainerFault, IsContainerFaultForTable, IsFirstFailing, tests_of_values}
 use Rattle.container_laws.proofs.FirstHeader.{header_told}
-use Rattle.pkg_core.specs.Whole.{fault_of_further_blocks, container_fault, container_fault_after_header, container_fault_after_schema, table_of_schema, container_fault_of_table}
+use Rattle.pkg_core.specs.Whole.{fault_of_contents_blocks_by_root_table, container_fault, container_fault_after_header, container_fault_after_schema, table_of_schema, container_fault_of_table}
 use Rattle.pkg_core.proofs.WholeTests.{or_none}
 
 -- ---- tests in sequence
@@ -44,24 +44,24 @@ five None None None e f = ap (option_or e) (sym (or_none f))
 
 -- ---- the blocks
 
-blocks_told : (which : Which) (r : Reading) (c : Cause) → blocks_fault (fault_of_further_blocks which) which r ≡ Some c → IsBlocksFault which r c
+blocks_told : (which : Which) (r : Reading) (c : Cause) → blocks_fault (fault_of_contents_blocks_by_root_table which) which r ≡ Some c → IsBlocksFault which r c
 blocks_told which done c e = absurd (cc (e))
 blocks_told which (fault d) c e = let same : d ≡ c = cc (e) in inl (ap fault same)
 blocks_told which (more b at r) c e =
-    inr (b, at, r, refl, first_of (tests_of_values which b.payload r) c (sym (five _ _ _ _ (fault_of_further_blocks which (root_value_of_payload which b.payload) r)) ∙ e))
+    inr (b, at, r, refl, first_of (tests_of_values which b.payload r) c (sym (five _ _ _ _ (fault_of_contents_blocks_by_root_table which (root_value_of_payload which b.payload) r)) ∙ e))
 
-table_by : (which : Which) (file : List ℕ) (c : Cause) (schema : ℕ) (b : Bool) → schema_of_header file ≡ Ok schema → is_schema_wanted (schema_word which) schema ≡ b
-    → option_or (if b then None else Some (WrongSchema schema)) (blocks_fault (fault_of_further_blocks which) which (block_stream_from (first_block_position_of_schema_and_file schema file))) ≡ Some c → IsContainerFaultForTable which file c
+table_by : (which : Which) (file : List ℕ) (c : Cause) (schema : ℕ) (b : Bool) → schema_of_header file ≡ Ok schema → is_wanted_schema_present_and_equal (header_schema_if_root_table which) schema ≡ b
+    → option_or (if b then None else Some (WrongSchema schema)) (blocks_fault (fault_of_contents_blocks_by_root_table which) which (block_stream_from (first_block_position_of_schema_and_file schema file))) ≡ Some c → IsContainerFaultForTable which file c
 table_by which file c schema true header wanted e = inr (schema, header, inr (wanted, blocks_told which (block_stream_from (first_block_position_of_schema_and_file schema file)) c e))
 table_by which file c schema false header wanted e =
     let same : WrongSchema schema ≡ c = cc (e) in
     inr (schema, header, inl (wanted, sym same))
 
-by_header : (which : Which) (file : List ℕ) (c : Cause) (h : Result ℕ Cause) → schema_of_header file ≡ h → file_fault_after_header (fault_of_further_blocks which) which file h ≡ Some c → IsContainerFaultForTable which file c
+by_header : (which : Which) (file : List ℕ) (c : Cause) (h : Result ℕ Cause) → schema_of_header file ≡ h → file_fault_by_header_schema_or_fault (fault_of_contents_blocks_by_root_table which) which file h ≡ Some c → IsContainerFaultForTable which file c
 by_header which file c (Err d) header e =
     let same : d ≡ c = cc (e) in
     inl (header_told file c (header ∙ ap Err same))
-by_header which file c (Ok schema) header e = table_by which file c schema (is_schema_wanted (schema_word which) schema) header refl e
+by_header which file c (Ok schema) header e = table_by which file c schema (is_wanted_schema_present_and_equal (header_schema_if_root_table which) schema) header refl e
 
 pub table_told : (which : Which) (file : List ℕ) (c : Cause) → container_fault_of_table which file ≡ Some c → IsContainerFaultForTable which file c
 unfolding container_fault_of_table

@@ -4,19 +4,19 @@ use Rattle.std.specs.Prelude.{◌≡◌, ◌⊎◌, ◌<◌, ℕ, true, false, L
 use Rattle.base_core.specs.declared.cause.Cause.{Cause}
 use Rattle.base_core.specs.declared.cause.Cause.TheVariants.{WrongSchema}
 use Rattle.adb_block.specs.Header.{schema_of_header}
-use Rattle.adb_block.specs.Piece.{Piece}
+use Rattle.adb_block.specs.BlockWithoutOffset.{BlockWithoutOffset}
 use Rattle.adb_block.specs.Reading.{Reading, fault, more, block_stream_from}
-use Rattle.adb_block.specs.ReaderPosition.{first_block_position_of_schema_and_file}
+use Rattle.adb_block.specs.PositionBetweenBlocks.{first_block_position_of_schema_and_file}
 use Rattle.pkg_core.specs.adb_fields.Repeated.{repeated_fault}
 use Rattle.pkg_core.specs.adb_schema.Texts.{text_or_number_fault}
-use Rattle.pkg_core.specs.adb_schema.Soundness.{is_schema_wanted, root_value_of_payload, schema_word}
+use Rattle.pkg_core.specs.adb_schema.Soundness.{is_wanted_schema_present_and_equal, root_value_of_payload, header_schema_if_root_table}
 use Rattle.adb_view.specs.Schema.{shape_of}
 use Rattle.adb_view.specs.Walk.{shape_fault}
 use Rattle.adb_view.specs.declared.tables.Kind.TheVariants.{Obj}
 use Rattle.adb_view.specs.declared.tables.Which.{Which}
 use Rattle.adb_view.specs.Head.{payload_head_fault, root_word_of_payload}
 use Rattle.container_laws.specs.HeaderFaults.{IsHeaderFault}
-use Rattle.pkg_core.specs.Whole.{fault_of_further_blocks, table_of_schema}
+use Rattle.pkg_core.specs.Whole.{fault_of_contents_blocks_by_root_table, table_of_schema}
 
 -- c is the cause of the first failed test. `tests` has the results of all tests in order; None is a test that holds
 pub record IsFirstFailing (tests : List (Option Cause)) (c : Cause) : Type 0 where
@@ -35,14 +35,14 @@ tests_of_values which payload behind =
     ∷ (shape_fault payload (shape_of (Obj which)) (root_word_of_payload payload)
     ∷ (text_or_number_fault which (root_value_of_payload which payload)
     ∷ (repeated_fault which (root_value_of_payload which payload)
-    ∷ (fault_of_further_blocks which (root_value_of_payload which payload) behind ∷ []))))
+    ∷ (fault_of_contents_blocks_by_root_table which (root_value_of_payload which payload) behind ∷ []))))
 
 -- c is the fault of a file's blocks r: the first block is bad; or it is good, and c is the cause of the first failed
 -- test of its payload or of the further blocks
 abbrev pub IsBlocksFault : Which → Reading → Cause → Type 0
 IsBlocksFault which r c =
     (r ≡ fault c)
-    ⊎ ((b : Piece) × (at : ℕ) × (behind : Reading) × (r ≡ more b at behind)
+    ⊎ ((b : BlockWithoutOffset) × (at : ℕ) × (behind : Reading) × (r ≡ more b at behind)
     × IsFirstFailing (tests_of_values which b.payload behind) c)
 
 -- c is the fault of a file that must have the table `which` at its root: the first fault of the header, then of the
@@ -51,8 +51,8 @@ abbrev pub IsContainerFaultForTable : Which → List ℕ → Cause → Type 0
 IsContainerFaultForTable which file c =
     IsHeaderFault file c
     ⊎ ((schema : ℕ) × (schema_of_header file ≡ Ok schema)
-    × (((is_schema_wanted (schema_word which) schema ≡ false) × (c ≡ WrongSchema schema))
-    ⊎ ((is_schema_wanted (schema_word which) schema ≡ true)
+    × (((is_wanted_schema_present_and_equal (header_schema_if_root_table which) schema ≡ false) × (c ≡ WrongSchema schema))
+    ⊎ ((is_wanted_schema_present_and_equal (header_schema_if_root_table which) schema ≡ true)
     × IsBlocksFault which (block_stream_from (first_block_position_of_schema_and_file schema file)) c)))
 
 -- c is the fault of a file that must be a container with any of the four schemas: that of the header; else that the
@@ -76,7 +76,7 @@ pub record PassesEveryContainerTest (file : List ℕ) : Type 0 where
   -- the schema demands this table
   pub root : table_of_schema schema ≡ Some which
   -- the first block
-  pub first : Piece
+  pub first : BlockWithoutOffset
   -- the offset of the first block
   pub at : ℕ
   -- the blocks after it

@@ -3,7 +3,7 @@
 //! `docs/formats.md`, "Tests of a container", and the printed text in "Dump text".
 
 ghost use Rattle.std.specs.Prelude.{IsTrue, is_some};
-ghost use Rattle.adb_schema.specs.Soundness.{schema_word};
+ghost use Rattle.adb_schema.specs.Soundness.{header_schema_if_root_table};
 
 use crate::tally::{AnswerKind, kind_of};
 use adb_block::Blocks;
@@ -101,7 +101,7 @@ fn text_of(alloc: Global, file: &[u8]) -> Result<Text, ReadFault> {
 /// The dump text of a file with these blocks, whose root value is an object of the table `which`.
 fn text_of_blocks(alloc: Global, blocks: &mut Blocks<'_>, which: Which) -> Result<Text, ReadFault>
     // The table is that of the root value of some schema of containers.
-    requires { IsTrue (is_some (schema_word which)) }
+    requires { IsTrue (is_some (header_schema_if_root_table which)) }
 {
     let Some(block) = blocks.next()? else {
         return Err(ReadFault::Memory);

@@ -12,16 +12,16 @@ use Rattle.base_core.specs.Name.{IsName, is_name, is_path_part, path_parts_of}
 use Rattle.base_core.proofs.NameParts.{split_slash}
 use Rattle.adb_view.specs.Plain.{Plain, Plains, none, more}
 use Rattle.adb_view.specs.Shaped.{Each}
-use Rattle.adb_view.specs.Values.{entries_in, entry_in}
+use Rattle.adb_view.specs.Values.{entries_in, entry_at_index}
 use Rattle.adb_view.specs.declared.tables.Which.{Which}
 use Rattle.adb_view.specs.declared.tables.Which.TheVariants.{Idb}
 use Rattle.pkg_core.specs.adb_fields.Paths.{path_of}
 use Rattle.pkg_core.specs.adb_fields.Repeated.{files_in, folders_in, list_of, name_of, paths_of_package_files, paths_of_folder_files}
 use Rattle.pkg_core.specs.adb_schema.Reserved.{is_reserved}
 use Rattle.pkg_core.specs.adb_schema.Rules.{is_valid_file_name_in_folder, is_folder_name, is_one_part}
-use Rattle.pkg_core.specs.adb_schema.SoundValues.{IsSoundFileInFolder, IsSoundFolder, IsSoundPackage}
+use Rattle.pkg_core.specs.adb_schema.SoundValues.{ObeysTextAndNumberRulesOfFileInFolder, ObeysTextAndNumberRulesOfFolder, ObeysTextAndNumberRulesOfPackage}
 use Rattle.db_core.specs.EntrySeen.{member_of_entry}
-use Rattle.db_core.specs.Members.{Member, is_added, listings_of_member, listings_of_members_from, listings_in_folder_from_file, listings_in_folders_from, listings_of_members, member_of_kept}
+use Rattle.db_core.specs.Members.{Member, is_added, listings_of_member, listings_of_members_from, listings_from_member_folder_file_places, listings_in_folders_from, listings_of_members, member_of_kept}
 use Rattle.db_core.specs.Packages.{is_added_or_lists_no_reserved, lists_only_valid_names, lists_no_reserved_path}
 
 -- ---- a name behind another one and a slash
@@ -62,37 +62,37 @@ path_named (b ∷ folder) name h file =
 -- ---- the paths of a package that keeps the rules
 
 module _ (p : List ℕ → Bool) (root : Which)
-    (file_passes : (folder : List ℕ) (v : Plain) → is_folder_name folder ≡ true → IsSoundFileInFolder root folder v → p (path_of folder (name_of v)) ≡ true) where
-  files_pass : (folder : List ℕ) → is_folder_name folder ≡ true → (vs : Plains) → Each (IsSoundFileInFolder root folder) vs → list_all p (map (λ file. path_of folder (name_of file)) (list_of vs)) ≡ true
+    (file_passes : (folder : List ℕ) (v : Plain) → is_folder_name folder ≡ true → ObeysTextAndNumberRulesOfFileInFolder root folder v → p (path_of folder (name_of v)) ≡ true) where
+  files_pass : (folder : List ℕ) → is_folder_name folder ≡ true → (vs : Plains) → Each (ObeysTextAndNumberRulesOfFileInFolder root folder) vs → list_all p (map (λ file. path_of folder (name_of file)) (list_of vs)) ≡ true
   files_pass folder h none each = refl
   files_pass folder h (more v vs) each = and_from (p (path_of folder (name_of v))) _ (file_passes folder v h each.0) (files_pass folder h vs each.1)
 
-  folders_pass : (vs : Plains) → Each (IsSoundFolder root) vs → list_all p (flat_map paths_of_folder_files (list_of vs)) ≡ true
+  folders_pass : (vs : Plains) → Each (ObeysTextAndNumberRulesOfFolder root) vs → list_all p (flat_map paths_of_folder_files (list_of vs)) ≡ true
   folders_pass none each = refl
   folders_pass (more v vs) each =
       list_all-append p (paths_of_folder_files v) (flat_map paths_of_folder_files (list_of vs))
       ∙ and_from (list_all p (paths_of_folder_files v)) (list_all p (flat_map paths_of_folder_files (list_of vs)))
-      (files_pass (name_of v) each.0.name (entries_in (entry_in v 2)) each.0.files)
+      (files_pass (name_of v) each.0.name (entries_in (entry_at_index v 2)) each.0.files)
       (folders_pass vs each.1)
 
-  package_passes : (v : Plain) → IsSoundPackage root v → list_all p (paths_of_package_files v) ≡ true
-  package_passes v is = folders_pass (entries_in (entry_in v 1)) is.folders
+  package_passes : (v : Plain) → ObeysTextAndNumberRulesOfPackage root v → list_all p (paths_of_package_files v) ≡ true
+  package_passes v is = folders_pass (entries_in (entry_at_index v 1)) is.folders
 
-  packages_pass : (vs : Plains) → Each (IsSoundPackage root) vs → list_all (λ v. list_all p (paths_of_package_files v)) (list_of vs) ≡ true
+  packages_pass : (vs : Plains) → Each (ObeysTextAndNumberRulesOfPackage root) vs → list_all (λ v. list_all p (paths_of_package_files v)) (list_of vs) ≡ true
   packages_pass none each = refl
   packages_pass (more v vs) each = and_from (list_all p (paths_of_package_files v)) (list_all (λ v. list_all p (paths_of_package_files v)) (list_of vs)) (package_passes v each.0) (packages_pass vs each.1)
 
-file_named : (root : Which) (folder : List ℕ) (v : Plain) → is_folder_name folder ≡ true → IsSoundFileInFolder root folder v → is_name (path_of folder (name_of v)) ≡ true
+file_named : (root : Which) (folder : List ℕ) (v : Plain) → is_folder_name folder ≡ true → ObeysTextAndNumberRulesOfFileInFolder root folder v → is_name (path_of folder (name_of v)) ≡ true
 file_named root folder v h file = path_named folder (name_of v) h file.name
 
-pub package_lists_names : (root : Which) (v : Plain) → IsSoundPackage root v → lists_only_valid_names v ≡ true
+pub package_lists_names : (root : Which) (v : Plain) → ObeysTextAndNumberRulesOfPackage root v → lists_only_valid_names v ≡ true
 package_lists_names root v is = package_passes is_name root (file_named root) v is
 
-pub packages_list_names : (root : Which) (vs : Plains) → Each (IsSoundPackage root) vs → list_all lists_only_valid_names (list_of vs) ≡ true
+pub packages_list_names : (root : Which) (vs : Plains) → Each (ObeysTextAndNumberRulesOfPackage root) vs → list_all lists_only_valid_names (list_of vs) ≡ true
 packages_list_names root vs each = packages_pass is_name root (file_named root) vs each
 
 -- in a database none is reserved
-pub packages_list_no_reserved : (vs : Plains) → Each (IsSoundPackage Idb) vs → list_all lists_no_reserved_path (list_of vs) ≡ true
+pub packages_list_no_reserved : (vs : Plains) → Each (ObeysTextAndNumberRulesOfPackage Idb) vs → list_all lists_no_reserved_path (list_of vs) ≡ true
 packages_list_no_reserved vs each = packages_pass (λ path. not (is_reserved path)) Idb (λ folder v h file. file.listed) vs each
 
 -- ---- of a database and of members
@@ -117,14 +117,14 @@ passes_at p (x ∷ xs) all (suc k) d l = passes_at p xs (and_parts (p x) (list_a
 
 module _ (q : Member → List ℕ → Bool) where
   in_folder : (m : Member) (place folder i : ℕ) (above : List ℕ) (entries : List Plain)
-      → list_all (λ l. q l.member l.path) (listings_in_folder_from_file m place folder i above entries) ≡ list_all (q m) (map (λ file. path_of above (name_of file)) entries)
+      → list_all (λ l. q l.member l.path) (listings_from_member_folder_file_places m place folder i above entries) ≡ list_all (q m) (map (λ file. path_of above (name_of file)) entries)
   in_folder m place folder i above [] = refl
   in_folder m place folder i above (e ∷ es) = ap (λ b. q m (path_of above (name_of e)) && b) (in_folder m place folder (i + 1) above es)
 
   in_folders : (m : Member) (place i : ℕ) (folders : List Plain) → list_all (λ l. q l.member l.path) (listings_in_folders_from m place i folders) ≡ list_all (q m) (flat_map paths_of_folder_files folders)
   in_folders m place i [] = refl
   in_folders m place i (f ∷ fs) =
-      list_all-append (λ l. q l.member l.path) (listings_in_folder_from_file m place i 1 (name_of f) (files_in f)) (listings_in_folders_from m place (i + 1) fs)
+      list_all-append (λ l. q l.member l.path) (listings_from_member_folder_file_places m place i 1 (name_of f) (files_in f)) (listings_in_folders_from m place (i + 1) fs)
       ∙ ((λ j. in_folder m place i 1 (name_of f) (files_in f) j && in_folders m place (i + 1) fs j)
       ∙ sym (list_all-append (q m) (paths_of_folder_files f) (flat_map paths_of_folder_files fs)))
 

@@ -5,7 +5,7 @@ use Rattle.adb_view.specs.Plain.{Plain}
 use Rattle.pkg_core.specs.adb_fields.Paths.{path_of}
 use Rattle.pkg_core.specs.adb_fields.Repeated.{files_in, folders_in, name_of}
 use Rattle.db_core.specs.ListedAt.{IsListedAt}
-use Rattle.db_core.specs.Members.{Listing, Member, listings_of_member, listings_of_members_from, listings_in_folder_from_file, listings_in_folders_from, listings_of_members}
+use Rattle.db_core.specs.Members.{Listing, Member, listings_of_member, listings_of_members_from, listings_from_member_folder_file_places, listings_in_folders_from, listings_of_members}
 
 abbrev is_one : {X : Type 0} → Option X → Bool
 is_one None = false
@@ -33,7 +33,7 @@ record InFolder (m : Member) (place folder i : ℕ) (above : List ℕ) (entries 
   file : slice_get entries (l.file - i) ≡ Some l.entry
   path : l.path ≡ path_of above (name_of l.entry)
 
-in_folder : (m : Member) (place folder i : ℕ) (above : List ℕ) (entries : List Plain) (k : ℕ) (l : Listing) → slice_get (listings_in_folder_from_file m place folder i above entries) k ≡ Some l → InFolder m place folder i above entries l
+in_folder : (m : Member) (place folder i : ℕ) (above : List ℕ) (entries : List Plain) (k : ℕ) (l : Listing) → slice_get (listings_from_member_folder_file_places m place folder i above entries) k ≡ Some l → InFolder m place folder i above entries l
 in_folder m place folder i above [] k l g = absurd (no_some l g)
 in_folder m place folder i above (e ∷ es) zero l g =
     let none : i - i ≡ 0 = omega arith in
@@ -57,7 +57,7 @@ record InFolders (m : Member) (place i : ℕ) (folders : List Plain) (l : Listin
 
 in_folders : (m : Member) (place i : ℕ) (folders : List Plain) (k : ℕ) (l : Listing) → slice_get (listings_in_folders_from m place i folders) k ≡ Some l → InFolders m place i folders l
 in_folders m place i [] k l g = absurd (no_some l g)
-in_folders m place i (d ∷ ds) k l g = go (in_either (listings_in_folder_from_file m place i 1 (name_of d) (files_in d)) (listings_in_folders_from m place (i + 1) ds) k l g) (in_folders m place (i + 1) ds)
+in_folders m place i (d ∷ ds) k l g = go (in_either (listings_from_member_folder_file_places m place i 1 (name_of d) (files_in d)) (listings_in_folders_from m place (i + 1) ds) k l g) (in_folders m place (i + 1) ds)
   where
     further : InFolders m place (i + 1) ds l → InFolders m place i (d ∷ ds) l
     further r =
@@ -87,7 +87,7 @@ in_folders m place i (d ∷ ds) k l g = go (in_either (listings_in_folder_from_f
           path = r.path;
         }
 
-    go : (slice_get (listings_in_folder_from_file m place i 1 (name_of d) (files_in d)) k ≡ Some l) ⊎ ((j : ℕ) × (slice_get (listings_in_folders_from m place (i + 1) ds) j ≡ Some l))
+    go : (slice_get (listings_from_member_folder_file_places m place i 1 (name_of d) (files_in d)) k ≡ Some l) ⊎ ((j : ℕ) × (slice_get (listings_in_folders_from m place (i + 1) ds) j ≡ Some l))
         → ((j : ℕ) (l : Listing) → slice_get (listings_in_folders_from m place (i + 1) ds) j ≡ Some l → InFolders m place (i + 1) ds l)
         → InFolders m place i (d ∷ ds) l
     go (inl h) rest = here (in_folder m place i 1 (name_of d) (files_in d) k l h)

@@ -9,7 +9,7 @@ use Rattle.std.proofs.lemmas.Bool.{cases_eq, cases_lt}
 use Rattle.std.proofs.lemmas.Bool.Decides.{eqb_tells}
 use Rattle.std.proofs.lemmas.Cmp.{nat_list_cmp_total, tied_itself}
 use Rattle.std.proofs.lemmas.List.{get_or-map, length-map}
-use Rattle.base_core.specs.Listed.{AreSortedDistinctNames}
+use Rattle.base_core.specs.Listed.{AreSortedDistinctTexts}
 use Rattle.base_core.specs.ByteOrder.{bytes_cmp, precedes}
 use Rattle.base_core.proofs.Orderings.{is_less}
 use Rattle.db_core.specs.EntrySeen.{member_of_entry}
@@ -30,12 +30,12 @@ value_or d (Some x) = x
 -- ---- the names of those that are kept
 
 -- of two the later one has the greater name
-later : (es : List Kept) → AreSortedDistinctNames (kept_names es) → (i j : ℕ) (d : Kept) → i < j → j < length es → bytes_cmp (kept_name (get_or es i d)) (kept_name (get_or es j d)) ≡ Less
+later : (es : List Kept) → AreSortedDistinctTexts (kept_names es) → (i j : ℕ) (d : Kept) → i < j → j < length es → bytes_cmp (kept_name (get_or es i d)) (kept_name (get_or es j d)) ≡ Less
 later es rising i j d l m =
     sym (λ k. bytes_cmp (get_or-map kept_name es i d (kept_name d) (omega (arith, l, m)) k) (get_or-map kept_name es j d (kept_name d) m k))
     ∙ rising i j (kept_name d) l (omega (arith, m, length-map es kept_name))
 
-pub kept_parted : (es : List Kept) (q : List ℕ) → AreSortedDistinctNames (kept_names es) → IsPartitionedBy (λ e. precedes (kept_name e) q) es
+pub kept_parted : (es : List Kept) (q : List ℕ) → AreSortedDistinctTexts (kept_names es) → IsPartitionedBy (λ e. precedes (kept_name e) q) es
 kept_parted es q rising i j d le l h = go (cases_eq i j)
   where
     go : (i ≡ j) ⊎ (i ≡ j → ⊥) → precedes (kept_name (get_or es i d)) q ≡ true
@@ -44,7 +44,7 @@ kept_parted es q rising i j d le l h = go (cases_eq i j)
         let less : bytes_cmp (kept_name (get_or es j d)) q ≡ Less = is_less (bytes_cmp (kept_name (get_or es j d)) q) h in
         ap is_lt (nat_list_cmp_total.trans (kept_name (get_or es i d)) (kept_name (get_or es j d)) q (later es rising i j d (omega (arith, le, n)) l) less)
 
-module _ (es : List Kept) (q : List ℕ) (at : ℕ) (rising : AreSortedDistinctNames (kept_names es))
+module _ (es : List Kept) (q : List ℕ) (at : ℕ) (rising : AreSortedDistinctTexts (kept_names es))
     (point : IsPartitionPoint (λ e. precedes (kept_name e) q ≡ true) (λ e. precedes (kept_name e) q ≡ false) es at) where
   -- one that stands elsewhere has another name
   other_there : (i : ℕ) (d : Kept) → i < length es → (i ≡ at → ⊥) → bytes_eq (kept_name (get_or es i d)) q ≡ false

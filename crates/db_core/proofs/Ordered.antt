@@ -3,7 +3,7 @@ use Rattle.std.proofs.Common.{◌≡◌, ◌⊎◌, inl, inr, ℕ, suc, zero, �
 use Rattle.std.specs.Prelude.{get_or, if◌then◌else◌, is_ok}
 use Rattle.std.proofs.lemmas.Cmp.{nat_list_cmp_total}
 use Rattle.std.proofs.lemmas.List.{length-map}
-use Rattle.base_core.specs.Listed.{AreSortedDistinctNames}
+use Rattle.base_core.specs.Listed.{AreSortedDistinctTexts}
 use Rattle.base_core.proofs.Rising.{IsIn, Rises, pairs_from_rises, rises_from_pairs}
 use Rattle.base_core.specs.ByteOrder.{bytes_cmp, precedes}
 use Rattle.base_core.proofs.Orderings.{is_less}
@@ -53,7 +53,7 @@ after_names name (m ∷ n ∷ members) h = after_names name (n ∷ members) h
 pub in_order_more : (members : List Member) (m : Member) → AreMembersInNameOrder members → is_after_members (member_name m) members ≡ true → AreMembersInNameOrder (members ++ m ∷ [])
 in_order_more members m rising behind =
     let rises : Rises (map member_name members) = rises_from_pairs _ rising in
-    subst AreSortedDistinctNames (sym (names_more members m))
+    subst AreSortedDistinctTexts (sym (names_more members m))
     (pairs_from_rises _ (rises_more (member_name m) (map member_name members) rises (all_before (member_name m) (map member_name members) rises (after_names (member_name m) members behind))))
 
 -- ---- as the program keeps them
@@ -72,15 +72,15 @@ members_more : (es : List Kept) (e : Kept) → map member_of_entry (es ++ e ∷ 
 members_more [] e = refl
 members_more (x ∷ es) e = ap (λ ms. member_of_entry x ∷ ms) (members_more es e)
 
-pub members_in_order : (es : List Kept) → AreSortedDistinctNames (kept_names es) → AreMembersInNameOrder (map member_of_entry es)
-members_in_order es h = subst AreSortedDistinctNames (names_are es) h
+pub members_in_order : (es : List Kept) → AreSortedDistinctTexts (kept_names es) → AreMembersInNameOrder (map member_of_entry es)
+members_in_order es h = subst AreSortedDistinctTexts (names_are es) h
 
-pub kept_more : {A B : Type 0} (r : Result A B) (es new : List Kept) (e : Kept) → new ≡ (if is_ok r then es ++ e ∷ [] else es) → AreSortedDistinctNames (kept_names es)
-    → is_after_members (member_name (member_of_entry e)) (map member_of_entry es) ≡ true → AreSortedDistinctNames (kept_names new)
+pub kept_more : {A B : Type 0} (r : Result A B) (es new : List Kept) (e : Kept) → new ≡ (if is_ok r then es ++ e ∷ [] else es) → AreSortedDistinctTexts (kept_names es)
+    → is_after_members (member_name (member_of_entry e)) (map member_of_entry es) ≡ true → AreSortedDistinctTexts (kept_names new)
 kept_more (Ok x) es new e is h behind =
     let ordered : AreMembersInNameOrder (map member_of_entry es ++ member_of_entry e ∷ []) = in_order_more (map member_of_entry es) (member_of_entry e) (members_in_order es h) behind in
-    subst AreSortedDistinctNames (sym (ap kept_names is ∙ names_are (es ++ e ∷ []))) (subst AreMembersInNameOrder (sym (members_more es e)) ordered)
-kept_more (Err x) es new e is h behind = subst AreSortedDistinctNames (sym (ap kept_names is)) h
+    subst AreSortedDistinctTexts (sym (ap kept_names is ∙ names_are (es ++ e ∷ []))) (subst AreMembersInNameOrder (sym (members_more es e)) ordered)
+kept_more (Err x) es new e is h behind = subst AreSortedDistinctTexts (sym (ap kept_names is)) h
 
 pub few_more : {A B : Type 0} (r : Result A B) (es new : List Kept) (e : Kept) (most : ℕ) → new ≡ (if is_ok r then es ++ e ∷ [] else es) → length es ≤ most
     → length (map member_of_entry es) < most → length new ≤ most

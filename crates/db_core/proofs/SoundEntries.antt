@@ -6,7 +6,7 @@ use Rattle.sha2.specs.Sha256.{sha256}
 use Rattle.sha2.proofs.Facts256.{length-sha256}
 use Rattle.adb_view.specs.Plain.{Plain, IsNormal}
 use Rattle.pkg_core.specs.adb_fields.FirstPair.{IsIn}
-use Rattle.pkg_core.specs.adb_fields.Repeated.{entries_at}
+use Rattle.pkg_core.specs.adb_fields.Repeated.{entries_of_field_at_index}
 use Rattle.pkg_core.specs.adb_schema.Rules.{is_digest_length}
 use Rattle.pkg_core.specs.adb_schema.SoundContainers.{IsSoundValue}
 use Rattle.adb_view.specs.declared.tables.Which.TheVariants.{Idb, Package}
@@ -32,7 +32,7 @@ in_at (v ∷ vs) (suc i) pkg at = inr (in_at vs i pkg at)
 
 listed_sound : (database : Option Plain) (i : ℕ) (pkg : Plain) → slice_get (packages_of_database_value database) i ≡ Some pkg → IsSoundDatabaseIfAny database → IsOfSoundDatabase pkg
 listed_sound None i pkg at sound = absurd (no_some pkg at)
-listed_sound (Some v) i pkg at sound = record { database = v; sound = sound.0; normal = sound.1; listed = in_at (entries_at 0 v) i pkg at }
+listed_sound (Some v) i pkg at sound = record { database = v; sound = sound.0; normal = sound.1; listed = in_at (entries_of_field_at_index 0 v) i pkg at }
 
 pub stays_sound : (database : Option Plain) (i : ℕ) (pkg : Plain) → slice_get (packages_of_database_value database) i ≡ Some pkg → ∥ IsSoundDatabaseIfAny database ∥₁ → ∥ IsPackageOfSoundContainer pkg None ∥₁
 stays_sound database i pkg at sound = ∥∥₁_map {B = IsOfSoundDatabase pkg} sound (listed_sound database i pkg at)

@@ -3,7 +3,7 @@
 -- *listing* in `docs/names.md`, "The installed database and a change of it".
 use Rattle.std.specs.Prelude.{ℕ, ◌+◌, ◌==◌, Bool, true, false, List, [], ◌∷◌, ◌++◌, Option, Some, None, is_some, bytes_eq, map}
 use Rattle.std.specs.List.{filter}
-use Rattle.base_core.specs.Listed.{AreSortedDistinctNames}
+use Rattle.base_core.specs.Listed.{AreSortedDistinctTexts}
 use Rattle.base_core.specs.ByteOrder.{precedes}
 use Rattle.adb_view.specs.Plain.{Plain}
 use Rattle.pkg_core.specs.adb_fields.Paths.{path_of}
@@ -40,7 +40,7 @@ is_added m = is_some m.id
 
 -- members are in byte order of their names, each name once
 abbrev pub AreMembersInNameOrder : List Member → Type 0
-AreMembersInNameOrder members = AreSortedDistinctNames (map member_name members)
+AreMembersInNameOrder members = AreSortedDistinctTexts (map member_name members)
 
 -- whether a name is after the name of the last of some members; so it is after all their names, if they are in
 -- order
@@ -86,18 +86,18 @@ listing_of_file_entry m place folder file above entry = record {
 
 -- the listings of the files (`entries`) of a folder, the first of which has the position `i` in its folder. The
 -- member `m` is at the place `place`, `folder` is the position of the folder, and `above` its path
-abbrev pub listings_in_folder_from_file : Member → ℕ → ℕ → ℕ → List ℕ → List Plain → List Listing
-listings_in_folder_from_file m place folder i above [] = []
-listings_in_folder_from_file m place folder i above (entry ∷ entries) =
+abbrev pub listings_from_member_folder_file_places : Member → ℕ → ℕ → ℕ → List ℕ → List Plain → List Listing
+listings_from_member_folder_file_places m place folder i above [] = []
+listings_from_member_folder_file_places m place folder i above (entry ∷ entries) =
     listing_of_file_entry m place folder i above entry
-    ∷ listings_in_folder_from_file m place folder (i + 1) above entries
+    ∷ listings_from_member_folder_file_places m place folder (i + 1) above entries
 
 -- the listings of the files of some folders of the member `m`, which is at the place `place`. The first of these
 -- folders has the position `i` in the member's package
 abbrev pub listings_in_folders_from : Member → ℕ → ℕ → List Plain → List Listing
 listings_in_folders_from m place i [] = []
 listings_in_folders_from m place i (folder ∷ folders) =
-    listings_in_folder_from_file m place i 1 (name_of folder) (files_in folder)
+    listings_from_member_folder_file_places m place i 1 (name_of folder) (files_in folder)
     ++ listings_in_folders_from m place (i + 1) folders
 
 -- the listings of the member at a place, in the order of its folders and files

@@ -5,10 +5,10 @@ use Rattle.std.specs.Prelude.{ℕ, Bool, List, [], Option, Some, None, not, ◌|
 use Rattle.std.specs.List.{list_all, list_any}
 use Rattle.base_core.specs.Name.{is_name}
 use Rattle.adb_view.specs.Plain.{Plain}
-use Rattle.adb_view.specs.FieldIndexes.{IDB_PACKAGES, INFO_HASHES, PACKAGE_INFO}
-use Rattle.adb_view.specs.Values.{entry_in, text_in}
+use Rattle.adb_view.specs.FieldIndexes.{IDB_PACKAGES_INDEX, INFO_HASHES_INDEX, PACKAGE_INFO_INDEX}
+use Rattle.adb_view.specs.Values.{entry_at_index, text_in}
 use Rattle.pkg_core.specs.adb_schema.Reserved.{is_reserved}
-use Rattle.pkg_core.specs.adb_fields.Repeated.{entries_at, package_name, paths_of_package_files}
+use Rattle.pkg_core.specs.adb_fields.Repeated.{entries_of_field_at_index, package_name, paths_of_package_files}
 use Rattle.db_core.specs.Members.{Member, is_added}
 
 -- whether a package has this name
@@ -17,7 +17,7 @@ is_package_named name pkg = bytes_eq (package_name pkg) name
 
 -- the id of an installed package, which its information keeps in the field `hashes`
 abbrev pub installed_id : Plain → List ℕ
-installed_id pkg = text_in (entry_in (entry_in pkg PACKAGE_INFO) INFO_HASHES)
+installed_id pkg = text_in (entry_at_index (entry_at_index pkg PACKAGE_INFO_INDEX) INFO_HASHES_INDEX)
 
 -- whether a package lists a file with this path
 abbrev pub lists_path : List ℕ → Plain → Bool
@@ -38,4 +38,4 @@ is_added_or_lists_no_reserved m = is_added m || lists_no_reserved_path m.pkg
 -- the packages of the value of a database; none if there is no database
 abbrev pub packages_of_database_value : Option Plain → List Plain
 packages_of_database_value None = []
-packages_of_database_value (Some v) = entries_at IDB_PACKAGES v
+packages_of_database_value (Some v) = entries_of_field_at_index IDB_PACKAGES_INDEX v

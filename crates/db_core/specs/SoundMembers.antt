@@ -4,12 +4,12 @@
 -- that a new database is sound.
 use Rattle.std.specs.Prelude.{◌≡◌, ℕ, true, false, List, [], ◌∷◌, length, map, Option, Some, None}
 use Rattle.adb_view.specs.Plain.{Plain, IsNormal}
-use Rattle.adb_view.specs.FieldIndexes.{IDB_PACKAGES}
+use Rattle.adb_view.specs.FieldIndexes.{IDB_PACKAGES_INDEX}
 use Rattle.adb_view.specs.declared.tables.Which.TheVariants.{Idb, Package}
 use Rattle.pkg_core.specs.adb_schema.Reserved.{is_reserved}
 use Rattle.pkg_core.specs.adb_schema.Rules.{is_digest_length}
 use Rattle.pkg_core.specs.adb_fields.FirstPair.{IsIn}
-use Rattle.pkg_core.specs.adb_fields.Repeated.{entries_at}
+use Rattle.pkg_core.specs.adb_fields.Repeated.{entries_of_field_at_index}
 use Rattle.pkg_core.specs.adb_schema.SoundContainers.{IsSoundValue}
 use Rattle.db_core.specs.Members.{Listing, Member}
 use Rattle.db_core.specs.OwnedListings.{HaveAtMostOneOwnerForEachPath}
@@ -23,7 +23,7 @@ pub record IsOfSoundDatabase (pkg : Plain) : Type 0 where
   -- the value is normalised
   pub normal : IsNormal database
   -- the package is one of the database's packages
-  pub listed : IsIn pkg (entries_at IDB_PACKAGES database)
+  pub listed : IsIn pkg (entries_of_field_at_index IDB_PACKAGES_INDEX database)
 
 -- a package is the value of a sound container, and its id has the length of a digest
 pub record IsSoundPackageAndDigest (pkg : Plain) (id : List ℕ) : Type 0 where

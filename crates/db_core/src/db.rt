@@ -3,12 +3,12 @@
 //! tables 7 and 9 (its contents). What `find` and `owner_of` return is in `docs/DECISIONS.md`, "The
 //! installed database", and `docs/commands.md`, "`info`".
 ghost use Rattle.pkg_core.specs.adb_fields.ListValue.{list_value};
-ghost use Rattle.pkg_core.specs.adb_fields.Repeated.{entries_at, list_of};
+ghost use Rattle.pkg_core.specs.adb_fields.Repeated.{entries_of_field_at_index, list_of};
 ghost use Rattle.pkg_core.specs.adb_schema.ReadFaults.{IsReadFault};
 ghost use Rattle.pkg_core.specs.adb_schema.Soundness.{container_fault_except_contents, payload_fault, payload_in, root_value_of_payload};
 ghost use Rattle.pkg_core.specs.adb_schema.Views.{idb_value, package_value};
-ghost use Rattle.adb_view.specs.FieldIndexes.{IDB_PACKAGES};
-ghost use Rattle.adb_view.specs.Values.{count_of, entries_in, entry_in, is_sound};
+ghost use Rattle.adb_view.specs.FieldIndexes.{IDB_PACKAGES_INDEX};
+ghost use Rattle.adb_view.specs.Values.{count_of, entries_in, entry_at_index, is_sound};
 ghost use Rattle.adb_view.specs.declared.tables.Kind.TheVariants as Kinds;
 ghost use Rattle.adb_view.specs.declared.tables.Which.{Which};
 ghost use Rattle.adb_view.specs.declared.tables.Which.TheVariants as Tables;
@@ -85,7 +85,7 @@ impl<'a> Db<'a> {
             (λ _. container_fault_except_contents Tables.Idb bytes.entry.now ≡ None) }
         // On Ok, the packages are those of the database in the file.
         ensures packages { IfOk result (λ db. packages_of db
-            ≡ entries_at IDB_PACKAGES (root_value_of_payload Tables.Idb
+            ≡ entries_of_field_at_index IDB_PACKAGES_INDEX (root_value_of_payload Tables.Idb
             (payload_in bytes.entry.now))) }
     {
         read_adb(alloc, bytes, Which::Idb)?;
@@ -104,7 +104,7 @@ impl<'a> Db<'a> {
         requires { payload_fault Tables.Idb payload.now ≡ None }
         // On Ok, the packages are those of the value at the root of the payload.
         ensures { IfOk result (λ db. packages_of db
-            ≡ entries_at IDB_PACKAGES (root_value_of_payload Tables.Idb payload.entry.now)) }
+            ≡ entries_of_field_at_index IDB_PACKAGES_INDEX (root_value_of_payload Tables.Idb payload.entry.now)) }
     {
         // Laws that the proof needs; they compute nothing.
         no_text_is_bad_where_each_keeps_its_rule();
@@ -255,7 +255,7 @@ fn open_root(payload: &[u8]) -> IdbView<'_>
 fn package_at<'a>(packages: &List<'a, PackageView<'a>>, i: usize) -> PackageView<'a>
     // The index is that of an entry of the list.
     requires { i < count_of (entries_in (list_value packages.now)) }
-    ensures { package_value result ≡ entry_in (list_value packages.now) i }
+    ensures { package_value result ≡ entry_at_index (list_value packages.now) i }
 {
     // By the contract this never happens. `len` says that a list has less than 2^32 entries, so
     // `i + 1` does not overflow.
@@ -270,7 +270,7 @@ fn package_at<'a>(packages: &List<'a, PackageView<'a>>, i: usize) -> PackageView
 fn is_lister<'a>(packages: &List<'a, PackageView<'a>>, i: usize, path: &[u8]) -> bool
     // The index is that of an entry of the list.
     requires { i < count_of (entries_in (list_value packages.now)) }
-    ensures { result ≡ lists_path path.now (entry_in (list_value packages.now) i) }
+    ensures { result ≡ lists_path path.now (entry_at_index (list_value packages.now) i) }
 {
     let package = package_at(packages, i);
     is_path_listed(&package.paths(), path)

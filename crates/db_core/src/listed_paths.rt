@@ -7,7 +7,7 @@ ghost use Rattle.pkg_core.specs.adb_fields.ListValue.{list_value};
 ghost use Rattle.pkg_core.specs.adb_fields.Paths.{path_of};
 ghost use Rattle.pkg_core.specs.adb_fields.Repeated.{list_of, name_of, paths_of_folder_files};
 ghost use Rattle.pkg_core.specs.adb_schema.Views.{dir_value};
-ghost use Rattle.adb_view.specs.Values.{count_of, entries_in, entry_in};
+ghost use Rattle.adb_view.specs.Values.{count_of, entries_in, entry_at_index};
 ghost use Rattle.std.specs.List.{flat_map, list_any};
 ghost use Rattle.std.specs.Prelude.{◌≡◌, ◌<◌, bytes_eq};
 
@@ -33,7 +33,7 @@ fn is_path_in_folder<'a>(folders: &List<'a, DirInfo<'a>>, i: usize, path: &[u8])
     requires { i < count_of (entries_in (list_value folders.now)) }
     // The result says whether the path is that of a file of this folder.
     ensures { result ≡ list_any (bytes_eq path.now)
-        (paths_of_folder_files (entry_in (list_value folders.now) i)) }
+        (paths_of_folder_files (entry_at_index (list_value folders.now) i)) }
 {
     // By the contract this never happens. `len` says that a list has less than 2^32 entries, so
     // `i + 1` does not overflow.
@@ -65,7 +65,7 @@ fn is_path_of_file<'a>(files: &List<'a, FileInfo<'a>>, i: usize, folder: &[u8], 
     requires { i < count_of (entries_in (list_value files.now)) }
     // The result says whether the path is that of this file.
     ensures { result ≡ bytes_eq path.now
-        (path_of folder.now (name_of (entry_in (list_value files.now) i))) }
+        (path_of folder.now (name_of (entry_at_index (list_value files.now) i))) }
 {
     // By the contract this never happens. `len` says that a list has less than 2^32 entries, so
     // `i + 1` does not overflow.

@@ -7,7 +7,7 @@ ghost use Rattle.pkg_core.specs.adb_fields.Repeated.{package_name};
 ghost use Rattle.pkg_core.specs.adb_schema.Views.{package_value};
 ghost use Rattle.adb_view.specs.Adb.{payload_of};
 ghost use Rattle.adb_view.specs.Plain.{Plain};
-ghost use Rattle.base_core.specs.Listed.{AreSortedDistinctNames};
+ghost use Rattle.base_core.specs.Listed.{AreSortedDistinctTexts};
 ghost use Rattle.db_core.specs.EntrySeen.{is_added_or_has_payload, member_of_entry, payload_of_database};
 ghost use Rattle.db_core.specs.Members.{Member, is_after_members, member_of_added, is_added, is_found_place, member_name, member_of_kept, Listing, listings_of_members};
 ghost use Rattle.base_core.specs.ByteOrder.{precedes};
@@ -66,7 +66,7 @@ pub struct Members<'a> {
     /// The packages, in byte order of their names.
     pub(crate) entries: Vec<PackageWithId<'a>>,
     // The packages are in byte order of their names, each name once.
-    ghost in_order: { AreSortedDistinctNames (map (λ e. member_name
+    ghost in_order: { AreSortedDistinctTexts (map (λ e. member_name
         (member_of_entry e)) entries.items) },
     // There are no more packages than there may be.
     ghost few: { length entries.items ≤ MOST_MEMBERS },

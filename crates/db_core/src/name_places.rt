@@ -4,7 +4,7 @@
 ghost use Rattle.pkg_core.specs.adb_fields.ListValue.{list_value};
 ghost use Rattle.pkg_core.specs.adb_fields.Repeated.{list_of, package_name};
 ghost use Rattle.pkg_core.specs.adb_schema.Views.{package_value};
-ghost use Rattle.adb_view.specs.Values.{count_of, entries_in, entry_in};
+ghost use Rattle.adb_view.specs.Values.{count_of, entries_in, entry_at_index};
 ghost use Rattle.db_core.specs.NamePlaces.{placed_name_cmp, placed_names_in_order, place_under_name, placed_names_from};
 ghost use Rattle.db_core.specs.NameSeen.{name_seen};
 ghost use Rattle.base_core.specs.ByteOrder.{precedes};
@@ -60,7 +60,7 @@ fn names_of<'a>(
 fn name_at<'a>(packages: &List<'a, PackageView<'a>>, i: usize) -> &'a [u8]
     // The index is that of an entry of the list.
     requires { i < count_of (entries_in (list_value packages.now)) }
-    ensures { result.now ≡ package_name (entry_in (list_value packages.now) i) }
+    ensures { result.now ≡ package_name (entry_at_index (list_value packages.now) i) }
 {
     // By the contract this never happens. `len` says that a list has less than 2^32 entries, so
     // `i + 1` does not overflow.

@@ -5,7 +5,7 @@ use Rattle.adb_view.specs.Plain.{Plain}
 use Rattle.adb_copy.specs.adb_fields.FirstPair.{IsIn}
 use Rattle.adb_copy.specs.adb_fields.Once.{ShareNoName, IsInOneOf}
 use Rattle.adb_copy.specs.adb_fields.Repeated.{files_in, folders_in, list_of, name_of, paths_of_package_files}
-use Rattle.db_core.specs.Members.{Listing, Member, listings_of_member, listings_of_members_from, listings_in_folder_from_file, listings_in_folders_from, listings_of_members}
+use Rattle.db_core.specs.Members.{Listing, Member, listings_of_member, listings_of_members_from, listings_from_member_folder_file_places, listings_in_folders_from, listings_of_members}
 use Rattle.db_write.specs.NewDatabase.{member_file_count, packages_in_new_database}
 use Rattle.db_core.specs.OwnedListings.{owned_listings}
 use Rattle.db_core.specs.OwnedListings.{HaveAtMostOneOwnerForEachPath}
@@ -39,7 +39,7 @@ in_one f name (v ∷ vs) (inr h) = in_back name (f v) (flat_map f vs) (in_one f 
 
 -- ---- the places of listings
 
-at_folder : (m : Member) (place folder i : ℕ) (above : List ℕ) (entries : List Plain) (l : Listing) → IsIn l (listings_in_folder_from_file m place folder i above entries) → l.place ≡ place
+at_folder : (m : Member) (place folder i : ℕ) (above : List ℕ) (entries : List Plain) (l : Listing) → IsIn l (listings_from_member_folder_file_places m place folder i above entries) → l.place ≡ place
 at_folder m place folder i above [] l h = absurd h
 at_folder m place folder i above (e ∷ entries) l (inl is) = ap (λ (k : Listing). k.place) is
 at_folder m place folder i above (e ∷ entries) l (inr h) = at_folder m place folder (i + 1) above entries l h
@@ -52,7 +52,7 @@ at_folders : (m : Member) (place i : ℕ) (folders : List Plain) (l : Listing) �
 at_folders m place i [] l h = absurd h
 at_folders m place i (d ∷ folders) l h =
     by_part (at_folder m place i 1 (name_of d) (files_in d) l) (at_folders m place (i + 1) folders l)
-    (in_either l (listings_in_folder_from_file m place i 1 (name_of d) (files_in d)) (listings_in_folders_from m place (i + 1) folders) h)
+    (in_either l (listings_from_member_folder_file_places m place i 1 (name_of d) (files_in d)) (listings_in_folders_from m place (i + 1) folders) h)
 
 at_first : (place : ℕ) (l : Listing) → l.place ≡ place → place ≤ l.place
 at_first place l is = omega (arith, is)

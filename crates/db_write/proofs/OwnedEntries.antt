@@ -5,7 +5,7 @@ use Rattle.std.specs.List.{flat_map}
 use Rattle.adb_view.specs.Plain.{Plain}
 use Rattle.adb_copy.specs.adb_fields.Repeated.{files_in, folders_in, list_of, name_of}
 use Rattle.adb_copy.specs.Zeros.{without_zeros}
-use Rattle.db_core.specs.Members.{Listing, Member, listings_of_member, listings_of_members_from, listings_in_folder_from_file, listings_in_folders_from, listings_of_members, member_of_kept}
+use Rattle.db_core.specs.Members.{Listing, Member, listings_of_member, listings_of_members_from, listings_from_member_folder_file_places, listings_in_folders_from, listings_of_members, member_of_kept}
 use Rattle.db_core.specs.OwnedListings.{owned_listings}
 use Rattle.db_write.specs.NewDatabase.{folder_file_count, folders_in_new_database, member_file_count, owned_entries_without_zeros, package_in_new_database, packages_in_new_database}
 use Rattle.db_write.proofs.Listed.{in_folder, in_folders}
@@ -18,14 +18,14 @@ entries_of pkg = flat_map files_in (folders_in pkg)
 
 -- ---- what members list
 
-listed_in_folder : (m : Member) (place folder i : ℕ) (above : List ℕ) (files : List Plain) → map (λ l. l.entry) (listings_in_folder_from_file m place folder i above files) ≡ files
+listed_in_folder : (m : Member) (place folder i : ℕ) (above : List ℕ) (files : List Plain) → map (λ l. l.entry) (listings_from_member_folder_file_places m place folder i above files) ≡ files
 listed_in_folder m place folder i above [] = refl
 listed_in_folder m place folder i above (f ∷ files) = ap (λ r. f ∷ r) (listed_in_folder m place folder (i + 1) above files)
 
 listed_in_folders : (m : Member) (place i : ℕ) (ds : List Plain) → map (λ l. l.entry) (listings_in_folders_from m place i ds) ≡ flat_map files_in ds
 listed_in_folders m place i [] = refl
 listed_in_folders m place i (d ∷ ds) =
-    map-append (λ l. l.entry) (listings_in_folder_from_file m place i 1 (name_of d) (files_in d)) (listings_in_folders_from m place (i + 1) ds)
+    map-append (λ l. l.entry) (listings_from_member_folder_file_places m place i 1 (name_of d) (files_in d)) (listings_in_folders_from m place (i + 1) ds)
     ∙ (λ j. listed_in_folder m place i 1 (name_of d) (files_in d) j ++ listed_in_folders m place (i + 1) ds j)
 
 listed_from : (place : ℕ) (pkgs : List Plain) → map (λ l. l.entry) (listings_of_members_from place (map member_of_kept pkgs)) ≡ flat_map entries_of pkgs
@@ -46,7 +46,7 @@ joined ls others n flags e =
     ∙ ap (λ k. owned_of ls flags ++ owned_of others (drop k flags)) e)
 
 files_owned : (m : Member) (place folder i : ℕ) (above : List ℕ) (files : List Plain) (flags : List Bool)
-    → list_of (owned_entries_without_zeros files flags) ≡ owned_of (listings_in_folder_from_file m place folder i above files) flags
+    → list_of (owned_entries_without_zeros files flags) ≡ owned_of (listings_from_member_folder_file_places m place folder i above files) flags
 files_owned m place folder i above [] flags = refl
 files_owned m place folder i above (f ∷ files) [] = refl
 files_owned m place folder i above (f ∷ files) (true ∷ flags) = ap (λ r. without_zeros f ∷ r) (files_owned m place folder (i + 1) above files flags)
@@ -56,7 +56,7 @@ folders_owned : (m : Member) (place i : ℕ) (ds : List Plain) (flags : List Boo
 folders_owned m place i [] flags = refl
 folders_owned m place i (d ∷ ds) flags =
     (λ j. (ap list_of (folder_files d flags) ∙ files_owned m place i 1 (name_of d) (files_in d) flags) j ++ folders_owned m place (i + 1) ds (drop (folder_file_count d) flags) j)
-    ∙ sym (joined (listings_in_folder_from_file m place i 1 (name_of d) (files_in d)) (listings_in_folders_from m place (i + 1) ds) (folder_file_count d) flags (in_folder m place i 1 (name_of d) (files_in d)))
+    ∙ sym (joined (listings_from_member_folder_file_places m place i 1 (name_of d) (files_in d)) (listings_in_folders_from m place (i + 1) ds) (folder_file_count d) flags (in_folder m place i 1 (name_of d) (files_in d)))
 
 package_owned : (m : Member) (place : ℕ) (flags : List Bool) → entries_of (package_in_new_database m flags) ≡ owned_of (listings_of_member place m) flags
 package_owned m place flags = ap (λ vs. flat_map files_in (list_of vs)) (package_folders m flags) ∙ folders_owned m place 1 (folders_in m.pkg) flags

@@ -3,14 +3,14 @@ use Rattle.std.proofs.Common.{◌≡◌, ℕ, ◌+◌, Bool, true, false, List, 
 use Rattle.std.proofs.lemmas.List.{map-append}
 use Rattle.std.specs.List.{flat_map}
 use Rattle.adb_view.specs.Plain.{Plain, Plains, none, more, array_or_null, blob_or_null}
-use Rattle.adb_view.specs.Values.{entries_in, entry_in, int_in, text_in}
+use Rattle.adb_view.specs.Values.{entries_in, entry_at_index, int_in, text_in}
 use Rattle.adb_copy.specs.adb_fields.Paths.{path_of}
 use Rattle.adb_copy.specs.adb_fields.Repeated.{files_in, folders_in, list_of, name_of, paths_of_package_files, paths_of_folder_files}
 use Rattle.adb_copy.specs.Zeros.{int_or_null, without_zeros}
 use Rattle.adb_view.proofs.ValueEntries.{entries_arr, nth_obj, text_blob}
 use Rattle.adb_copy.proofs.WithoutZeros.{text_zeros}
 use Rattle.adb_copy.proofs.Entries.{entry_zeros}
-use Rattle.db_core.specs.Members.{Listing, Member, listings_of_member, listings_of_members_from, listings_in_folder_from_file, listings_in_folders_from, listings_of_members}
+use Rattle.db_core.specs.Members.{Listing, Member, listings_of_member, listings_of_members_from, listings_from_member_folder_file_places, listings_in_folders_from, listings_of_members}
 use Rattle.db_write.specs.NewDatabase.{folder_file_count, folder_in_new_database, folders_in_new_database, info_in_new_database, member_file_count, owned_entries_without_zeros, package_in_new_database, packages_in_new_database}
 use Rattle.db_core.specs.OwnedListings.{owned_listings, owned_paths}
 use Rattle.db_write.proofs.Listed.{in_folder, in_folders}
@@ -18,7 +18,7 @@ use Rattle.db_write.proofs.Listed.{in_folder, in_folders}
 -- ---- a name without zeros
 
 pub name_zeros : (v : Plain) → name_of (without_zeros v) ≡ name_of v
-name_zeros v = ap text_in (entry_zeros v 0) ∙ text_zeros (entry_in v 0)
+name_zeros v = ap text_in (entry_zeros v 0) ∙ text_zeros (entry_at_index v 0)
 
 -- ---- listings and their flags
 
@@ -44,15 +44,15 @@ paths_joined ls others n flags e =
 -- ---- folders
 
 files_owned : (m : Member) (place folder i : ℕ) (above : List ℕ) (files : List Plain) (flags : List Bool)
-    → map (λ file. path_of above (name_of file)) (list_of (owned_entries_without_zeros files flags)) ≡ paths_of (listings_in_folder_from_file m place folder i above files) flags
+    → map (λ file. path_of above (name_of file)) (list_of (owned_entries_without_zeros files flags)) ≡ paths_of (listings_from_member_folder_file_places m place folder i above files) flags
 files_owned m place folder i above [] flags = refl
 files_owned m place folder i above (f ∷ files) [] = refl
 files_owned m place folder i above (f ∷ files) (true ∷ flags) = λ j. path_of above (name_zeros f j) ∷ files_owned m place folder (i + 1) above files flags j
 files_owned m place folder i above (f ∷ files) (false ∷ flags) = files_owned m place folder (i + 1) above files flags
 
-folder_owned : (m : Member) (place i : ℕ) (d : Plain) (flags : List Bool) → paths_of_folder_files (folder_in_new_database d flags) ≡ paths_of (listings_in_folder_from_file m place i 1 (name_of d) (files_in d)) flags
+folder_owned : (m : Member) (place i : ℕ) (d : Plain) (flags : List Bool) → paths_of_folder_files (folder_in_new_database d flags) ≡ paths_of (listings_from_member_folder_file_places m place i 1 (name_of d) (files_in d)) flags
 folder_owned m place i d flags =
-    let fields : Plains = more (blob_or_null (name_of d)) (more (without_zeros (entry_in d 1)) (more (array_or_null (owned_entries_without_zeros (files_in d) flags)) none)) in
+    let fields : Plains = more (blob_or_null (name_of d)) (more (without_zeros (entry_at_index d 1)) (more (array_or_null (owned_entries_without_zeros (files_in d) flags)) none)) in
     let name : name_of (folder_in_new_database d flags) ≡ name_of d = ap text_in (nth_obj fields 0) ∙ text_blob (name_of d) in
     let files : files_in (folder_in_new_database d flags) ≡ list_of (owned_entries_without_zeros (files_in d) flags) = ap (λ v. list_of (entries_in v)) (nth_obj fields 2) ∙ ap list_of (entries_arr (owned_entries_without_zeros (files_in d) flags)) in
     (λ j. map (λ file. path_of (name j) (name_of file)) (files j)) ∙ files_owned m place i 1 (name_of d) (files_in d) flags
@@ -61,15 +61,15 @@ folders_owned : (m : Member) (place i : ℕ) (ds : List Plain) (flags : List Boo
 folders_owned m place i [] flags = refl
 folders_owned m place i (d ∷ ds) flags =
     (λ j. folder_owned m place i d flags j ++ folders_owned m place (i + 1) ds (drop (folder_file_count d) flags) j)
-    ∙ sym (paths_joined (listings_in_folder_from_file m place i 1 (name_of d) (files_in d)) (listings_in_folders_from m place (i + 1) ds) (folder_file_count d) flags (in_folder m place i 1 (name_of d) (files_in d)))
+    ∙ sym (paths_joined (listings_from_member_folder_file_places m place i 1 (name_of d) (files_in d)) (listings_in_folders_from m place (i + 1) ds) (folder_file_count d) flags (in_folder m place i 1 (name_of d) (files_in d)))
 
 -- ---- packages
 
 pub package_owned : (m : Member) (place : ℕ) (flags : List Bool) → paths_of_package_files (package_in_new_database m flags) ≡ paths_of (listings_of_member place m) flags
 package_owned m place flags =
     let folders : folders_in (package_in_new_database m flags) ≡ list_of (folders_in_new_database (folders_in m.pkg) flags) =
-    ap (λ v. list_of (entries_in v)) (nth_obj (more (info_in_new_database m.id (entry_in m.pkg 0)) (more (array_or_null (folders_in_new_database (folders_in m.pkg) flags))
-    (more (without_zeros (entry_in m.pkg 2)) (more (without_zeros (entry_in m.pkg 3)) (more (int_or_null (int_in (entry_in m.pkg 4))) none))))) 1)
+    ap (λ v. list_of (entries_in v)) (nth_obj (more (info_in_new_database m.id (entry_at_index m.pkg 0)) (more (array_or_null (folders_in_new_database (folders_in m.pkg) flags))
+    (more (without_zeros (entry_at_index m.pkg 2)) (more (without_zeros (entry_at_index m.pkg 3)) (more (int_or_null (int_in (entry_at_index m.pkg 4))) none))))) 1)
     ∙ ap list_of (entries_arr (folders_in_new_database (folders_in m.pkg) flags)) in
     ap (flat_map paths_of_folder_files) folders ∙ folders_owned m place 1 (folders_in m.pkg) flags
 

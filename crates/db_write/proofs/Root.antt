@@ -5,11 +5,11 @@ use Rattle.std.proofs.lemmas.Bool.{ltb-false, or_parts}
 use Rattle.adb_view.specs.Plain.{IsNormal, Plain}
 use Rattle.adb_view.specs.declared.tables.Which.{Which}
 use Rattle.adb_view.specs.declared.tables.Which.TheVariants.{Idb}
-use Rattle.adb_copy.specs.adb_fields.Once.{HasNoRepeatedName}
+use Rattle.adb_copy.specs.adb_fields.Once.{HasNoForbiddenRepeatedName}
 use Rattle.adb_copy.specs.adb_fields.Repeated.{repeated_fault}
-use Rattle.adb_sound.specs.adb_schema.SoundValues.{ObeysFieldRulesOfTable}
+use Rattle.adb_sound.specs.adb_schema.SoundValues.{ObeysTextAndNumberRulesOfTable}
 use Rattle.adb_sound.specs.adb_schema.Texts.{text_or_number_fault}
-use Rattle.adb_sound.specs.adb_write.Canonical.{ByteAndValueCounts, canonical, payload_unless_overflow, overflow_of, exceeds_a_limit, payload_or_overflow, MOST_BYTES, MOST_VALUES}
+use Rattle.adb_sound.specs.adb_write.Canonical.{ByteAndValueCounts, canonical, payload_unless_overflow, counts_at_first_overflow, exceeds_a_limit, payload_or_counts_at_overflow, MOST_BYTES, MOST_VALUES}
 use Rattle.adb_sound.specs.adb_write.Size.{payload_size_of, value_count}
 use Rattle.adb_sound.specs.Root.{IsValidRootValueOfTable}
 use Rattle.db_core.specs.Members.{AreMembersInNameOrder, Member, listings_of_members}
@@ -27,20 +27,20 @@ within_by : (v : Plain) (o : Option ByteAndValueCounts) (bytes : List ℕ) → d
 within_by v None bytes h = refl
 within_by v (Some c) bytes h = absurd (cc (h))
 
-within : (members : List Member) (flags : List Bool) (bytes : List ℕ) → database_of members flags ≡ Ok bytes → is_some (overflow_of (database_value members flags)) ≡ false
-unfolding database_of payload_or_overflow
-within members flags bytes h = within_by (database_value members flags) (overflow_of (database_value members flags)) bytes h
+within : (members : List Member) (flags : List Bool) (bytes : List ℕ) → database_of members flags ≡ Ok bytes → is_some (counts_at_first_overflow (database_value members flags)) ≡ false
+unfolding database_of payload_or_counts_at_overflow
+within members flags bytes h = within_by (database_value members flags) (counts_at_first_overflow (database_value members flags)) bytes h
 
 -- ---- what the layers below say
 
 abbrev pub Exact : Type 0
-Exact = (v : Plain) → IsNormal v → is_some (overflow_of v) ≡ exceeds_a_limit (payload_size_of v, value_count v)
+Exact = (v : Plain) → IsNormal v → is_some (counts_at_first_overflow v) ≡ exceeds_a_limit (payload_size_of v, value_count v)
 
 abbrev pub Kept : Type 0
-Kept = (which : Which) (v : Plain) → (text_or_number_fault which v ≡ None) ↔ ObeysFieldRulesOfTable which v
+Kept = (which : Which) (v : Plain) → (text_or_number_fault which v ≡ None) ↔ ObeysTextAndNumberRulesOfTable which v
 
 abbrev pub Once : Type 0
-Once = (which : Which) (v : Plain) → (repeated_fault which v ≡ None) ↔ HasNoRepeatedName which v
+Once = (which : Which) (v : Plain) → (repeated_fault which v ≡ None) ↔ HasNoForbiddenRepeatedName which v
 
 pub database_root : Exact → Kept → Once → (members : List Member) (flags : List Bool) (bytes : List ℕ) → AreMembersOfSoundContainers members → AreMembersInNameOrder members → HaveOneOwnerPerPathAndNoneReserved (owned_listings (listings_of_members members) flags)
     → database_of members flags ≡ Ok bytes → IsValidRootValueOfTable Idb (database_value members flags)

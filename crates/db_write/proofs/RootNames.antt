@@ -7,10 +7,10 @@ use Rattle.base_core.proofs.Numbers.{not_first}
 use Rattle.base_core.proofs.Listed.{at_index}
 use Rattle.base_core.proofs.Rising.{not_itself, order}
 use Rattle.adb_view.specs.Plain.{Plain, Plains, int, blob}
-use Rattle.adb_view.specs.Values.{entries_in, entry_in, int_in, text_in}
+use Rattle.adb_view.specs.Values.{entries_in, entry_at_index, int_in, text_in}
 use Rattle.adb_view.specs.declared.tables.Which.TheVariants.{Idb}
 use Rattle.adb_copy.specs.adb_fields.FirstPair.{IsIn}
-use Rattle.adb_copy.specs.adb_fields.Once.{EachHasDistinctNames, AreDistinctNames, HasNoRepeatedName, HaveNoRepeatBetween, HaveNoRepeatInside}
+use Rattle.adb_copy.specs.adb_fields.Once.{EachHasDistinctNames, AreDistinctNames, HasNoForbiddenRepeatedName, HaveNoRepeatBetween, HaveNoRepeatInside}
 use Rattle.adb_copy.specs.adb_fields.Repeated.{files_in, folders_in, list_of, name_of, package_name}
 use Rattle.adb_copy.specs.Zeros.{info_without_zeros_with_id_and_file_size, with_value_set_at_index, without_zeros}
 use Rattle.adb_view.proofs.ValueEntries.{entries_arr, nth_obj, text_blob}
@@ -31,30 +31,30 @@ use Rattle.db_write.proofs.SoundPackages.{MayEnter}
 pub folder_name : (d : Plain) (flags : List Bool) → name_of (folder_in_new_database d flags) ≡ name_of d
 folder_name d flags = ap text_in (nth_obj (fields_of_folder d flags) 0) ∙ text_blob (name_of d)
 
-pub folder_files : (d : Plain) (flags : List Bool) → entries_in (entry_in (folder_in_new_database d flags) 2) ≡ owned_entries_without_zeros (files_in d) flags
+pub folder_files : (d : Plain) (flags : List Bool) → entries_in (entry_at_index (folder_in_new_database d flags) 2) ≡ owned_entries_without_zeros (files_in d) flags
 folder_files d flags =
     ap entries_in (nth_obj (fields_of_folder d flags) 2)
     ∙ entries_arr (owned_entries_without_zeros (files_in d) flags)
 
-pub package_info : (m : Member) (flags : List Bool) → entry_in (package_in_new_database m flags) 0 ≡ info_in_new_database m.id (entry_in m.pkg 0)
+pub package_info : (m : Member) (flags : List Bool) → entry_at_index (package_in_new_database m flags) 0 ≡ info_in_new_database m.id (entry_at_index m.pkg 0)
 package_info m flags = nth_obj (fields_of_package m flags) 0
 
-pub package_folders : (m : Member) (flags : List Bool) → entries_in (entry_in (package_in_new_database m flags) 1) ≡ folders_in_new_database (folders_in m.pkg) flags
+pub package_folders : (m : Member) (flags : List Bool) → entries_in (entry_at_index (package_in_new_database m flags) 1) ≡ folders_in_new_database (folders_in m.pkg) flags
 package_folders m flags = ap entries_in (nth_obj (fields_of_package m flags) 1) ∙ entries_arr (folders_in_new_database (folders_in m.pkg) flags)
 
 -- a field of an information but its hash and its size
-pub info_entry : (id : Option (List ℕ)) (info : Plain) (i : ℕ) → (2 ≡ i → ⊥) → (12 ≡ i → ⊥) → entry_in (info_in_new_database id info) i ≡ without_zeros (entry_in info i)
+pub info_entry : (id : Option (List ℕ)) (info : Plain) (i : ℕ) → (2 ≡ i → ⊥) → (12 ≡ i → ⊥) → entry_at_index (info_in_new_database id info) i ≡ without_zeros (entry_at_index info i)
 unfolding info_without_zeros_with_id_and_file_size without_zeros
 info_entry id info i a b =
-    let hash : Plain = blob (unwrap_or id (text_in (entry_in info 2))) in
-    let size : Plain = int (int_in (entry_in info 12)) in
+    let hash : Plain = blob (unwrap_or id (text_in (entry_at_index info 2))) in
+    let size : Plain = int (int_in (entry_at_index info 12)) in
     let vs : Plains = with_value_set_at_index 12 size (with_value_set_at_index 2 hash (entries_in info)) in
     nth_obj _ i ∙ (nth_zeros vs i ∙ ap without_zeros (at_other 12 i size (with_value_set_at_index 2 hash (entries_in info)) b ∙ at_other 2 i hash (entries_in info) a))
 
 pub package_named : (m : Member) (flags : List Bool) → package_name (package_in_new_database m flags) ≡ member_name m
 package_named m flags =
     ap name_of (package_info m flags)
-    ∙ (ap text_in (info_entry m.id (entry_in m.pkg 0) 0 (not_first 1) (not_first 11)) ∙ text_zeros (entry_in (entry_in m.pkg 0) 0))
+    ∙ (ap text_in (info_entry m.id (entry_at_index m.pkg 0) 0 (not_first 1) (not_first 11)) ∙ text_zeros (entry_at_index (entry_at_index m.pkg 0) 0))
 
 -- ---- names in a folder
 
@@ -125,7 +125,7 @@ rising_distinct (x ∷ xs) pairs = (
 -- ---- the database
 
 pub names_once : (members : List Member) (flags : List Bool) → EachIn (λ (m : Member). MayEnter m.pkg) members → AreMembersInNameOrder members → HaveAtMostOneOwnerForEachPath (owned_listings (listings_of_members members) flags)
-    → HasNoRepeatedName Idb (database_value members flags)
+    → HasNoForbiddenRepeatedName Idb (database_value members flags)
 names_once members flags enter order owned =
     let packages : List Plain = list_of (packages_in_new_database members flags) in
     subst (λ (ps : List Plain). HaveNoRepeatInside ps × HaveNoRepeatBetween ps) (sym (packages_in members flags)) (

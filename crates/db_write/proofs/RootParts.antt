@@ -4,7 +4,7 @@ use Rattle.std.specs.Prelude.{unwrap_or}
 use Rattle.adb_view.specs.Plain.{Plain, Plains, int, blob, none, more, array_or_null, blob_or_null, IsNormal, AreNormal}
 use Rattle.adb_view.specs.Shaped.{Each, HasShape, IsArrayOrNullOf, HaveShapes}
 use Rattle.adb_view.specs.Schema.{shape_of, shapes_of, table}
-use Rattle.adb_view.specs.Values.{entries_in, entry_in, int_in, text_in}
+use Rattle.adb_view.specs.Values.{entries_in, entry_at_index, int_in, text_in}
 use Rattle.adb_view.specs.declared.tables.Kind.TheVariants.{Obj, TextArr}
 use Rattle.adb_view.specs.declared.tables.Which.TheVariants as Tables
 use Rattle.adb_copy.specs.adb_fields.Repeated.{files_in, folders_in, list_of, name_of}
@@ -53,11 +53,11 @@ members_enter (m ∷ members) h = (member_enters m.pkg m.id h.0, members_enter m
 -- ---- what is written of a folder, of a package and of a database
 
 abbrev pub fields_of_folder : Plain → List Bool → Plains
-fields_of_folder d flags = more (blob_or_null (name_of d)) (more (without_zeros (entry_in d 1)) (more (array_or_null (owned_entries_without_zeros (files_in d) flags)) none))
+fields_of_folder d flags = more (blob_or_null (name_of d)) (more (without_zeros (entry_at_index d 1)) (more (array_or_null (owned_entries_without_zeros (files_in d) flags)) none))
 
 abbrev pub fields_of_package : Member → List Bool → Plains
-fields_of_package m flags = more (info_in_new_database m.id (entry_in m.pkg 0)) (more (array_or_null (folders_in_new_database (folders_in m.pkg) flags))
-    (more (without_zeros (entry_in m.pkg 2)) (more (without_zeros (entry_in m.pkg 3)) (more (int_or_null (int_in (entry_in m.pkg 4))) none))))
+fields_of_package m flags = more (info_in_new_database m.id (entry_at_index m.pkg 0)) (more (array_or_null (folders_in_new_database (folders_in m.pkg) flags))
+    (more (without_zeros (entry_at_index m.pkg 2)) (more (without_zeros (entry_at_index m.pkg 3)) (more (int_or_null (int_in (entry_at_index m.pkg 4))) none))))
 
 abbrev pub fields_of_database : List Member → List Bool → Plains
 fields_of_database members flags = more (array_or_null (packages_in_new_database members flags)) none
@@ -66,34 +66,34 @@ fields_of_database members flags = more (array_or_null (packages_in_new_database
 
 info_normal : (id : Option (List ℕ)) (info : Plain) → HasInts info → IsNormal (info_in_new_database id info)
 unfolding info_without_zeros_with_id_and_file_size HasInts
-info_normal id info h = placed_normal 12 2 (int (int_in (entry_in info 12))) (blob (unwrap_or id (text_in (entry_in info 2)))) (entries_in info)
-    (read_small (entry_in info 12) (nth_ints (entries_in info) 12 (entries_ints info h))) tt (entries_ints info h)
+info_normal id info h = placed_normal 12 2 (int (int_in (entry_at_index info 12))) (blob (unwrap_or id (text_in (entry_at_index info 2)))) (entries_in info)
+    (read_small (entry_at_index info 12) (nth_ints (entries_in info) 12 (entries_ints info h))) tt (entries_ints info h)
 
 folder_normal : (d : Plain) (flags : List Bool) → HasInts d → IsNormal (folder_in_new_database d flags)
 unfolding AreNormal
 folder_normal d flags h =
-    let vs : Plains = entries_in (entry_in d 2) in
+    let vs : Plains = entries_in (entry_at_index d 2) in
     let fields : HaveInts (entries_in d) = entries_ints d h in
-    let files = all_normal (owned_entries_without_zeros (list_of vs) flags) (each_owned HasInts IsNormal zeros_normal vs flags (each_ints vs (entries_ints (entry_in d 2) (nth_ints (entries_in d) 2 fields)))) in
-    obj_normal (fields_of_folder d flags) (blob_value_normal (name_of d), (zeros_normal (entry_in d 1) (nth_ints (entries_in d) 1 fields), (arr_normal _ files, tt)))
+    let files = all_normal (owned_entries_without_zeros (list_of vs) flags) (each_owned HasInts IsNormal zeros_normal vs flags (each_ints vs (entries_ints (entry_at_index d 2) (nth_ints (entries_in d) 2 fields)))) in
+    obj_normal (fields_of_folder d flags) (blob_value_normal (name_of d), (zeros_normal (entry_at_index d 1) (nth_ints (entries_in d) 1 fields), (arr_normal _ files, tt)))
 
 package_normal : (m : Member) (flags : List Bool) → HasInts m.pkg → IsNormal (package_in_new_database m flags)
 unfolding AreNormal
 package_normal m flags h =
     let vs : Plains = entries_in m.pkg in
     let fields : HaveInts vs = entries_ints m.pkg h in
-    let listed : Plains = entries_in (entry_in m.pkg 1) in
+    let listed : Plains = entries_in (entry_at_index m.pkg 1) in
     let folders = all_normal (folders_in_new_database (folders_in m.pkg) flags)
-    (each_made folder_file_count folder_in_new_database HasInts IsNormal folder_normal (folders_in m.pkg) flags (each_listed HasInts listed (each_ints listed (entries_ints (entry_in m.pkg 1) (nth_ints vs 1 fields))))) in
+    (each_made folder_file_count folder_in_new_database HasInts IsNormal folder_normal (folders_in m.pkg) flags (each_listed HasInts listed (each_ints listed (entries_ints (entry_at_index m.pkg 1) (nth_ints vs 1 fields))))) in
     obj_normal (fields_of_package m flags) (
-      info_normal m.id (entry_in m.pkg 0) (nth_ints vs 0 fields),
+      info_normal m.id (entry_at_index m.pkg 0) (nth_ints vs 0 fields),
       (
         arr_normal _ folders,
         (
-          zeros_normal (entry_in m.pkg 2) (nth_ints vs 2 fields),
+          zeros_normal (entry_at_index m.pkg 2) (nth_ints vs 2 fields),
           (
-            zeros_normal (entry_in m.pkg 3) (nth_ints vs 3 fields),
-            (int_normal _ (read_small (entry_in m.pkg 4) (nth_ints vs 4 fields)), tt),
+            zeros_normal (entry_at_index m.pkg 3) (nth_ints vs 3 fields),
+            (int_normal _ (read_small (entry_at_index m.pkg 4) (nth_ints vs 4 fields)), tt),
           ),
         ),
       ),
@@ -112,34 +112,34 @@ database_normal members flags h =
 
 info_shape : (id : Option (List ℕ)) (info : Plain) → HasShape (shape_of (Obj Tables.PkgInfo)) info → HasShape (shape_of (Obj Tables.PkgInfo)) (info_in_new_database id info)
 unfolding info_without_zeros_with_id_and_file_size HasShape shape_of
-info_shape id info h = placed_shape 3 INFO 12 2 (int (int_in (entry_in info 12))) (blob (unwrap_or id (text_in (entry_in info 2)))) (entries_in info) tt tt tt tt (entries_shape 3 INFO info h)
+info_shape id info h = placed_shape 3 INFO 12 2 (int (int_in (entry_at_index info 12))) (blob (unwrap_or id (text_in (entry_at_index info 2)))) (entries_in info) tt tt tt tt (entries_shape 3 INFO info h)
 
 folder_shape : (d : Plain) (flags : List Bool) → HasShape (shape_of (Obj Tables.Dir)) d → HasShape (shape_of (Obj Tables.Dir)) (folder_in_new_database d flags)
 unfolding shape_of HasShape HaveShapes
 folder_shape d flags h =
     let fields = entries_shape 5 (shapes_of (table Tables.Dir)) d h in
-    let acl : HasShape (shape_of (Obj Tables.Acl)) (entry_in d 1) = nth_shape (shapes_of (table Tables.Dir)) (entries_in d) 1 fields in
-    let files : IsArrayOrNullOf (HasShape (shape_of (Obj Tables.File))) (entry_in d 2) = nth_shape (shapes_of (table Tables.Dir)) (entries_in d) 2 fields in
-    let owned = each_owned (HasShape (shape_of (Obj Tables.File))) (HasShape (shape_of (Obj Tables.File))) (zeros_shape (shape_of (Obj Tables.File))) (entries_in (entry_in d 2)) flags
-    (array_entries (HasShape (shape_of (Obj Tables.File))) (entry_in d 2) files) in
-    obj_value_shape 5 (shapes_of (table Tables.Dir)) (fields_of_folder d flags) (blob_value_text (name_of d), (zeros_shape (shape_of (Obj Tables.Acl)) (entry_in d 1) acl, (arr_value_shape (shape_of (Obj Tables.File)) _ owned, tt)))
+    let acl : HasShape (shape_of (Obj Tables.Acl)) (entry_at_index d 1) = nth_shape (shapes_of (table Tables.Dir)) (entries_in d) 1 fields in
+    let files : IsArrayOrNullOf (HasShape (shape_of (Obj Tables.File))) (entry_at_index d 2) = nth_shape (shapes_of (table Tables.Dir)) (entries_in d) 2 fields in
+    let owned = each_owned (HasShape (shape_of (Obj Tables.File))) (HasShape (shape_of (Obj Tables.File))) (zeros_shape (shape_of (Obj Tables.File))) (entries_in (entry_at_index d 2)) flags
+    (array_entries (HasShape (shape_of (Obj Tables.File))) (entry_at_index d 2) files) in
+    obj_value_shape 5 (shapes_of (table Tables.Dir)) (fields_of_folder d flags) (blob_value_text (name_of d), (zeros_shape (shape_of (Obj Tables.Acl)) (entry_at_index d 1) acl, (arr_value_shape (shape_of (Obj Tables.File)) _ owned, tt)))
 
 package_shape : (m : Member) (flags : List Bool) → HasShape (shape_of (Obj Tables.Package)) m.pkg → HasShape (shape_of (Obj Tables.Package)) (package_in_new_database m flags)
 unfolding shape_of HasShape HaveShapes
 package_shape m flags h =
     let v : Plain = m.pkg in
     let fields = entries_shape 7 (shapes_of (table Tables.Package)) v h in
-    let info : HasShape (shape_of (Obj Tables.PkgInfo)) (entry_in v 0) = nth_shape (shapes_of (table Tables.Package)) (entries_in v) 0 fields in
-    let listed : IsArrayOrNullOf (HasShape (shape_of (Obj Tables.Dir))) (entry_in v 1) = nth_shape (shapes_of (table Tables.Package)) (entries_in v) 1 fields in
-    let scripts : HasShape (shape_of (Obj Tables.Scripts)) (entry_in v 2) = nth_shape (shapes_of (table Tables.Package)) (entries_in v) 2 fields in
-    let triggers : HasShape (shape_of TextArr) (entry_in v 3) = nth_shape (shapes_of (table Tables.Package)) (entries_in v) 3 fields in
+    let info : HasShape (shape_of (Obj Tables.PkgInfo)) (entry_at_index v 0) = nth_shape (shapes_of (table Tables.Package)) (entries_in v) 0 fields in
+    let listed : IsArrayOrNullOf (HasShape (shape_of (Obj Tables.Dir))) (entry_at_index v 1) = nth_shape (shapes_of (table Tables.Package)) (entries_in v) 1 fields in
+    let scripts : HasShape (shape_of (Obj Tables.Scripts)) (entry_at_index v 2) = nth_shape (shapes_of (table Tables.Package)) (entries_in v) 2 fields in
+    let triggers : HasShape (shape_of TextArr) (entry_at_index v 3) = nth_shape (shapes_of (table Tables.Package)) (entries_in v) 3 fields in
     let folders = each_made folder_file_count folder_in_new_database (HasShape (shape_of (Obj Tables.Dir))) (HasShape (shape_of (Obj Tables.Dir))) folder_shape (folders_in v) flags
-    (each_listed (HasShape (shape_of (Obj Tables.Dir))) (entries_in (entry_in v 1)) (array_entries (HasShape (shape_of (Obj Tables.Dir))) (entry_in v 1) listed)) in
+    (each_listed (HasShape (shape_of (Obj Tables.Dir))) (entries_in (entry_at_index v 1)) (array_entries (HasShape (shape_of (Obj Tables.Dir))) (entry_at_index v 1) listed)) in
     obj_value_shape 7 (shapes_of (table Tables.Package)) (fields_of_package m flags) (
-      info_shape m.id (entry_in v 0) info,
+      info_shape m.id (entry_at_index v 0) info,
       (
         arr_value_shape (shape_of (Obj Tables.Dir)) _ folders,
-        (zeros_shape (shape_of (Obj Tables.Scripts)) (entry_in v 2) scripts, (zeros_shape (shape_of TextArr) (entry_in v 3) triggers, (int_shape (int_in (entry_in v 4)), tt))),
+        (zeros_shape (shape_of (Obj Tables.Scripts)) (entry_at_index v 2) scripts, (zeros_shape (shape_of TextArr) (entry_at_index v 3) triggers, (int_shape (int_in (entry_at_index v 4)), tt))),
       ),
     )
 

@@ -4,11 +4,11 @@
 -- 7 and 9.
 use Rattle.std.specs.Prelude.{ℕ, ◌+◌, Bool, true, false, List, [], ◌∷◌, Option, length, drop, unwrap_or, Result, Ok, Err}
 use Rattle.adb_view.specs.Plain.{Plain, Plains, none, more, blob_or_null, array_or_null, trimmed_object_or_null}
-use Rattle.adb_view.specs.FieldIndexes.{DIR_ACL, INFO_FILE_SIZE, INFO_HASHES, PACKAGE_INFO, PACKAGE_REPLACES_PRIORITY, PACKAGE_SCRIPTS, PACKAGE_TRIGGERS}
-use Rattle.adb_view.specs.Values.{entry_in, int_in, text_in}
+use Rattle.adb_view.specs.FieldIndexes.{DIR_ACL_INDEX, INFO_FILE_SIZE_INDEX, INFO_HASHES_INDEX, PACKAGE_INFO_INDEX, PACKAGE_REPLACES_PRIORITY_INDEX, PACKAGE_SCRIPTS_INDEX, PACKAGE_TRIGGERS_INDEX}
+use Rattle.adb_view.specs.Values.{entry_at_index, int_in, text_in}
 use Rattle.adb_copy.specs.adb_fields.Repeated.{name_of, folders_in, files_in}
 use Rattle.adb_sound.specs.adb_schema.declared.read.TheConstants.{IDB_WORD}
-use Rattle.adb_sound.specs.adb_write.Canonical.{ByteAndValueCounts, payload_or_overflow}
+use Rattle.adb_sound.specs.adb_write.Canonical.{ByteAndValueCounts, payload_or_counts_at_overflow}
 use Rattle.adb_sound.specs.adb_write.File.{file_of}
 use Rattle.adb_copy.specs.Zeros.{info_without_zeros_with_id_and_file_size, int_or_null, without_zeros}
 use Rattle.db_core.specs.Members.{Member}
@@ -47,7 +47,7 @@ folder_file_count folder = length (files_in folder)
 abbrev pub folder_in_new_database : Plain → List Bool → Plain
 folder_in_new_database folder flags =
     trimmed_object_or_null (more (blob_or_null (name_of folder))
-    (more (without_zeros (entry_in folder DIR_ACL))
+    (more (without_zeros (entry_at_index folder DIR_ACL_INDEX))
     (more (array_or_null (owned_entries_without_zeros (files_in folder) flags)) none)))
 
 -- the folders of a package in the new database; each takes as many flags as it has files
@@ -65,18 +65,18 @@ member_file_count m = total_of folder_file_count (folders_in m.pkg)
 -- a kept package has no id, and keeps its hash
 abbrev pub info_in_new_database : Option (List ℕ) → Plain → Plain
 info_in_new_database id info =
-    info_without_zeros_with_id_and_file_size info (unwrap_or id (text_in (entry_in info INFO_HASHES)))
-    (int_in (entry_in info INFO_FILE_SIZE))
+    info_without_zeros_with_id_and_file_size info (unwrap_or id (text_in (entry_at_index info INFO_HASHES_INDEX)))
+    (int_in (entry_at_index info INFO_FILE_SIZE_INDEX))
 
 -- a package in the new database, with the fields of table 7 in order: its information, its folders, its scripts, its
 -- triggers, and its priority in replacing
 abbrev pub package_in_new_database : Member → List Bool → Plain
 package_in_new_database m flags =
-    trimmed_object_or_null (more (info_in_new_database m.id (entry_in m.pkg PACKAGE_INFO))
+    trimmed_object_or_null (more (info_in_new_database m.id (entry_at_index m.pkg PACKAGE_INFO_INDEX))
     (more (array_or_null (folders_in_new_database (folders_in m.pkg) flags))
-    (more (without_zeros (entry_in m.pkg PACKAGE_SCRIPTS))
-    (more (without_zeros (entry_in m.pkg PACKAGE_TRIGGERS))
-    (more (int_or_null (int_in (entry_in m.pkg PACKAGE_REPLACES_PRIORITY))) none)))))
+    (more (without_zeros (entry_at_index m.pkg PACKAGE_SCRIPTS_INDEX))
+    (more (without_zeros (entry_at_index m.pkg PACKAGE_TRIGGERS_INDEX))
+    (more (int_or_null (int_in (entry_at_index m.pkg PACKAGE_REPLACES_PRIORITY_INDEX))) none)))))
 
 -- the packages of the new database, each with the flags of its own files
 abbrev pub packages_in_new_database : List Member → List Bool → Plains
@@ -99,4 +99,4 @@ database_file_of_payload_unless_too_large (Err counts) = Err counts
 -- the file of the new database, or the counts of the writer at the first value that exceeds a limit
 unfoldable pub database_of : List Member → List Bool → Result (List ℕ) ByteAndValueCounts
 database_of members flags =
-    database_file_of_payload_unless_too_large (payload_or_overflow (database_value members flags))
+    database_file_of_payload_unless_too_large (payload_or_counts_at_overflow (database_value members flags))

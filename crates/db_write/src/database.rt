@@ -4,8 +4,8 @@
 //! installed database".
 ghost use Rattle.adb_copy.specs.adb_values.Drafts.{draft_with};
 ghost use Rattle.adb_copy.specs.adb_values.Written.{IsWrittenAs};
-ghost use Rattle.adb_sound.specs.adb_write.Canonical.{payload_or_overflow, MOST_BYTES};
-ghost use Rattle.adb_sound.specs.adb_schema.SoundContainers.{IsSoundContainer};
+ghost use Rattle.adb_sound.specs.adb_write.Canonical.{payload_or_counts_at_overflow, MOST_BYTES};
+ghost use Rattle.adb_sound.specs.adb_schema.SoundContainers.{IsSoundContainerExceptContents};
 ghost use Rattle.adb_view.specs.declared.tables.Which.TheVariants as Tables;
 ghost use Rattle.db_core.specs.Members.{listings_of_members};
 ghost use Rattle.db_core.specs.OwnedListings.{owned_listings};
@@ -38,7 +38,7 @@ pub fn write_db(alloc: Global, members: &Members<'_>, owned: &Owned) -> Result<V
     ensures sound { IfOk result (λ file.
         HaveOneOwnerPerPathAndNoneReserved (owned_listings (listings_of_members
         (members_of members.now)) owned.now)
-        → IsSoundContainer Tables.Idb file.items) }
+        → IsSoundContainerExceptContents Tables.Idb file.items) }
 {
     members.members_are_in_order();
     members.packages_are_sound();
@@ -73,7 +73,7 @@ fn database_payload(
     // The payload is that of the new database, or too large as the definition says, or memory
     // ran out.
     ensures written { IsWrittenAs (λ payload. payload.items) result
-        (payload_or_overflow (database_value (members_of members.now) flags.now)) }
+        (payload_or_counts_at_overflow (database_value (members_of members.now) flags.now)) }
     // The payload is within the limit of bytes.
     ensures small { IfOk result (λ payload. length payload.items ≤ MOST_BYTES) }
 {

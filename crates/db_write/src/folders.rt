@@ -17,7 +17,7 @@ ghost use Rattle.db_write.specs.NewDatabase.{folder_file_count, folder_in_new_da
 ghost use Rattle.std.specs.Prelude.{◌≡◌, ◌<◌, true, false, OnOk, Some, drop, length, slice_get, unwrap_or};
 
 use adb_copy::{Draft, KnownTexts, field_word, objects_field, write_acl, write_file};
-use adb_view::field_indexes::{DIR_ACL, DIR_FILES, DIR_NAME, PACKAGE_PATHS};
+use adb_view::field_indexes::{DIR_ACL_INDEX, DIR_FILES_INDEX, DIR_NAME_INDEX, PACKAGE_PATHS_INDEX};
 use adb_view::{Adb, Arr, Val, Which, entry_word};
 use std::alloc::AllocError;
 
@@ -43,7 +43,7 @@ pub(crate) fn write_folders(
     ensures known { OnOk result (AreRememberedBlobsOfDraft
         (payload_of adb.entry) draft.new known.new) }
 {
-    let folders = objects_field(adb, Which::Package, pkg, PACKAGE_PATHS, Which::Dir);
+    let folders = objects_field(adb, Which::Package, pkg, PACKAGE_PATHS_INDEX, Which::Dir);
     write_folder_list(draft, adb, known, folders, flags)
 }
 
@@ -55,7 +55,7 @@ pub(crate) fn flags_behind<'f>(adb: Adb<'_>, pkg: Val, flags: &'f [bool]) -> &'f
     ensures { result.now ≡ drop (total_of folder_file_count (folders_in
         (value_at (payload_of adb.entry) (Kinds.Obj Tables.Package) pkg))) flags.entry.now }
 {
-    let folders = objects_field(adb, Which::Package, pkg, PACKAGE_PATHS, Which::Dir);
+    let folders = objects_field(adb, Which::Package, pkg, PACKAGE_PATHS_INDEX, Which::Dir);
     flags_after_folders(adb, folders, flags)
 }
 
@@ -121,7 +121,7 @@ fn flags_after_folder<'f>(adb: Adb<'_>, folder: Val, flags: &'f [bool]) -> &'f [
         (folder_file_count (value_at (payload_of adb.entry) (Kinds.Obj Tables.Dir) folder))
         flags.entry.now }
 {
-    let files = objects_field(adb, Which::Dir, folder, DIR_FILES, Which::File);
+    let files = objects_field(adb, Which::Dir, folder, DIR_FILES_INDEX, Which::File);
     let count = files.len();
     if count >= flags.len() {
         return &flags[..0];
@@ -150,10 +150,10 @@ fn write_folder(
         (payload_of adb.entry) draft.new known.new) }
 {
     draft.open_list()?;
-    known.write_field(draft, adb, Which::Dir, folder, DIR_NAME)?;
-    let acl = field_word(adb, Which::Dir, folder, DIR_ACL);
+    known.write_field(draft, adb, Which::Dir, folder, DIR_NAME_INDEX)?;
+    let acl = field_word(adb, Which::Dir, folder, DIR_ACL_INDEX);
     write_acl(draft, adb, known, acl)?;
-    let files = objects_field(adb, Which::Dir, folder, DIR_FILES, Which::File);
+    let files = objects_field(adb, Which::Dir, folder, DIR_FILES_INDEX, Which::File);
     write_files(draft, adb, known, files, flags)?;
     draft.close_object()
 }

@@ -4,20 +4,20 @@
 //! "The installed database" (the conditions on owned files).
 ghost use Rattle.adb_copy.specs.Zeros.{without_zeros};
 ghost use Rattle.adb_copy.specs.adb_fields.FirstPair.{IsIn};
-ghost use Rattle.adb_copy.specs.adb_fields.Repeated.{entries_at, folders_in, list_of, name_of, paths_of_package_files};
+ghost use Rattle.adb_copy.specs.adb_fields.Repeated.{entries_of_field_at_index, folders_in, list_of, name_of, paths_of_package_files};
 ghost use Rattle.adb_sound.specs.adb_schema.Rules.{is_digest_length};
-ghost use Rattle.adb_sound.specs.adb_schema.SoundContainers.{IsSoundContainer};
+ghost use Rattle.adb_sound.specs.adb_schema.SoundContainers.{IsSoundContainerExceptContents};
 ghost use Rattle.adb_sound.specs.adb_schema.Soundness.{payload_in, root_value_of_payload};
 ghost use Rattle.adb_sound.specs.adb_schema.declared.read.TheConstants.{IDB_WORD};
 ghost use Rattle.adb_sound.specs.Root.{IsValidRootValueOfTable};
-ghost use Rattle.adb_view.specs.FieldIndexes.{DIR_ACL, IDB_PACKAGES, INFO_FILE_SIZE, INFO_HASHES, PACKAGE_INFO, PACKAGE_REPLACES_PRIORITY, PACKAGE_SCRIPTS, PACKAGE_TRIGGERS};
+ghost use Rattle.adb_view.specs.FieldIndexes.{DIR_ACL_INDEX, IDB_PACKAGES_INDEX, INFO_FILE_SIZE_INDEX, INFO_HASHES_INDEX, PACKAGE_INFO_INDEX, PACKAGE_REPLACES_PRIORITY_INDEX, PACKAGE_SCRIPTS_INDEX, PACKAGE_TRIGGERS_INDEX};
 ghost use Rattle.adb_view.specs.Schema.{shape_of};
-ghost use Rattle.adb_view.specs.Values.{entry_in, int_in};
+ghost use Rattle.adb_view.specs.Values.{entry_at_index, int_in};
 ghost use Rattle.adb_view.specs.declared.tables.Kind.TheVariants as Kinds;
 ghost use Rattle.adb_view.specs.declared.tables.Which.TheVariants as Tables;
 ghost use Rattle.adb_view.specs.Plain.{Plain};
 ghost use Rattle.adb_view.specs.Shaped.{HasShape};
-ghost use Rattle.adb_sound.specs.adb_write.Canonical.{payload_or_overflow};
+ghost use Rattle.adb_sound.specs.adb_write.Canonical.{payload_or_counts_at_overflow};
 ghost use Rattle.adb_sound.specs.adb_write.File.{file_of};
 ghost use Rattle.db_core.specs.Members.{AreMembersInNameOrder, Member, member_of_added, listings_of_members, member_of_kept, members_of_kept};
 ghost use Rattle.db_core.specs.Packages.{installed_id};
@@ -43,7 +43,7 @@ pub fn a_written_database_is_read_back()
     ensures database { (members : List Member) (flags : List Bool) (bytes : List ℕ)
         → IsValidRootValueOfTable Tables.Idb (database_value members flags)
         → database_of members flags ≡ Ok bytes
-        → IsSoundContainer Tables.Idb bytes }
+        → IsSoundContainerExceptContents Tables.Idb bytes }
     // The file passes all tests of a container of one of the four schemas.
     ensures sound { (members : List Member) (flags : List Bool) (bytes : List ℕ)
         → IsValidRootValueOfTable Tables.Idb (database_value members flags)
@@ -53,7 +53,7 @@ pub fn a_written_database_is_read_back()
     ensures packages { (members : List Member) (flags : List Bool) (bytes : List ℕ)
         → IsValidRootValueOfTable Tables.Idb (database_value members flags)
         → database_of members flags ≡ Ok bytes
-        → entries_at IDB_PACKAGES (root_value_of_payload Tables.Idb (payload_in bytes))
+        → entries_of_field_at_index IDB_PACKAGES_INDEX (root_value_of_payload Tables.Idb (payload_in bytes))
         ≡ list_of (packages_in_new_database members flags) }
 {
     a_file_is_spelled();
@@ -83,12 +83,12 @@ pub fn a_database_of_sound_packages_may_be_the_root()
 pub fn packages_of_sound_containers_may_be_members()
     // Each package of a sound database may be kept.
     ensures stays { (file : List ℕ) (pkg : Plain)
-        → IsSoundContainer Tables.Idb file → All (λ b. b < 256) (payload_in file)
-        → IsIn pkg (entries_at IDB_PACKAGES (root_value_of_payload Tables.Idb (payload_in file)))
+        → IsSoundContainerExceptContents Tables.Idb file → All (λ b. b < 256) (payload_in file)
+        → IsIn pkg (entries_of_field_at_index IDB_PACKAGES_INDEX (root_value_of_payload Tables.Idb (payload_in file)))
         → IsPackageOfSoundContainer pkg None }
     // The package in a sound container may be added.
     ensures comes { (file id : List ℕ)
-        → IsSoundContainer Tables.Package file → All (λ b. b < 256) (payload_in file)
+        → IsSoundContainerExceptContents Tables.Package file → All (λ b. b < 256) (payload_in file)
         → is_digest_length (length id) ≡ true
         → IsPackageOfSoundContainer (root_value_of_payload Tables.Package (payload_in file))
         (Some id) }
@@ -110,14 +110,14 @@ pub fn a_database_lists_the_owned_files()
 pub fn a_database_without_changes_stays_the_same()
     // The written value is the read one without zeros.
     ensures value { (v : Plain) → HasShape (shape_of (Kinds.Obj Tables.Idb)) v
-        → database_value (members_of_kept (entries_at IDB_PACKAGES v))
-        (set_flags_of_all_listed_files (members_of_kept (entries_at IDB_PACKAGES v)))
+        → database_value (members_of_kept (entries_of_field_at_index IDB_PACKAGES_INDEX v))
+        (set_flags_of_all_listed_files (members_of_kept (entries_of_field_at_index IDB_PACKAGES_INDEX v)))
         ≡ without_zeros v }
     // A value without zeros in its canonical payload is written as the same bytes.
     ensures bytes { (v : Plain) (payload : List ℕ) → HasShape (shape_of (Kinds.Obj Tables.Idb)) v
-        → without_zeros v ≡ v → payload_or_overflow v ≡ Ok payload
-        → database_of (members_of_kept (entries_at IDB_PACKAGES v))
-        (set_flags_of_all_listed_files (members_of_kept (entries_at IDB_PACKAGES v)))
+        → without_zeros v ≡ v → payload_or_counts_at_overflow v ≡ Ok payload
+        → database_of (members_of_kept (entries_of_field_at_index IDB_PACKAGES_INDEX v))
+        (set_flags_of_all_listed_files (members_of_kept (entries_of_field_at_index IDB_PACKAGES_INDEX v)))
         ≡ Ok (file_of IDB_WORD payload) }
 {}
 
@@ -137,9 +137,9 @@ pub fn a_package_keeps_its_information()
         ≡ file_size_in_info_of_package m.pkg }
     // The field with the index i is unchanged, but for zeros.
     ensures others { (m : Member) (flags : List Bool) (i : ℕ)
-        → i ≢ INFO_HASHES → i ≢ INFO_FILE_SIZE
-        → entry_in (entry_in (package_in_new_database m flags) PACKAGE_INFO) i
-        ≡ without_zeros (entry_in (entry_in m.pkg PACKAGE_INFO) i) }
+        → i ≢ INFO_HASHES_INDEX → i ≢ INFO_FILE_SIZE_INDEX
+        → entry_at_index (entry_at_index (package_in_new_database m flags) PACKAGE_INFO_INDEX) i
+        ≡ without_zeros (entry_at_index (entry_at_index m.pkg PACKAGE_INFO_INDEX) i) }
 {}
 
 /// A law: the folders of a package are kept in a new database, each with its name and its access
@@ -151,8 +151,8 @@ pub fn a_package_keeps_its_folders()
         ≡ map name_of (folders_in m.pkg) }
     // The access lists of the folders are unchanged, but for zeros.
     ensures acls { (m : Member) (flags : List Bool)
-        → map (λ folder. entry_in folder DIR_ACL) (folders_in (package_in_new_database m flags))
-        ≡ map (λ folder. without_zeros (entry_in folder DIR_ACL)) (folders_in m.pkg) }
+        → map (λ folder. entry_at_index folder DIR_ACL_INDEX) (folders_in (package_in_new_database m flags))
+        ≡ map (λ folder. without_zeros (entry_at_index folder DIR_ACL_INDEX)) (folders_in m.pkg) }
 {}
 
 /// A law: the entries of files in a new database are those of the files that members list and own,
@@ -169,16 +169,16 @@ pub fn a_database_keeps_the_entries_of_owned_files()
 pub fn a_package_keeps_its_scripts_and_its_priority()
     // The scripts are unchanged, but for zeros.
     ensures scripts { (m : Member) (flags : List Bool)
-        → entry_in (package_in_new_database m flags) PACKAGE_SCRIPTS
-        ≡ without_zeros (entry_in m.pkg PACKAGE_SCRIPTS) }
+        → entry_at_index (package_in_new_database m flags) PACKAGE_SCRIPTS_INDEX
+        ≡ without_zeros (entry_at_index m.pkg PACKAGE_SCRIPTS_INDEX) }
     // The patterns of its trigger are unchanged, but for zeros.
     ensures triggers { (m : Member) (flags : List Bool)
-        → entry_in (package_in_new_database m flags) PACKAGE_TRIGGERS
-        ≡ without_zeros (entry_in m.pkg PACKAGE_TRIGGERS) }
+        → entry_at_index (package_in_new_database m flags) PACKAGE_TRIGGERS_INDEX
+        ≡ without_zeros (entry_at_index m.pkg PACKAGE_TRIGGERS_INDEX) }
     // The priority in replacing is unchanged.
     ensures priority { (m : Member) (flags : List Bool)
-        → int_in (entry_in (package_in_new_database m flags) PACKAGE_REPLACES_PRIORITY)
-        ≡ int_in (entry_in m.pkg PACKAGE_REPLACES_PRIORITY) }
+        → int_in (entry_at_index (package_in_new_database m flags) PACKAGE_REPLACES_PRIORITY_INDEX)
+        ≡ int_in (entry_at_index m.pkg PACKAGE_REPLACES_PRIORITY_INDEX) }
 {}
 
 /// A law: a written database whose value may be at the root of a container is written again with
@@ -189,10 +189,10 @@ pub fn a_written_database_is_written_again_alike()
         → IsValidRootValueOfTable Tables.Idb (database_value members flags)
         → database_of members flags ≡ Ok bytes
         → database_of
-        (members_of_kept (entries_at IDB_PACKAGES (root_value_of_payload Tables.Idb
+        (members_of_kept (entries_of_field_at_index IDB_PACKAGES_INDEX (root_value_of_payload Tables.Idb
         (payload_in bytes))))
         (set_flags_of_all_listed_files
-        (members_of_kept (entries_at IDB_PACKAGES (root_value_of_payload Tables.Idb
+        (members_of_kept (entries_of_field_at_index IDB_PACKAGES_INDEX (root_value_of_payload Tables.Idb
         (payload_in bytes)))))
         ≡ Ok bytes }
 {

@@ -2,8 +2,8 @@
 //! The rule is in `docs/formats.md`, "The database after a change": the contents of the database
 //! for each package; the fields are in "Schemas", table 7.
 ghost use Rattle.adb_copy.specs.Known.{AreRememberedBlobsOfDraft};
-ghost use Rattle.adb_view.specs.FieldIndexes.{PACKAGE_INFO};
-ghost use Rattle.adb_view.specs.Values.{entry_in, is_sound, value_at};
+ghost use Rattle.adb_view.specs.FieldIndexes.{PACKAGE_INFO_INDEX};
+ghost use Rattle.adb_view.specs.Values.{entry_at_index, is_sound, value_at};
 ghost use Rattle.adb_view.specs.declared.tables.Kind.TheVariants as Kinds;
 ghost use Rattle.adb_view.specs.declared.tables.Which.TheVariants as Tables;
 ghost use Rattle.adb_copy.specs.adb_values.Drafts.{draft_with};
@@ -20,8 +20,8 @@ use adb_copy::{
     write_scripts, write_text_list,
 };
 use adb_view::field_indexes::{
-    INFO_FILE_SIZE, INFO_HASHES, PACKAGE_INFO, PACKAGE_REPLACES_PRIORITY, PACKAGE_SCRIPTS,
-    PACKAGE_TRIGGERS,
+    INFO_FILE_SIZE_INDEX, INFO_HASHES_INDEX, PACKAGE_INFO_INDEX, PACKAGE_REPLACES_PRIORITY_INDEX, PACKAGE_SCRIPTS_INDEX,
+    PACKAGE_TRIGGERS_INDEX,
 };
 use adb_view::{Adb, Val, Which};
 use db_core::Members;
@@ -126,11 +126,11 @@ fn write_package(
     draft.open_list()?;
     write_member_info(draft, adb, known, pkg, id)?;
     write_folders(draft, adb, known, pkg, flags)?;
-    let scripts = field_word(adb, Which::Package, pkg, PACKAGE_SCRIPTS);
+    let scripts = field_word(adb, Which::Package, pkg, PACKAGE_SCRIPTS_INDEX);
     write_scripts(draft, adb, known, scripts)?;
-    let triggers = texts_field(adb, Which::Package, pkg, PACKAGE_TRIGGERS);
+    let triggers = texts_field(adb, Which::Package, pkg, PACKAGE_TRIGGERS_INDEX);
     write_text_list(draft, adb, known, triggers)?;
-    let priority = int_field(adb, Which::Package, pkg, PACKAGE_REPLACES_PRIORITY);
+    let priority = int_field(adb, Which::Package, pkg, PACKAGE_REPLACES_PRIORITY_INDEX);
     write_int(draft, priority)?;
     draft.close_object()
 }
@@ -149,17 +149,17 @@ fn write_member_info(
     // Each text of this payload that `known` remembers has the remembered word in the draft.
     requires known { AreRememberedBlobsOfDraft (payload_of adb) draft.old known.old }
     // On Ok, the information is added to the draft, as it is in the new database.
-    ensures info { OnOk result (draft.new ≡ draft_with (info_in_new_database id (entry_in
-        (value_at (payload_of adb.entry) (Kinds.Obj Tables.Package) pkg) PACKAGE_INFO))
+    ensures info { OnOk result (draft.new ≡ draft_with (info_in_new_database id (entry_at_index
+        (value_at (payload_of adb.entry) (Kinds.Obj Tables.Package) pkg) PACKAGE_INFO_INDEX))
         draft.old) }
     // On Ok, each remembered text has the remembered word in the new draft.
     ensures known { OnOk result (AreRememberedBlobsOfDraft
         (payload_of adb.entry) draft.new known.new) }
 {
-    let info = field_word(adb, Which::Package, pkg, PACKAGE_INFO);
+    let info = field_word(adb, Which::Package, pkg, PACKAGE_INFO_INDEX);
     // The hash that the package's information has now.
-    let own = hash_field(adb, Which::PkgInfo, info, INFO_HASHES);
-    let len = int_field(adb, Which::PkgInfo, info, INFO_FILE_SIZE);
+    let own = hash_field(adb, Which::PkgInfo, info, INFO_HASHES_INDEX);
+    let len = int_field(adb, Which::PkgInfo, info, INFO_FILE_SIZE_INDEX);
     write_info(draft, adb, known, info, hash_after(&id, own), len)
 }
 

@@ -2,7 +2,7 @@
 use Rattle.std.proofs.Common.{◌≡◌, ℕ, zero, suc, ◌+◌, ◌<◌, ◌≤◌, ◌*◌, ◌^◌, Bool, true, false, List, [], ◌∷◌, ◌++◌, length, refl, sym, ap, subst, ◌∙◌, append_assoc, arith}
 use Rattle.std.specs.Prelude.{if◌then◌else◌, nat_lt}
 use Rattle.std.proofs.lemmas.List.{length-append}
-use Rattle.demo_lines.specs.Lines.{demo_package_name, demo_package_path, demo_package_paths, name_unless_needed_by_first_n, names_not_needed_by_first_n}
+use Rattle.demo_lines.specs.Lines.{demo_package_name, demo_package_path, demo_package_paths, name_if_unneeded_by_first_n_at, names_unneeded_by_first_n_up_to}
 
 pub packages_length : (n : ℕ) → length (demo_package_paths n) ≡ n
 packages_length zero = refl
@@ -15,12 +15,12 @@ if_length : (b : Bool) (x : List ℕ) → length (if b then x ∷ [] else []) �
 if_length true x = omega arith
 if_length false x = omega arith
 
-pub names_length : (n i : ℕ) → length (names_not_needed_by_first_n n i) ≤ i
+pub names_length : (n i : ℕ) → length (names_unneeded_by_first_n_up_to n i) ≤ i
 names_length n zero = omega arith
 names_length n (suc i) =
-    let split : length (names_not_needed_by_first_n n i ++ name_unless_needed_by_first_n n (suc i)) ≡ length (names_not_needed_by_first_n n i) + length (name_unless_needed_by_first_n n (suc i)) = length-append (names_not_needed_by_first_n n i) (name_unless_needed_by_first_n n (suc i)) in
+    let split : length (names_unneeded_by_first_n_up_to n i ++ name_if_unneeded_by_first_n_at n (suc i)) ≡ length (names_unneeded_by_first_n_up_to n i) + length (name_if_unneeded_by_first_n_at n (suc i)) = length-append (names_unneeded_by_first_n_up_to n i) (name_if_unneeded_by_first_n_at n (suc i)) in
     let before = names_length n i in
-    let one : length (name_unless_needed_by_first_n n (suc i)) ≤ 1 = if_length (nat_lt n (2 * suc i)) (demo_package_name (suc i)) in
+    let one : length (name_if_unneeded_by_first_n_at n (suc i)) ≤ 1 = if_length (nat_lt n (2 * suc i)) (demo_package_name (suc i)) in
     omega (arith, split, before, one)
 
 -- words behind a few others are not too many
@@ -31,10 +31,10 @@ few_packages words before i n is few below small =
     let count = packages_length i in
     omega (arith, whole, split, count)
 
-pub few_names : (words before : List (List ℕ)) (m i n : ℕ) → words ≡ before ++ names_not_needed_by_first_n m i → length before < 16 → i < n → n < 2 ^ 16 → length words < 100000
+pub few_names : (words before : List (List ℕ)) (m i n : ℕ) → words ≡ before ++ names_unneeded_by_first_n_up_to m i → length before < 16 → i < n → n < 2 ^ 16 → length words < 100000
 few_names words before m i n is few below small =
     let whole = ap length is in
-    let split = length-append before (names_not_needed_by_first_n m i) in
+    let split = length-append before (names_unneeded_by_first_n_up_to m i) in
     let count = names_length m i in
     omega (arith, whole, split, count)
 

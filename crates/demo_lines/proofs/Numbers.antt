@@ -5,7 +5,7 @@ use Rattle.std.specs.List.{list_all, slice_get}
 use Rattle.std.specs.Str.Parse.{digits_value}
 use Rattle.std.proofs.lemmas.Bool.{and_parts, leb-true}
 use Rattle.std.proofs.lemmas.Option.{same_Some}
-use Rattle.command_core.specs.Operands.{exactly, is_decimal, is_demo_number, is_operand_of_kind}
+use Rattle.command_core.specs.Operands.{exactly, is_decimal_without_leading_zeros, is_demo_number, is_operand_of_kind}
 use Rattle.command_core.specs.Sound.{are_allowed_operands}
 use Rattle.command_core.specs.declared.operands.Operand.{Operand}
 use Rattle.command_core.specs.declared.operands.OperandKind.TheVariants.{Number}
@@ -31,6 +31,6 @@ operand_number (x ∷ os) o h is =
 
 -- ---- its text
 
-pub number_decimal : (ds : List ℕ) → is_demo_number ds ≡ true → is_decimal ds ≡ true
+pub number_decimal : (ds : List ℕ) → is_demo_number ds ≡ true → is_decimal_without_leading_zeros ds ≡ true
 number_decimal ds h =
-    (and_parts (is_decimal ds) (nat_lt 0 (digits_value 10 ds)) (and_parts (is_decimal ds && nat_lt 0 (digits_value 10 ds)) (nat_le (digits_value 10 ds) 20000) h).0).0
+    (and_parts (is_decimal_without_leading_zeros ds) (nat_lt 0 (digits_value 10 ds)) (and_parts (is_decimal_without_leading_zeros ds && nat_lt 0 (digits_value 10 ds)) (nat_le (digits_value 10 ds) 20000) h).0).0

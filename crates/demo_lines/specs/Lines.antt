@@ -9,19 +9,19 @@ abbrev pub digit_zero : ℕ
 digit_zero = 48
 
 -- the ASCII code of one decimal digit of i: for the unit 100 that of the hundreds
-abbrev pub digit_at_unit : ℕ → ℕ → ℕ
-digit_at_unit unit i = digit_zero + i / unit % 10
+abbrev pub digit_at_unit_of_number : ℕ → ℕ → ℕ
+digit_at_unit_of_number unit i = digit_zero + i / unit % 10
 
 -- the name of package i: `p` and i in five digits
 abbrev pub demo_package_name : ℕ → List ℕ
 demo_package_name i =
     codes "p"
-    ++ (digit_at_unit 10000 i ∷ digit_at_unit 1000 i ∷ digit_at_unit 100 i ∷ digit_at_unit 10 i
-    ∷ digit_at_unit 1 i ∷ [])
+    ++ (digit_at_unit_of_number 10000 i ∷ digit_at_unit_of_number 1000 i ∷ digit_at_unit_of_number 100 i ∷ digit_at_unit_of_number 10 i
+    ∷ digit_at_unit_of_number 1 i ∷ [])
 
 -- the version of package i: `1.A-rB`, where A is i modulo 7, and B is i modulo 3
 abbrev pub demo_version : ℕ → List ℕ
-demo_version i = codes "1." ++ (digit_at_unit 1 (i % 7) ∷ codes "-r" ++ (digit_at_unit 1 (i % 3) ∷ []))
+demo_version i = codes "1." ++ (digit_at_unit_of_number 1 (i % 7) ∷ codes "-r" ++ (digit_at_unit_of_number 1 (i % 3) ∷ []))
 
 -- the folder with the files of package i
 abbrev pub demo_folder : ℕ → List ℕ
@@ -73,15 +73,15 @@ abbrev pub mkndx_words : ℕ → List (List ℕ)
 mkndx_words n = codes "mkndx" ∷ codes "-o" ∷ demo_index_path ∷ demo_package_paths n
 
 -- the name of package i, if none of the packages 1 to n depends on it: only packages 2i and 2i + 1 could
-abbrev pub name_unless_needed_by_first_n : ℕ → ℕ → List (List ℕ)
-name_unless_needed_by_first_n n i = if nat_lt n (2 * i) then demo_package_name i ∷ [] else []
+abbrev pub name_if_unneeded_by_first_n_at : ℕ → ℕ → List (List ℕ)
+name_if_unneeded_by_first_n_at n i = if nat_lt n (2 * i) then demo_package_name i ∷ [] else []
 
 -- the names of those of the packages 1 to the second argument on which none of the packages 1 to n depends
-abbrev pub names_not_needed_by_first_n : ℕ → ℕ → List (List ℕ)
-names_not_needed_by_first_n n zero = []
-names_not_needed_by_first_n n (suc i) =
-    names_not_needed_by_first_n n i ++ name_unless_needed_by_first_n n (suc i)
+abbrev pub names_unneeded_by_first_n_up_to : ℕ → ℕ → List (List ℕ)
+names_unneeded_by_first_n_up_to n zero = []
+names_unneeded_by_first_n_up_to n (suc i) =
+    names_unneeded_by_first_n_up_to n i ++ name_if_unneeded_by_first_n_at n (suc i)
 
 -- the words of the command line that adds those of n packages on which no other depends
 abbrev pub add_words : ℕ → List (List ℕ)
-add_words n = codes "add" ∷ codes "--initdb" ∷ codes "--allow-untrusted" ∷ names_not_needed_by_first_n n n
+add_words n = codes "add" ∷ codes "--initdb" ∷ codes "--allow-untrusted" ∷ names_unneeded_by_first_n_up_to n n

@@ -10,6 +10,6 @@ last_line report = after_last is_line_end (take (length report - 1) report)
 
 -- the line that `demo` prints: how many packages it made, and the last line of `report`, which `add` gave for
 -- their installation
-abbrev pub demo_line : ℕ → List ℕ → List ℕ
-demo_line n report =
+abbrev pub demo_line_of_count_and_add_report : ℕ → List ℕ → List ℕ
+demo_line_of_count_and_add_report n report =
     codes "demo " ++ decimal n ++ codes ": " ++ last_line report ++ codes "\n"

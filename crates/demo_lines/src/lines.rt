@@ -5,13 +5,13 @@
 //! list of words holds at most 4,294,967,294, and no command of `demo` comes near this limit.
 
 ghost use Rattle.std.specs.Prelude.{◌≡◌, ◌<◌, ◌++◌, ◌∷◌, [], codes, length, IfOk, OnOk, true, IsTrue, Some};
-ghost use Rattle.demo_lines.specs.Lines.{add_words, demo_package_name, demo_package_path, demo_package_paths, demo_version, depends_words, mkndx_words, mkpkg_words, name_unless_needed_by_first_n, names_not_needed_by_first_n};
+ghost use Rattle.demo_lines.specs.Lines.{add_words, demo_package_name, demo_package_path, demo_package_paths, demo_version, depends_words, mkndx_words, mkpkg_words, name_if_unneeded_by_first_n_at, names_unneeded_by_first_n_up_to};
 ghost use Rattle.std.specs.Str.Parse.{digits_value};
 ghost use Rattle.command_core.specs.Operands.{exactly, is_demo_number};
 ghost use Rattle.command_core.specs.Sound.{are_allowed_operands};
 ghost use Rattle.command_core.specs.declared.operands.OperandKind.TheVariants.{Number};
 ghost use Rattle.demo_lines.specs.Count.{demo_count};
-ghost use Rattle.demo_lines.specs.Report.{demo_line, last_line};
+ghost use Rattle.demo_lines.specs.Report.{demo_line_of_count_and_add_report, last_line};
 ghost use Rattle.dep_core.specs.World.{is_line_end};
 ghost use Rattle.std.specs.List.{after_last};
 
@@ -135,7 +135,7 @@ pub fn add_words(alloc: Global, n: u16) -> Result<Words, AllocError>
 fn push_top_names(words: &mut Words, alloc: Global, n: u16) -> Result<(), AllocError>
     // The list has so few words that more words can be added.
     requires { length words.old < 16 }
-    ensures { OnOk result (words.new ≡ words.old ++ names_not_needed_by_first_n n n) }
+    ensures { OnOk result (words.new ≡ words.old ++ names_unneeded_by_first_n_up_to n n) }
 {
     for i in 0..n {
         push_if_top(words, alloc, n, i + 1)?;
@@ -147,7 +147,7 @@ fn push_top_names(words: &mut Words, alloc: Global, n: u16) -> Result<(), AllocE
 fn push_if_top(words: &mut Words, alloc: Global, n: u16, i: u16) -> Result<(), AllocError>
     // The list has so few words that more words can be added.
     requires { length words.old < 100000 }
-    ensures { OnOk result (words.new ≡ words.old ++ name_unless_needed_by_first_n n i) }
+    ensures { OnOk result (words.new ≡ words.old ++ name_if_unneeded_by_first_n_at n i) }
 {
     // The first package that depends on package i has the number 2i.
     if 2 * i as u32 <= n as u32 {
@@ -187,8 +187,8 @@ fn number_of(text: &[u8]) -> u16
 
 /// The line that `demo` prints: that n packages were made, and the last line of `report`, which
 /// `add` gave for their installation.
-pub fn demo_line(alloc: Global, n: u16, report: &[u8]) -> Result<Text, AllocError>
-    ensures { IfOk result (λ line. line ≡ demo_line n report.now) }
+pub fn demo_line_of_count_and_add_report(alloc: Global, n: u16, report: &[u8]) -> Result<Text, AllocError>
+    ensures { IfOk result (λ line. line ≡ demo_line_of_count_and_add_report n report.now) }
 {
     let head = format!(in alloc; "demo {n}: ")?;
     let mut line = Vec::from_slice(alloc, head.as_bytes())?;

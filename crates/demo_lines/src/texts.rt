@@ -1,7 +1,7 @@
 //! Names, paths and contents of the packages and files that `demo` makes, by the number i of the
 //! package. The rules are in `docs/commands.md`, "`demo N`".
 ghost use Rattle.std.specs.Prelude.{◌≡◌, ◌<◌, ◌++◌, IfOk, OnOk};
-ghost use Rattle.demo_lines.specs.Lines.{demo_file, demo_folder, demo_index_path, demo_package_name, demo_package_path, demo_repositories, contents_of_demo_file, demo_version, digit_at_unit};
+ghost use Rattle.demo_lines.specs.Lines.{demo_file, demo_folder, demo_index_path, demo_package_name, demo_package_path, demo_repositories, contents_of_demo_file, demo_version, digit_at_unit_of_number};
 
 use std::alloc::{AllocError, Global};
 
@@ -61,11 +61,11 @@ pub(crate) fn push_name(text: &mut Vec<u8>, i: u16) -> Result<(), AllocError>
 {
     let digits = [
         b'p',
-        digit_at_unit(10000, i),
-        digit_at_unit(1000, i),
-        digit_at_unit(100, i),
-        digit_at_unit(10, i),
-        digit_at_unit(1, i),
+        digit_at_unit_of_number(10000, i),
+        digit_at_unit_of_number(1000, i),
+        digit_at_unit_of_number(100, i),
+        digit_at_unit_of_number(10, i),
+        digit_at_unit_of_number(1, i),
     ];
     text.extend_from_slice(&digits)
 }
@@ -75,16 +75,16 @@ pub(crate) fn push_version(text: &mut Vec<u8>, i: u16) -> Result<(), AllocError>
     ensures { OnOk result (text.new.items ≡ text.old.items ++ demo_version i) }
 {
     text.extend_from_slice(b"1.")?;
-    text.push(digit_at_unit(1, i % 7))?;
+    text.push(digit_at_unit_of_number(1, i % 7))?;
     text.extend_from_slice(b"-r")?;
-    text.push(digit_at_unit(1, i % 3))?;
+    text.push(digit_at_unit_of_number(1, i % 3))?;
     Ok(())
 }
 
 // The ASCII code of one decimal digit of i: for the unit 100 that of the hundreds.
-fn digit_at_unit(unit: u16, i: u16) -> u8
+fn digit_at_unit_of_number(unit: u16, i: u16) -> u8
     requires { 0 < unit }
-    ensures { result ≡ digit_at_unit unit i }
+    ensures { result ≡ digit_at_unit_of_number unit i }
 {
     b'0' + (i / unit % 10) as u8
 }

@@ -10,7 +10,7 @@ use Rattle.std.specs.Cmp.Lexicographic.{slice_cmp, texts_ties, nat_list_eq_equiv
 use Rattle.std.specs.declared.cmp.Ordering.TheVariants.{Less, Equal, Greater}
 use Rattle.dep_core.specs.Dependency.{Dependency}
 use Rattle.dep_core.specs.Found.{IsKeyedByName}
-use Rattle.dep_core.specs.World.{has_dependency_named, world_with_dependency_set}
+use Rattle.dep_core.specs.World.{has_dependency_named, world_with_dependency_put_in_name_order}
 use Rattle.base_core.specs.ByteOrder.{bytes_cmp}
 use Rattle.dep_core.proofs.Worlds.{cmp-equal}
 
@@ -22,11 +22,11 @@ values-by k v e rest more others Less h = refl
 values-by k v e rest more others Equal h = refl
 values-by k v e rest more others Greater h = ap (λ ds. e.1 ∷ ds) h
 
-pub values-insert : (es : List (Bor (List ℕ) × Dependency)) (k : Bor (List ℕ)) (v : Dependency) → k.now ≡ v.name → IsKeyedByName es → values_of (insert_entry key_cmp es k v) ≡ world_with_dependency_set v (values_of es)
+pub values-insert : (es : List (Bor (List ℕ) × Dependency)) (k : Bor (List ℕ)) (v : Dependency) → k.now ≡ v.name → IsKeyedByName es → values_of (insert_entry key_cmp es k v) ≡ world_with_dependency_put_in_name_order v (values_of es)
 values-insert [] k v n h = refl
 values-insert (e ∷ rest) k v n h =
-    values-by k v e rest (insert_entry key_cmp rest k v) (world_with_dependency_set v (values_of rest)) (key_cmp k e.0) (values-insert rest k v n h.1)
-    ∙ ap (λ o. match_ordering o (v ∷ (e.1 ∷ values_of rest)) (v ∷ values_of rest) (e.1 ∷ world_with_dependency_set v (values_of rest))) ((λ i. bytes_cmp (n i) (h.0 i)))
+    values-by k v e rest (insert_entry key_cmp rest k v) (world_with_dependency_put_in_name_order v (values_of rest)) (key_cmp k e.0) (values-insert rest k v n h.1)
+    ∙ ap (λ o. match_ordering o (v ∷ (e.1 ∷ values_of rest)) (v ∷ values_of rest) (e.1 ∷ world_with_dependency_put_in_name_order v (values_of rest))) ((λ i. bytes_cmp (n i) (h.0 i)))
 
 by_name-by : (k : Bor (List ℕ)) (v : Dependency) (e : Bor (List ℕ) × Dependency) (rest more : List (Bor (List ℕ) × Dependency)) (o : Ordering) → k.now ≡ v.name → bytes_cmp k.now e.0.now ≡ o → IsKeyedByName (e ∷ rest) → IsKeyedByName more → IsKeyedByName (match_ordering o ((k, v) ∷ (e ∷ rest)) ((e.0, v) ∷ rest) (e ∷ more))
 by_name-by k v e rest more Less n c h m = (n, h)

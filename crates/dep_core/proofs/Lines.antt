@@ -5,7 +5,7 @@ use Rattle.std.specs.Option.{option_and_then}
 use Rattle.std.proofs.lemmas.List.{at_drop_more, at_drop_all}
 use Rattle.dep_core.specs.Dependency.{Dependency}
 use Rattle.dep_core.specs.Reading.{dependency_of}
-use Rattle.dep_core.specs.World.{or_bad_line, world_with_lines, world_with_new_dependency, world_with_words, words_of_line}
+use Rattle.dep_core.specs.World.{or_bad_line, world_with_lines, world_with_new_dependency, world_with_words, words_between_blanks}
 
 abbrev pub is_word : List ℕ → Bool
 is_word word = not (eqb (length word) 0)
@@ -36,16 +36,16 @@ no_words_left w parts n h = at_drop_all (λ ps. world_with_words w (filter is_wo
 
 -- ---- the lines of a text
 
-pub line_more : (w : List Dependency) (k : ℕ) (lines : List (List ℕ)) (n : ℕ) (x : List ℕ) → (n < length lines) × (x ≡ get_or lines n x) → world_with_lines w k (drop n lines) ≡ or_bad_line k (λ more. world_with_lines more (k + 1) (drop (n + 1) lines)) (world_with_words w (words_of_line x))
+pub line_more : (w : List Dependency) (k : ℕ) (lines : List (List ℕ)) (n : ℕ) (x : List ℕ) → (n < length lines) × (x ≡ get_or lines n x) → world_with_lines w k (drop n lines) ≡ or_bad_line k (λ more. world_with_lines more (k + 1) (drop (n + 1) lines)) (world_with_words w (words_between_blanks x))
 line_more w k lines n x h =
     at_drop_more (world_with_lines w k) lines n x h.0
-    ∙ ap (λ y. or_bad_line k (λ more. world_with_lines more (k + 1) (drop (n + 1) lines)) (world_with_words w (words_of_line y))) (sym h.1)
+    ∙ ap (λ y. or_bad_line k (λ more. world_with_lines more (k + 1) (drop (n + 1) lines)) (world_with_words w (words_between_blanks y))) (sym h.1)
 
-pub bad_line : (w : List Dependency) (k : ℕ) (lines : List (List ℕ)) (n : ℕ) (x : List ℕ) (r : Result (List Dependency) ℕ) → (n < length lines) × (x ≡ get_or lines n x) → world_with_words w (words_of_line x) ≡ None → world_with_lines w k (drop n lines) ≡ r → r ≡ Err k
+pub bad_line : (w : List Dependency) (k : ℕ) (lines : List (List ℕ)) (n : ℕ) (x : List ℕ) (r : Result (List Dependency) ℕ) → (n < length lines) × (x ≡ get_or lines n x) → world_with_words w (words_between_blanks x) ≡ None → world_with_lines w k (drop n lines) ≡ r → r ≡ Err k
 bad_line w k lines n x r h b q =
     sym q ∙ (line_more w k lines n x h ∙ ap (or_bad_line k (λ more. world_with_lines more (k + 1) (drop (n + 1) lines))) b)
 
-pub good_line : (w more : List Dependency) (k m : ℕ) (lines : List (List ℕ)) (n : ℕ) (x : List ℕ) (r : Result (List Dependency) ℕ) → (n < length lines) × (x ≡ get_or lines n x) → world_with_words w (words_of_line x) ≡ Some more → m ≡ n + 1 → world_with_lines w k (drop n lines) ≡ r → world_with_lines more (k + 1) (drop m lines) ≡ r
+pub good_line : (w more : List Dependency) (k m : ℕ) (lines : List (List ℕ)) (n : ℕ) (x : List ℕ) (r : Result (List Dependency) ℕ) → (n < length lines) × (x ≡ get_or lines n x) → world_with_words w (words_between_blanks x) ≡ Some more → m ≡ n + 1 → world_with_lines w k (drop n lines) ≡ r → world_with_lines more (k + 1) (drop m lines) ≡ r
 good_line w more k m lines n x r h b p q =
     ap (λ i. world_with_lines more (k + 1) (drop i lines)) p
     ∙ (sym (line_more w k lines n x h ∙ ap (or_bad_line k (λ v. world_with_lines v (k + 1) (drop (n + 1) lines))) b) ∙ q)

@@ -13,7 +13,7 @@ use Rattle.std.proofs.lemmas.List.Sums.{AllPass-from_list_all, list_all-from_All
 use Rattle.std.proofs.lemmas.List.Sorted.{searchable_from_sorted}
 use Rattle.dep_core.specs.Dependency.{Dependency}
 use Rattle.dep_core.specs.DependencyText.{is_dependency}
-use Rattle.dep_core.specs.World.{IsWorld, has_dependency_named, is_in_order, world_with_dependency_set, world_without_name}
+use Rattle.dep_core.specs.World.{IsWorldSortedByName, has_dependency_named, is_in_order, world_with_dependency_put_in_name_order, world_without_name}
 use Rattle.base_core.specs.ByteOrder.{bytes_cmp}
 use Rattle.base_core.proofs.Orderings.{is_less, names_total}
 use Rattle.dep_core.proofs.Worlds.{is_behind, cmp-equal, cmp-back, filter-same}
@@ -45,13 +45,13 @@ before_at e rest name i d h l t =
     let P : List ℕ → Type 0 = λ n. bytes_cmp e.name n ≡ Less in
     subst P (cmp-equal (get_or rest i d).name name t) (is_less (bytes_cmp e.name (get_or rest i d).name) (AllPass-from_list_all (is_behind e.name) rest (and_parts (list_all (is_behind e.name) rest) (is_in_order rest) h).0 i d l))
 
-pub world_with_dependency_set-set : (d : Dependency) (w : List Dependency) (i : ℕ) → is_in_order w ≡ true → i < length w → HoldsAt (λ (e : Dependency). bytes_cmp e.name d.name ≡ Equal) w i → world_with_dependency_set d w ≡ set w i d
-world_with_dependency_set-set d [] i h l t = absurd (omega arith)
-world_with_dependency_set-set d (e ∷ rest) zero h l t =
-    ap (λ o. match_ordering o (d ∷ (e ∷ rest)) (d ∷ rest) (e ∷ world_with_dependency_set d rest)) (cmp-back e.name d.name Equal (t d))
-world_with_dependency_set-set d (e ∷ rest) (suc i) h l t =
-    ap (λ o. match_ordering o (d ∷ (e ∷ rest)) (d ∷ rest) (e ∷ world_with_dependency_set d rest)) (cmp-back e.name d.name Less (before_at e rest d.name i d h (omega arith) (t d)))
-    ∙ ap (λ more. e ∷ more) (world_with_dependency_set-set d rest i (and_parts (list_all (is_behind e.name) rest) (is_in_order rest) h).1 (omega arith) t)
+pub world_with_dependency_put_in_name_order-set : (d : Dependency) (w : List Dependency) (i : ℕ) → is_in_order w ≡ true → i < length w → HoldsAt (λ (e : Dependency). bytes_cmp e.name d.name ≡ Equal) w i → world_with_dependency_put_in_name_order d w ≡ set w i d
+world_with_dependency_put_in_name_order-set d [] i h l t = absurd (omega arith)
+world_with_dependency_put_in_name_order-set d (e ∷ rest) zero h l t =
+    ap (λ o. match_ordering o (d ∷ (e ∷ rest)) (d ∷ rest) (e ∷ world_with_dependency_put_in_name_order d rest)) (cmp-back e.name d.name Equal (t d))
+world_with_dependency_put_in_name_order-set d (e ∷ rest) (suc i) h l t =
+    ap (λ o. match_ordering o (d ∷ (e ∷ rest)) (d ∷ rest) (e ∷ world_with_dependency_put_in_name_order d rest)) (cmp-back e.name d.name Less (before_at e rest d.name i d h (omega arith) (t d)))
+    ∙ ap (λ more. e ∷ more) (world_with_dependency_put_in_name_order-set d rest i (and_parts (list_all (is_behind e.name) rest) (is_in_order rest) h).1 (omega arith) t)
 
 -- the test of `world_without_name`
 abbrev other : List ℕ → Dependency → Bool
@@ -79,14 +79,14 @@ has_dependency_named-at name (e ∷ rest) i l t =
 
 -- ---- between the entries before the name and those after it
 
-pub world_with_dependency_set-insert : (d : Dependency) (w : List Dependency) (i : ℕ) → i ≤ length w → IsPartitionPoint (λ (e : Dependency). bytes_cmp e.name d.name ≡ Less) (λ (e : Dependency). bytes_cmp e.name d.name ≡ Greater) w i → world_with_dependency_set d w ≡ insert w i d
-world_with_dependency_set-insert d [] zero l p = refl
-world_with_dependency_set-insert d [] (suc i) l p = absurd (omega arith)
-world_with_dependency_set-insert d (e ∷ rest) zero l p =
-    ap (λ o. match_ordering o (d ∷ (e ∷ rest)) (d ∷ rest) (e ∷ world_with_dependency_set d rest)) (cmp-back e.name d.name Greater (p.1 0 d (omega arith) (omega arith)))
-world_with_dependency_set-insert d (e ∷ rest) (suc i) l p =
-    ap (λ o. match_ordering o (d ∷ (e ∷ rest)) (d ∷ rest) (e ∷ world_with_dependency_set d rest)) (cmp-back e.name d.name Less (p.0 0 d (omega arith) (omega arith)))
-    ∙ ap (λ more. e ∷ more) (world_with_dependency_set-insert d rest i (omega arith) ((λ k f m n. p.0 (suc k) f (omega arith) (omega arith)), (λ k f m n. p.1 (suc k) f (omega arith) (omega arith))))
+pub world_with_dependency_put_in_name_order-insert : (d : Dependency) (w : List Dependency) (i : ℕ) → i ≤ length w → IsPartitionPoint (λ (e : Dependency). bytes_cmp e.name d.name ≡ Less) (λ (e : Dependency). bytes_cmp e.name d.name ≡ Greater) w i → world_with_dependency_put_in_name_order d w ≡ insert w i d
+world_with_dependency_put_in_name_order-insert d [] zero l p = refl
+world_with_dependency_put_in_name_order-insert d [] (suc i) l p = absurd (omega arith)
+world_with_dependency_put_in_name_order-insert d (e ∷ rest) zero l p =
+    ap (λ o. match_ordering o (d ∷ (e ∷ rest)) (d ∷ rest) (e ∷ world_with_dependency_put_in_name_order d rest)) (cmp-back e.name d.name Greater (p.1 0 d (omega arith) (omega arith)))
+world_with_dependency_put_in_name_order-insert d (e ∷ rest) (suc i) l p =
+    ap (λ o. match_ordering o (d ∷ (e ∷ rest)) (d ∷ rest) (e ∷ world_with_dependency_put_in_name_order d rest)) (cmp-back e.name d.name Less (p.0 0 d (omega arith) (omega arith)))
+    ∙ ap (λ more. e ∷ more) (world_with_dependency_put_in_name_order-insert d rest i (omega arith) ((λ k f m n. p.0 (suc k) f (omega arith) (omega arith)), (λ k f m n. p.1 (suc k) f (omega arith) (omega arith))))
 
 others : (name : List ℕ) (w : List Dependency) (i : ℕ) → IsPartitionPoint (λ (e : Dependency). bytes_cmp e.name name ≡ Less) (λ (e : Dependency). bytes_cmp e.name name ≡ Greater) w i → list_all (other name) w ≡ true
 others name w i p =
@@ -111,7 +111,7 @@ has_dependency_named-none name w i p = none_by name w (others name w i p)
 
 -- ---- what a search of the entries says, where v is the slice of them
 
-pub in_order : (w : List Dependency) → IsWorld w → is_in_order w ≡ true
+pub in_order : (w : List Dependency) → IsWorldSortedByName w → is_in_order w ≡ true
 in_order w h = (and_parts (list_all is_dependency w) (is_in_order w) h).1
 
 abbrev IsPlace : List ℕ → List Dependency → ℕ → Type 0
@@ -121,28 +121,28 @@ abbrev IsGap : List ℕ → List Dependency → ℕ → Type 0
 IsGap name w i =
     (i ≤ length w) × (IsNonDecreasingBy (λ (e : Dependency). ordering_index (bytes_cmp e.name name)) w → IsPartitionPoint (λ (e : Dependency). bytes_cmp e.name name ≡ Less) (λ (e : Dependency). bytes_cmp e.name name ≡ Greater) w i)
 
-pub del-found : (name : List ℕ) (w v more : List Dependency) (i : ℕ) → v ≡ w → IsWorld w → IsPlace name v i → more ≡ remove w i → (more ≡ world_without_name name w) × (has_dependency_named name w ≡ true)
+pub del-found : (name : List ℕ) (w v more : List Dependency) (i : ℕ) → v ≡ w → IsWorldSortedByName w → IsPlace name v i → more ≡ remove w i → (more ≡ world_without_name name w) × (has_dependency_named name w ≡ true)
 del-found name w v more i e h p r =
     let P : List Dependency → Type 0 = λ u. IsPlace name u i in
     let q : P w = subst P e p in
     (r ∙ sym (without-remove name w i (in_order w h) q.0 q.1), has_dependency_named-at name w i q.0 q.1)
 
-pub del-absent : (name : List ℕ) (w v : List Dependency) (i : ℕ) → v ≡ w → IsWorld w → IsGap name v i → (world_without_name name w ≡ w) × (has_dependency_named name w ≡ false)
+pub del-absent : (name : List ℕ) (w v : List Dependency) (i : ℕ) → v ≡ w → IsWorldSortedByName w → IsGap name v i → (world_without_name name w ≡ w) × (has_dependency_named name w ≡ false)
 del-absent name w v i e h p =
     let P : List Dependency → Type 0 = λ u. IsGap name u i in
     let q : P w = subst P e p in
     (without-same name w i (q.1 (searchable w name (in_order w h))), has_dependency_named-none name w i (q.1 (searchable w name (in_order w h))))
 
-pub add-found : (d : Dependency) (name : List ℕ) (w v more : List Dependency) (i : ℕ) → name ≡ d.name → v ≡ w → IsWorld w → IsPlace name v i → more ≡ set w i d → more ≡ world_with_dependency_set d w
+pub add-found : (d : Dependency) (name : List ℕ) (w v more : List Dependency) (i : ℕ) → name ≡ d.name → v ≡ w → IsWorldSortedByName w → IsPlace name v i → more ≡ set w i d → more ≡ world_with_dependency_put_in_name_order d w
 add-found d name w v more i n e h p r =
     let P : List Dependency → Type 0 = λ u. IsPlace name u i in
     let Q : List ℕ → Type 0 = λ m. IsPlace m w i in
     let q : IsPlace d.name w i = subst Q n (subst P e p) in
-    r ∙ sym (world_with_dependency_set-set d w i (in_order w h) q.0 q.1)
+    r ∙ sym (world_with_dependency_put_in_name_order-set d w i (in_order w h) q.0 q.1)
 
-pub add-absent : (d : Dependency) (name : List ℕ) (w v more : List Dependency) (i : ℕ) → name ≡ d.name → v ≡ w → IsWorld w → IsGap name v i → more ≡ insert w i d → more ≡ world_with_dependency_set d w
+pub add-absent : (d : Dependency) (name : List ℕ) (w v more : List Dependency) (i : ℕ) → name ≡ d.name → v ≡ w → IsWorldSortedByName w → IsGap name v i → more ≡ insert w i d → more ≡ world_with_dependency_put_in_name_order d w
 add-absent d name w v more i n e h p r =
     let P : List Dependency → Type 0 = λ u. IsGap name u i in
     let Q : List ℕ → Type 0 = λ m. IsGap m w i in
     let q : IsGap d.name w i = subst Q n (subst P e p) in
-    r ∙ sym (world_with_dependency_set-insert d w i q.0 (q.1 (searchable w d.name (in_order w h))))
+    r ∙ sym (world_with_dependency_put_in_name_order-insert d w i q.0 (q.1 (searchable w d.name (in_order w h))))

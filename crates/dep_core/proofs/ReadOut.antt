@@ -5,9 +5,9 @@ use Rattle.std.specs.List.{prefix_len, take_while}
 use Rattle.std.proofs.lemmas.List.{take-append-drop}
 use Rattle.std.proofs.lemmas.Bool.{and_parts, and_from, eqb-true, cases_Bool}
 use Rattle.version_core.specs.Order.{is_version}
-use Rattle.dep_core.specs.Dependency.{Dependency, dependency_from_parts, is_dep_name, is_name_byte, is_tag, is_tag_byte}
+use Rattle.dep_core.specs.Dependency.{Dependency, dependency_from_parts, is_dependency_name_by_bytes_and_length, is_name_byte, is_tag, is_tag_byte}
 use Rattle.dep_core.specs.DependencyText.{IsDependency, is_constraint_or_none, is_tag_or_none, conflict_mark_text, operator_text, tag_text}
-use Rattle.dep_core.specs.Reading.{dependency_from_tag, without_leading_bytes, dependency_of, dependency_after_version, is_not_at_sign, is_operator_byte, dependency_from_operator, dependency_after_operator, dependency_from_name, operator_bits, dependency_after_name, dependency_from_version, with_constraint, with_tag}
+use Rattle.dep_core.specs.Reading.{dependency_from_tag_onward, without_leading_bytes, dependency_of, dependency_after_version, is_not_at_sign, is_operator_byte, dependency_from_operator_onward, dependency_after_operator, dependency_from_name_onward, operator_bits, dependency_after_name, dependency_from_version_onward, with_constraint, with_tag}
 use Rattle.dep_core.specs.Spelling.{SpellsDependency, SpellsConstraint}
 use Rattle.dep_core.proofs.Operators.{operator-is, some-inj}
 
@@ -50,12 +50,12 @@ record IsLimited (name : List ℕ) (conflict : Bool) (tag : Option (List ℕ)) (
   spelled : SpellsConstraint limit d.version d.bits
   placed : ((d.tag ≡ tag) × (text ≡ limit)) ⊎ ((tag ≡ None) × (text ≡ limit ++ tag_text d.tag))
 
-good-by : (name : List ℕ) (conflict : Bool) (tag version : Option (List ℕ)) (bits : ℕ) → is_dep_name name ≡ true → is_constraint_or_none version bits ≡ true → is_tag_or_none tag ≡ true → IsDependency (dependency_from_parts name version bits conflict tag)
+good-by : (name : List ℕ) (conflict : Bool) (tag version : Option (List ℕ)) (bits : ℕ) → is_dependency_name_by_bytes_and_length name ≡ true → is_constraint_or_none version bits ≡ true → is_tag_or_none tag ≡ true → IsDependency (dependency_from_parts name version bits conflict tag)
 good-by name conflict tag version bits n l t =
-    and_from (is_dep_name name && is_constraint_or_none version bits) (is_tag_or_none tag) (and_from (is_dep_name name) (is_constraint_or_none version bits) n l) t
+    and_from (is_dependency_name_by_bytes_and_length name && is_constraint_or_none version bits) (is_tag_or_none tag) (and_from (is_dependency_name_by_bytes_and_length name) (is_constraint_or_none version bits) n l) t
 
-versioned-out : (name : List ℕ) (conflict : Bool) (tag : Option (List ℕ)) (bits : ℕ) (op rest text : List ℕ) (d : Dependency) → is_dep_name name ≡ true → is_tag_or_none tag ≡ true → operator_bits op ≡ Some bits → op ++ rest ≡ text → dependency_from_version (bare name conflict tag) bits rest ≡ Some d → IsLimited name conflict tag text d
-unfolding dependency_from_version
+versioned-out : (name : List ℕ) (conflict : Bool) (tag : Option (List ℕ)) (bits : ℕ) (op rest text : List ℕ) (d : Dependency) → is_dependency_name_by_bytes_and_length name ≡ true → is_tag_or_none tag ≡ true → operator_bits op ≡ Some bits → op ++ rest ≡ text → dependency_from_version_onward (bare name conflict tag) bits rest ≡ Some d → IsLimited name conflict tag text d
+unfolding dependency_from_version_onward
 versioned-out name conflict tag bits op rest text d n t o e h =
     let v : List ℕ = take_while is_not_at_sign rest in
     let tail : List ℕ = without_leading_bytes is_not_at_sign rest in
@@ -84,12 +84,12 @@ versioned-out name conflict tag bits op rest text d n t o e h =
       })
     ]
 
-limited-by-out : (name : List ℕ) (conflict : Bool) (tag : Option (List ℕ)) (r : Option ℕ) (op rest text : List ℕ) (d : Dependency) → is_dep_name name ≡ true → is_tag_or_none tag ≡ true → operator_bits op ≡ r → op ++ rest ≡ text → dependency_after_operator (bare name conflict tag) r rest ≡ Some d → IsLimited name conflict tag text d
+limited-by-out : (name : List ℕ) (conflict : Bool) (tag : Option (List ℕ)) (r : Option ℕ) (op rest text : List ℕ) (d : Dependency) → is_dependency_name_by_bytes_and_length name ≡ true → is_tag_or_none tag ≡ true → operator_bits op ≡ r → op ++ rest ≡ text → dependency_after_operator (bare name conflict tag) r rest ≡ Some d → IsLimited name conflict tag text d
 limited-by-out name conflict tag None op rest text d n t o e h = (cc)
 limited-by-out name conflict tag (Some bits) op rest text d n t o e h = versioned-out name conflict tag bits op rest text d n t o e h
 
-limited-out : (name : List ℕ) (conflict : Bool) (tag : Option (List ℕ)) (text : List ℕ) (d : Dependency) → is_dep_name name ≡ true → is_tag_or_none tag ≡ true → dependency_from_operator (bare name conflict tag) text ≡ Some d → IsLimited name conflict tag text d
-unfolding dependency_from_operator
+limited-out : (name : List ℕ) (conflict : Bool) (tag : Option (List ℕ)) (text : List ℕ) (d : Dependency) → is_dependency_name_by_bytes_and_length name ≡ true → is_tag_or_none tag ≡ true → dependency_from_operator_onward (bare name conflict tag) text ≡ Some d → IsLimited name conflict tag text d
+unfolding dependency_from_operator_onward
 limited-out name conflict tag [] d n t h =
     let P : Dependency → Type 0 = λ x. IsLimited name conflict tag [] x in
     subst P (some-inj h) (record {
@@ -114,13 +114,13 @@ record IsTagged (name : List ℕ) (conflict : Bool) (text : List ℕ) (d : Depen
   spelled : SpellsConstraint limit d.version d.bits
   placed : (text ≡ tag_text d.tag ++ limit) ⊎ (text ≡ limit ++ tag_text d.tag)
 
-dependency_from_tag-out : (name : List ℕ) (conflict : Bool) (c : ℕ) (rest : List ℕ) (d : Dependency) → is_dep_name name ≡ true → c ≡ 64 → dependency_from_tag (bare name conflict None) rest ≡ Some d → IsTagged name conflict (c ∷ rest) d
-unfolding dependency_from_tag
-dependency_from_tag-out name conflict c rest d n e h =
+dependency_from_tag_onward-out : (name : List ℕ) (conflict : Bool) (c : ℕ) (rest : List ℕ) (d : Dependency) → is_dependency_name_by_bytes_and_length name ≡ true → c ≡ 64 → dependency_from_tag_onward (bare name conflict None) rest ≡ Some d → IsTagged name conflict (c ∷ rest) d
+unfolding dependency_from_tag_onward
+dependency_from_tag_onward-out name conflict c rest d n e h =
     let tag : List ℕ = take_while is_tag_byte rest in
     let tail : List ℕ = without_leading_bytes is_tag_byte rest in
-    let found : (is_tag tag ≡ true) × (dependency_from_operator (bare name conflict (Some tag)) tail ≡ Some d) =
-    cond_some (is_tag tag) (dependency_from_operator (bare name conflict (Some tag)) tail) d h in
+    let found : (is_tag tag ≡ true) × (dependency_from_operator_onward (bare name conflict (Some tag)) tail ≡ Some d) =
+    cond_some (is_tag tag) (dependency_from_operator_onward (bare name conflict (Some tag)) tail) d h in
     let out : IsLimited name conflict (Some tag) tail d = limited-out name conflict (Some tag) tail d n found.0 found.1 in
     let whole : c ∷ rest ≡ 64 ∷ (tag ++ tail) = (λ i. e i ∷ sym (front-behind is_tag_byte rest) i) in
     record {
@@ -148,7 +148,7 @@ limited-tagged name conflict text d out = record {
   ];
 }
 
-tagged-out : (name : List ℕ) (conflict : Bool) (text : List ℕ) (d : Dependency) → is_dep_name name ≡ true → dependency_after_name (bare name conflict None) text ≡ Some d → IsTagged name conflict text d
+tagged-out : (name : List ℕ) (conflict : Bool) (text : List ℕ) (d : Dependency) → is_dependency_name_by_bytes_and_length name ≡ true → dependency_after_name (bare name conflict None) text ≡ Some d → IsTagged name conflict text d
 unfolding dependency_after_name
 tagged-out name conflict [] d n h =
     let P : Dependency → Type 0 = λ x. IsTagged name conflict [] x in
@@ -162,19 +162,19 @@ tagged-out name conflict [] d n h =
     })
 tagged-out name conflict (c ∷ rest) d n h =
     elim (cases_Bool (eqb c 64)) [
-      | inl e ↦ dependency_from_tag-out name conflict c rest d n (eqb-true c 64 e) (sym (ap (λ b. cond b (dependency_from_tag (bare name conflict None) rest) (dependency_from_operator (bare name conflict None) (c ∷ rest))) e) ∙ h)
-      | inr e ↦ limited-tagged name conflict (c ∷ rest) d (limited-out name conflict None (c ∷ rest) d n refl (sym (ap (λ b. cond b (dependency_from_tag (bare name conflict None) rest) (dependency_from_operator (bare name conflict None) (c ∷ rest))) e) ∙ h))
+      | inl e ↦ dependency_from_tag_onward-out name conflict c rest d n (eqb-true c 64 e) (sym (ap (λ b. cond b (dependency_from_tag_onward (bare name conflict None) rest) (dependency_from_operator_onward (bare name conflict None) (c ∷ rest))) e) ∙ h)
+      | inr e ↦ limited-tagged name conflict (c ∷ rest) d (limited-out name conflict None (c ∷ rest) d n refl (sym (ap (λ b. cond b (dependency_from_tag_onward (bare name conflict None) rest) (dependency_from_operator_onward (bare name conflict None) (c ∷ rest))) e) ∙ h))
     ]
 
 -- ---- the name, and the mark before it
 
-named-out : (conflict : Bool) (text : List ℕ) (d : Dependency) (whole : List ℕ) → conflict_mark_text conflict ++ text ≡ whole → dependency_from_name conflict text ≡ Some d → SpellsDependency whole d
-unfolding dependency_from_name
+named-out : (conflict : Bool) (text : List ℕ) (d : Dependency) (whole : List ℕ) → conflict_mark_text conflict ++ text ≡ whole → dependency_from_name_onward conflict text ≡ Some d → SpellsDependency whole d
+unfolding dependency_from_name_onward
 named-out conflict text d whole e h =
     let name : List ℕ = take_while is_name_byte text in
     let rest : List ℕ = without_leading_bytes is_name_byte text in
-    let found : (is_dep_name name ≡ true) × (dependency_after_name (bare name conflict None) rest ≡ Some d) =
-    cond_some (is_dep_name name) (dependency_after_name (bare name conflict None) rest) d h in
+    let found : (is_dependency_name_by_bytes_and_length name ≡ true) × (dependency_after_name (bare name conflict None) rest ≡ Some d) =
+    cond_some (is_dependency_name_by_bytes_and_length name) (dependency_after_name (bare name conflict None) rest) d h in
     let out : IsTagged name conflict rest d = tagged-out name conflict rest d found.0 found.1 in
     let front : whole ≡ conflict_mark_text d.conflict ++ (d.name ++ rest) =
     sym e ∙ (ap (λ t. conflict_mark_text conflict ++ t) (sym (front-behind is_name_byte text)) ∙ (λ i. conflict_mark_text (sym out.same_conflict i) ++ (sym out.same_name i ++ rest))) in (
@@ -194,6 +194,6 @@ unfolding dependency_of
 read-out [] d h = absurd (some-none (sym h))
 read-out (b ∷ rest) d h =
     elim (cases_Bool (eqb b 33)) [
-      | inl e ↦ named-out true rest d (b ∷ rest) (ap (λ c. c ∷ rest) (sym (eqb-true b 33 e))) (sym (ap (λ x. cond x (dependency_from_name true rest) (dependency_from_name false (b ∷ rest))) e) ∙ h)
-      | inr e ↦ named-out false (b ∷ rest) d (b ∷ rest) refl (sym (ap (λ x. cond x (dependency_from_name true rest) (dependency_from_name false (b ∷ rest))) e) ∙ h)
+      | inl e ↦ named-out true rest d (b ∷ rest) (ap (λ c. c ∷ rest) (sym (eqb-true b 33 e))) (sym (ap (λ x. cond x (dependency_from_name_onward true rest) (dependency_from_name_onward false (b ∷ rest))) e) ∙ h)
+      | inr e ↦ named-out false (b ∷ rest) d (b ∷ rest) refl (sym (ap (λ x. cond x (dependency_from_name_onward true rest) (dependency_from_name_onward false (b ∷ rest))) e) ∙ h)
     ]

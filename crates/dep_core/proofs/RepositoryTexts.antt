@@ -15,7 +15,7 @@ use Rattle.base_core.specs.Name.{is_name, is_path_part, path_parts_of}
 use Rattle.dep_core.specs.Dependency.{is_tag, is_tag_byte}
 use Rattle.dep_core.specs.DependencyText.{is_tag_or_none}
 use Rattle.dep_core.specs.Reading.{without_leading_bytes}
-use Rattle.dep_core.specs.Repositories.{Repository, repository_at_path, with_repositories_of_line, begins_with_blank, is_blank_or_comment, singleton, repositories_from, repositories_of, repositories_on_line, repository, repository_of, repository_after_at_sign, without_outer_blanks, without_trailing_blanks}
+use Rattle.dep_core.specs.Repositories.{Repository, repository_at_path, with_repositories_of_line, begins_with_blank, is_trimmed_line_empty_or_comment, singleton, repositories_from, repositories_of, repositories_on_line, repository, repository_of, repository_after_at_sign, without_outer_blanks, without_trailing_blanks}
 use Rattle.dep_core.specs.RepositoryText.{is_path_writable_in_line, is_repository_writable_as_line, repositories_text, tag_prefix}
 use Rattle.dep_core.specs.World.{is_blank, is_line_end, lines_of}
 use Rattle.dep_core.proofs.Spelled.{run, past_run}
@@ -87,13 +87,13 @@ line-read None path t n = path-read None path n
 line-read (Some tag) path t n =
     ap repository_after_at_sign (append_assoc tag (32 ∷ []) (47 ∷ path)) ∙ tagged-read tag path t n
 
-is_no_comment : (tag : Option (List ℕ)) (path : List ℕ) → is_blank_or_comment (tag_prefix tag ++ (47 ∷ path)) ≡ false
+is_no_comment : (tag : Option (List ℕ)) (path : List ℕ) → is_trimmed_line_empty_or_comment (tag_prefix tag ++ (47 ∷ path)) ≡ false
 is_no_comment None path = refl
 is_no_comment (Some tag) path = refl
 
 on-line : (tag : Option (List ℕ)) (path : List ℕ) → is_tag_or_none tag ≡ true → is_name path ≡ true → suffix_len is_blank path ≡ 0 → repositories_on_line (tag_prefix tag ++ (47 ∷ path)) ≡ Some (repository tag path ∷ [])
 on-line tag path t n s =
-    (λ i. cond (is_blank_or_comment (whole_line tag path n s i)) (Some []) (option_map singleton (repository_of (whole_line tag path n s i))))
+    (λ i. cond (is_trimmed_line_empty_or_comment (whole_line tag path n s i)) (Some []) (option_map singleton (repository_of (whole_line tag path n s i))))
     ∙ (ap (λ b. cond b (Some []) (option_map singleton (repository_of (tag_prefix tag ++ (47 ∷ path))))) (is_no_comment tag path)
     ∙ ap (option_map singleton) (line-read tag path t n))
 

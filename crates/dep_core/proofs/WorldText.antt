@@ -11,9 +11,9 @@ use Rattle.std.proofs.lemmas.Bool.Decides.{nat_tests}
 use Rattle.std.proofs.lemmas.List.Sums.{AllPass-from_list_all}
 use Rattle.std.proofs.lemmas.List.Splits.{slice_split_none, slice_split_at}
 use Rattle.version_core.specs.Order.{is_version}
-use Rattle.dep_core.specs.Dependency.{Dependency, is_dep_name, is_name_byte, is_tag_byte}
+use Rattle.dep_core.specs.Dependency.{Dependency, is_dependency_name_by_bytes_and_length, is_name_byte, is_tag_byte}
 use Rattle.dep_core.specs.DependencyText.{IsDependency, dep_text, is_dependency, is_constraint_or_none, is_tag_or_none, constraint_text, conflict_mark_text, operator_text, tag_text}
-use Rattle.dep_core.specs.World.{IsWorld, has_dependency_named, is_blank, is_in_order, is_line_end, lines_of, or_bad_line, world_with_dependency_set, world_with_lines, world_with_new_dependency, world_with_words, words_of_line, world_of, world_text}
+use Rattle.dep_core.specs.World.{IsWorldSortedByName, has_dependency_named, is_blank, is_in_order, is_line_end, lines_of, or_bad_line, world_with_dependency_put_in_name_order, world_with_lines, world_with_new_dependency, world_with_words, words_between_blanks, world_of, world_text}
 use Rattle.base_core.specs.ByteOrder.{bytes_cmp}
 use Rattle.base_core.proofs.Orderings.{is_less}
 use Rattle.dep_core.proofs.Lines.{is_word}
@@ -61,19 +61,19 @@ limit-visible spelled (Some v) bits g =
 
 text-is_visible : Versions → (d : Dependency) → IsDependency d → list_all is_visible (dep_text d) ≡ true
 text-is_visible spelled d g =
-    let good = and_parts (is_dep_name d.name && is_constraint_or_none d.version d.bits) (is_tag_or_none d.tag) g in
-    let both = and_parts (is_dep_name d.name) (is_constraint_or_none d.version d.bits) good.0 in
+    let good = and_parts (is_dependency_name_by_bytes_and_length d.name && is_constraint_or_none d.version d.bits) (is_tag_or_none d.tag) g in
+    let both = and_parts (is_dependency_name_by_bytes_and_length d.name) (is_constraint_or_none d.version d.bits) good.0 in
     let name = and_parts (nat_lt 0 (length d.name) && nat_le (length d.name) 255) (list_all is_name_byte d.name) both.0 in
     all-append is_visible (conflict_mark_text d.conflict) _ (mark-visible d.conflict) (all-append is_visible d.name _ (all-imp is_name_byte is_visible name_visible d.name name.1) (all-append is_visible (tag_text d.tag) (constraint_text d.version d.bits) (tag-visible d.tag good.1) (limit-visible spelled d.version d.bits both.1)))
 
 some_bytes : (b : ℕ) (rest : List ℕ) → is_word (b ∷ rest) ≡ true
 some_bytes b rest = grind (arith, nat_tests)
 
-front-word : (name rest : List ℕ) → is_dep_name name ≡ true → is_word (name ++ rest) ≡ true
+front-word : (name rest : List ℕ) → is_dependency_name_by_bytes_and_length name ≡ true → is_word (name ++ rest) ≡ true
 front-word [] rest h = (cc)
 front-word (b ∷ name) rest h = some_bytes b (name ++ rest)
 
-text-word : (conflict : Bool) (name rest : List ℕ) → is_dep_name name ≡ true → is_word (conflict_mark_text conflict ++ (name ++ rest)) ≡ true
+text-word : (conflict : Bool) (name rest : List ℕ) → is_dependency_name_by_bytes_and_length name ≡ true → is_word (conflict_mark_text conflict ++ (name ++ rest)) ≡ true
 text-word true name rest h = some_bytes 33 (name ++ rest)
 text-word false name rest h = front-word name rest h
 
@@ -85,7 +85,7 @@ no_line_end text h = λ k d l. visible_ends_no_line (get_or text k d) (AllPass-f
 no_blank : (text : List ℕ) → list_all is_visible text ≡ true → All (λ b. is_blank b ≡ false) text
 no_blank text h = λ k d l. visible_is_no_blank (get_or text k d) (AllPass-from_list_all is_visible text h k d l)
 
-one-word : (text : List ℕ) → list_all is_visible text ≡ true → is_word text ≡ true → words_of_line text ≡ text ∷ []
+one-word : (text : List ℕ) → list_all is_visible text ≡ true → is_word text ≡ true → words_between_blanks text ≡ text ∷ []
 one-word text v w =
     ap (filter is_word) (slice_split_none is_blank text (no_blank text v)) ∙ ap (λ b. cond b (text ∷ []) []) w
 
@@ -95,24 +95,24 @@ pub behind-at : (P : Dependency → Bool) (w : List Dependency) (d : Dependency)
 behind-at P [] d rest h = (and_parts (P d) (list_all P rest) h).0
 behind-at P (e ∷ w) d rest h = behind-at P w d rest (and_parts (P e) (list_all P (w ++ (d ∷ rest))) h).1
 
-last-new : (w : List Dependency) (d : Dependency) (rest : List Dependency) → is_in_order (w ++ (d ∷ rest)) ≡ true → (has_dependency_named d.name w ≡ false) × (world_with_dependency_set d w ≡ w ++ (d ∷ []))
+last-new : (w : List Dependency) (d : Dependency) (rest : List Dependency) → is_in_order (w ++ (d ∷ rest)) ≡ true → (has_dependency_named d.name w ≡ false) × (world_with_dependency_put_in_name_order d w ≡ w ++ (d ∷ []))
 last-new [] d rest h = (refl, refl)
 last-new (e ∷ w) d rest h =
     let parts : (list_all (is_behind e.name) (w ++ (d ∷ rest)) ≡ true) × (is_in_order (w ++ (d ∷ rest)) ≡ true) =
     and_parts (list_all (is_behind e.name) (w ++ (d ∷ rest))) (is_in_order (w ++ (d ∷ rest))) h in
-    let more : (has_dependency_named d.name w ≡ false) × (world_with_dependency_set d w ≡ w ++ (d ∷ [])) = last-new w d rest parts.1 in
+    let more : (has_dependency_named d.name w ≡ false) × (world_with_dependency_put_in_name_order d w ≡ w ++ (d ∷ [])) = last-new w d rest parts.1 in
     let before : bytes_cmp e.name d.name ≡ Less = is_less (bytes_cmp e.name d.name) (behind-at (is_behind e.name) w d rest parts.0) in (
       (ap (λ b. b || has_dependency_named d.name w) (texts_ties e.name d.name ∙ ap is_eq before) ∙ more.0),
-      (ap (λ o. match_ordering o (d ∷ (e ∷ w)) (d ∷ w) (e ∷ world_with_dependency_set d w)) (cmp-back e.name d.name Less before) ∙ ap (λ ds. e ∷ ds) more.1),
+      (ap (λ o. match_ordering o (d ∷ (e ∷ w)) (d ∷ w) (e ∷ world_with_dependency_put_in_name_order d w)) (cmp-back e.name d.name Less before) ∙ ap (λ ds. e ∷ ds) more.1),
     )
 
 -- ---- the whole text
 
-one-line : Versions → (w : List Dependency) (d : Dependency) (rest : List Dependency) → IsDependency d → is_in_order (w ++ (d ∷ rest)) ≡ true → world_with_words w (words_of_line (dep_text d)) ≡ Some (w ++ (d ∷ []))
+one-line : Versions → (w : List Dependency) (d : Dependency) (rest : List Dependency) → IsDependency d → is_in_order (w ++ (d ∷ rest)) ≡ true → world_with_words w (words_between_blanks (dep_text d)) ≡ Some (w ++ (d ∷ []))
 one-line spelled w d rest g h =
-    let good = and_parts (is_dep_name d.name && is_constraint_or_none d.version d.bits) (is_tag_or_none d.tag) g in
-    let named = (and_parts (is_dep_name d.name) (is_constraint_or_none d.version d.bits) good.0).0 in
-    let new : (has_dependency_named d.name w ≡ false) × (world_with_dependency_set d w ≡ w ++ (d ∷ [])) = last-new w d rest h in
+    let good = and_parts (is_dependency_name_by_bytes_and_length d.name && is_constraint_or_none d.version d.bits) (is_tag_or_none d.tag) g in
+    let named = (and_parts (is_dependency_name_by_bytes_and_length d.name) (is_constraint_or_none d.version d.bits) good.0).0 in
+    let new : (has_dependency_named d.name w ≡ false) × (world_with_dependency_put_in_name_order d w ≡ w ++ (d ∷ [])) = last-new w d rest h in
     ap (world_with_words w) (one-word (dep_text d) (text-is_visible spelled d g) (text-word d.conflict d.name (tag_text d.tag ++ constraint_text d.version d.bits) named))
     ∙ (ap (λ o. option_and_then (λ more. Some more) (option_and_then (world_with_new_dependency w) o)) (read-written spelled d g)
     ∙ (λ i. option_and_then (λ more. Some more) (cond (new.0 i) None (Some (new.1 i)))))
@@ -126,7 +126,7 @@ lines-read spelled (d ∷ rest) w k g h =
     ∙ (ap (or_bad_line k (λ more. world_with_lines more (k + 1) (lines_of (world_text rest)))) (one-line spelled w d rest parts.0 h)
     ∙ (lines-read spelled rest (w ++ (d ∷ [])) (k + 1) parts.1 (subst P (sym (append_assoc w (d ∷ []) rest)) h) ∙ ap Ok (append_assoc w (d ∷ []) rest)))
 
-pub text-read_back : Versions → (world : List Dependency) → IsWorld world → world_of (world_text world) ≡ Ok world
+pub text-read_back : Versions → (world : List Dependency) → IsWorldSortedByName world → world_of (world_text world) ≡ Ok world
 unfolding world_of
 text-read_back spelled world h =
     let parts : (list_all is_dependency world ≡ true) × (is_in_order world ≡ true) = and_parts (list_all is_dependency world) (is_in_order world) h in

@@ -13,13 +13,13 @@ use Rattle.std.proofs.lemmas.Bool.{and_parts, and_from, or_parts, not-true, not_
 use Rattle.std.proofs.lemmas.List.Sorted.{IsPermutation-refl, IsPermutation-sym, IsPermutation-trans, IsPermutation-cons, IsPermutation-middle, IsPermutation-append_right}
 use Rattle.dep_core.specs.Dependency.{Dependency}
 use Rattle.dep_core.specs.Reading.{dependency_of}
-use Rattle.dep_core.specs.World.{IsWorld, has_dependency_named, lines_of, or_bad_line, world_with_dependency_set, world_with_lines, world_with_new_dependency, world_with_words, words_of_line, world_of}
+use Rattle.dep_core.specs.World.{IsWorldSortedByName, has_dependency_named, lines_of, or_bad_line, world_with_dependency_put_in_name_order, world_with_lines, world_with_new_dependency, world_with_words, words_between_blanks, world_of}
 use Rattle.base_core.specs.ByteOrder.{bytes_cmp}
 use Rattle.base_core.proofs.Booleans.{or_swap}
-use Rattle.dep_core.specs.Entries.{IsFirstBadLineOfWorldText, IsWorldOfText, have_different_names, words_in}
+use Rattle.dep_core.specs.Entries.{IsFirstBadLineOfWorldText, IsSortedWorldOfTextWithoutRepeatedNames, have_different_names, words_in}
 use Rattle.dep_core.proofs.Operators.{some-inj}
 use Rattle.dep_core.proofs.ReadOut.{read-out}
-use Rattle.dep_core.proofs.Worlds.{IsWorld-world_with_dependency_set, cmp-back}
+use Rattle.dep_core.proofs.Worlds.{IsWorldSortedByName-world_with_dependency_put_in_name_order, cmp-back}
 
 -- ---- lines and words
 
@@ -32,16 +32,16 @@ words-append [] back w = refl
 words-append (x ∷ front) back w =
     append-by (option_and_then (world_with_new_dependency w) (dependency_of x)) front back (words-append front back)
 
-line-by : (o : Option (List Dependency)) (k : ℕ) (lines : List (List ℕ)) → ((w : List Dependency) → result_ok (world_with_lines w (k + 1) lines) ≡ world_with_words w (flat_map words_of_line lines)) → result_ok (or_bad_line k (λ m. world_with_lines m (k + 1) lines) o) ≡ option_and_then (λ m. world_with_words m (flat_map words_of_line lines)) o
+line-by : (o : Option (List Dependency)) (k : ℕ) (lines : List (List ℕ)) → ((w : List Dependency) → result_ok (world_with_lines w (k + 1) lines) ≡ world_with_words w (flat_map words_between_blanks lines)) → result_ok (or_bad_line k (λ m. world_with_lines m (k + 1) lines) o) ≡ option_and_then (λ m. world_with_words m (flat_map words_between_blanks lines)) o
 line-by None k lines h = refl
 line-by (Some w) k lines h = h w
 
 -- the lines are a world where their words are one
-lines-words : (lines : List (List ℕ)) (k : ℕ) (w : List Dependency) → result_ok (world_with_lines w k lines) ≡ world_with_words w (flat_map words_of_line lines)
+lines-words : (lines : List (List ℕ)) (k : ℕ) (w : List Dependency) → result_ok (world_with_lines w k lines) ≡ world_with_words w (flat_map words_between_blanks lines)
 lines-words [] k w = refl
 lines-words (line ∷ lines) k w =
-    line-by (world_with_words w (words_of_line line)) k lines (lines-words lines (k + 1))
-    ∙ sym (words-append (words_of_line line) (flat_map words_of_line lines) w)
+    line-by (world_with_words w (words_between_blanks line)) k lines (lines-words lines (k + 1))
+    ∙ sym (words-append (words_between_blanks line) (flat_map words_between_blanks lines) w)
 
 -- ---- an entry of a new name
 
@@ -56,11 +56,11 @@ name-by d e rest more n Less t h m = refl
 name-by d e rest more n Equal t h m = no_truth (not-tied d e h t)
 name-by d e rest more n Greater t h m = ap (λ b. bytes_eq e.name n || b) m ∙ or_swap (bytes_eq e.name n) (bytes_eq d.name n) (has_dependency_named n rest)
 
-has_dependency_named-world_with_dependency_set : (d : Dependency) (w : List Dependency) (n : List ℕ) → has_dependency_named d.name w ≡ false → has_dependency_named n (world_with_dependency_set d w) ≡ (bytes_eq d.name n || has_dependency_named n w)
-has_dependency_named-world_with_dependency_set d [] n h = refl
-has_dependency_named-world_with_dependency_set d (e ∷ rest) n h =
+has_dependency_named-world_with_dependency_put_in_name_order : (d : Dependency) (w : List Dependency) (n : List ℕ) → has_dependency_named d.name w ≡ false → has_dependency_named n (world_with_dependency_put_in_name_order d w) ≡ (bytes_eq d.name n || has_dependency_named n w)
+has_dependency_named-world_with_dependency_put_in_name_order d [] n h = refl
+has_dependency_named-world_with_dependency_put_in_name_order d (e ∷ rest) n h =
     let parts : (bytes_eq e.name d.name ≡ false) × (has_dependency_named d.name rest ≡ false) = or_parts (bytes_eq e.name d.name) (has_dependency_named d.name rest) h in
-    name-by d e rest (world_with_dependency_set d rest) n (bytes_cmp d.name e.name) refl parts.0 (has_dependency_named-world_with_dependency_set d rest n parts.1)
+    name-by d e rest (world_with_dependency_put_in_name_order d rest) n (bytes_cmp d.name e.name) refl parts.0 (has_dependency_named-world_with_dependency_put_in_name_order d rest n parts.1)
 
 moved-by : (d e : Dependency) (rest more : List Dependency) (o : Ordering) → bytes_cmp d.name e.name ≡ o → bytes_eq e.name d.name ≡ false → IsPermutation (d ∷ rest) more → IsPermutation (d ∷ (e ∷ rest)) (match_ordering o (d ∷ (e ∷ rest)) (d ∷ rest) (e ∷ more))
 moved-by d e rest more Less t h m = IsPermutation-refl (d ∷ (e ∷ rest))
@@ -68,36 +68,36 @@ moved-by d e rest more Equal t h m = no_truth (not-tied d e h t)
 moved-by d e rest more Greater t h m =
     IsPermutation-trans (d ∷ (e ∷ rest)) (e ∷ (d ∷ rest)) (e ∷ more) (IsPermutation-sym (e ∷ (d ∷ rest)) (d ∷ (e ∷ rest)) (IsPermutation-middle (e ∷ []) d rest)) (IsPermutation-cons e (d ∷ rest) more m)
 
-moved : (d : Dependency) (w : List Dependency) → has_dependency_named d.name w ≡ false → IsPermutation (d ∷ w) (world_with_dependency_set d w)
+moved : (d : Dependency) (w : List Dependency) → has_dependency_named d.name w ≡ false → IsPermutation (d ∷ w) (world_with_dependency_put_in_name_order d w)
 moved d [] h = IsPermutation-refl (d ∷ [])
 moved d (e ∷ rest) h =
     let parts : (bytes_eq e.name d.name ≡ false) × (has_dependency_named d.name rest ≡ false) = or_parts (bytes_eq e.name d.name) (has_dependency_named d.name rest) h in
-    moved-by d e rest (world_with_dependency_set d rest) (bytes_cmp d.name e.name) refl parts.0 (moved d rest parts.1)
+    moved-by d e rest (world_with_dependency_put_in_name_order d rest) (bytes_cmp d.name e.name) refl parts.0 (moved d rest parts.1)
 
 -- whether each name is new to a world
 abbrev are_new : List Dependency → List Dependency → Bool
 are_new w ds = list_all (λ (d : Dependency). not (has_dependency_named d.name w)) ds
 
-new-parts : (d : Dependency) (w ds : List Dependency) → has_dependency_named d.name w ≡ false → are_new (world_with_dependency_set d w) ds ≡ true → (has_dependency_named d.name ds ≡ false) × (are_new w ds ≡ true)
+new-parts : (d : Dependency) (w ds : List Dependency) → has_dependency_named d.name w ≡ false → are_new (world_with_dependency_put_in_name_order d w) ds ≡ true → (has_dependency_named d.name ds ≡ false) × (are_new w ds ≡ true)
 new-parts d w [] h n = (refl, refl)
 new-parts d w (e ∷ ds) h n =
-    let parts : (not (has_dependency_named e.name (world_with_dependency_set d w)) ≡ true) × (are_new (world_with_dependency_set d w) ds ≡ true) =
-    and_parts (not (has_dependency_named e.name (world_with_dependency_set d w))) (are_new (world_with_dependency_set d w) ds) n in
+    let parts : (not (has_dependency_named e.name (world_with_dependency_put_in_name_order d w)) ≡ true) × (are_new (world_with_dependency_put_in_name_order d w) ds ≡ true) =
+    and_parts (not (has_dependency_named e.name (world_with_dependency_put_in_name_order d w))) (are_new (world_with_dependency_put_in_name_order d w) ds) n in
     let both : (bytes_eq d.name e.name ≡ false) × (has_dependency_named e.name w ≡ false) =
-    or_parts (bytes_eq d.name e.name) (has_dependency_named e.name w) (sym (has_dependency_named-world_with_dependency_set d w e.name h) ∙ not-true (has_dependency_named e.name (world_with_dependency_set d w)) parts.0) in
+    or_parts (bytes_eq d.name e.name) (has_dependency_named e.name w) (sym (has_dependency_named-world_with_dependency_put_in_name_order d w e.name h) ∙ not-true (has_dependency_named e.name (world_with_dependency_put_in_name_order d w)) parts.0) in
     let more : (has_dependency_named d.name ds ≡ false) × (are_new w ds ≡ true) = new-parts d w ds h parts.1 in (
       ap (λ b. b || has_dependency_named d.name ds) (nat_list_eq_equiv.symm e.name d.name ∙ both.0) ∙ more.0,
       and_from (not (has_dependency_named e.name w)) (are_new w ds) (not_from_false (has_dependency_named e.name w) both.1) more.1,
     )
 
-new-joined : (d : Dependency) (w ds : List Dependency) → has_dependency_named d.name w ≡ false → has_dependency_named d.name ds ≡ false → are_new w ds ≡ true → are_new (world_with_dependency_set d w) ds ≡ true
+new-joined : (d : Dependency) (w ds : List Dependency) → has_dependency_named d.name w ≡ false → has_dependency_named d.name ds ≡ false → are_new w ds ≡ true → are_new (world_with_dependency_put_in_name_order d w) ds ≡ true
 new-joined d w [] h a n = refl
 new-joined d w (e ∷ ds) h a n =
     let apart : (bytes_eq e.name d.name ≡ false) × (has_dependency_named d.name ds ≡ false) = or_parts (bytes_eq e.name d.name) (has_dependency_named d.name ds) a in
     let parts : (not (has_dependency_named e.name w) ≡ true) × (are_new w ds ≡ true) = and_parts (not (has_dependency_named e.name w)) (are_new w ds) n in
-    let absent : has_dependency_named e.name (world_with_dependency_set d w) ≡ false =
-    has_dependency_named-world_with_dependency_set d w e.name h ∙ (ap (λ b. b || has_dependency_named e.name w) (nat_list_eq_equiv.symm d.name e.name ∙ apart.0) ∙ not-true (has_dependency_named e.name w) parts.0) in
-    and_from (not (has_dependency_named e.name (world_with_dependency_set d w))) (are_new (world_with_dependency_set d w) ds) (not_from_false (has_dependency_named e.name (world_with_dependency_set d w)) absent) (new-joined d w ds h apart.1 parts.1)
+    let absent : has_dependency_named e.name (world_with_dependency_put_in_name_order d w) ≡ false =
+    has_dependency_named-world_with_dependency_put_in_name_order d w e.name h ∙ (ap (λ b. b || has_dependency_named e.name w) (nat_list_eq_equiv.symm d.name e.name ∙ apart.0) ∙ not-true (has_dependency_named e.name w) parts.0) in
+    and_from (not (has_dependency_named e.name (world_with_dependency_put_in_name_order d w))) (are_new (world_with_dependency_put_in_name_order d w) ds) (not_from_false (has_dependency_named e.name (world_with_dependency_put_in_name_order d w)) absent) (new-joined d w ds h apart.1 parts.1)
 
 -- ---- what the words are
 
@@ -107,9 +107,9 @@ record AreRead (words : List (List ℕ)) (w v : List Dependency) : Type 0 where
   apart : have_different_names entries ≡ true
   fresh : are_new w entries ≡ true
   same : IsPermutation (entries ++ w) v
-  kept : IsWorld w → IsWorld v
+  kept : IsWorldSortedByName w → IsWorldSortedByName v
 
-one-more : (x : List ℕ) (words : List (List ℕ)) (d : Dependency) (w v : List Dependency) → dependency_of x ≡ Some d → has_dependency_named d.name w ≡ false → AreRead words (world_with_dependency_set d w) v → AreRead (x ∷ words) w v
+one-more : (x : List ℕ) (words : List (List ℕ)) (d : Dependency) (w v : List Dependency) → dependency_of x ≡ Some d → has_dependency_named d.name w ≡ false → AreRead words (world_with_dependency_put_in_name_order d w) v → AreRead (x ∷ words) w v
 one-more x words d w v r h out =
     let parts : (has_dependency_named d.name out.entries ≡ false) × (are_new w out.entries ≡ true) = new-parts d w out.entries h out.fresh in
     record {
@@ -117,13 +117,13 @@ one-more x words d w v r h out =
       read = (λ i. r i ∷ out.read i);
       apart = and_from (not (has_dependency_named d.name out.entries)) (have_different_names out.entries) (not_from_false (has_dependency_named d.name out.entries) parts.0) out.apart;
       fresh = and_from (not (has_dependency_named d.name w)) (are_new w out.entries) (not_from_false (has_dependency_named d.name w) h) parts.1;
-      same = IsPermutation-trans (d ∷ (out.entries ++ w)) (out.entries ++ (d ∷ w)) v (IsPermutation-sym (out.entries ++ (d ∷ w)) (d ∷ (out.entries ++ w)) (IsPermutation-middle out.entries d w)) (IsPermutation-trans (out.entries ++ (d ∷ w)) (out.entries ++ world_with_dependency_set d w) v (IsPermutation-append_right out.entries (d ∷ w) (world_with_dependency_set d w) (moved d w h)) out.same);
-      kept = (λ world. out.kept (IsWorld-world_with_dependency_set d w (read-out x d r).0 world));
+      same = IsPermutation-trans (d ∷ (out.entries ++ w)) (out.entries ++ (d ∷ w)) v (IsPermutation-sym (out.entries ++ (d ∷ w)) (d ∷ (out.entries ++ w)) (IsPermutation-middle out.entries d w)) (IsPermutation-trans (out.entries ++ (d ∷ w)) (out.entries ++ world_with_dependency_put_in_name_order d w) v (IsPermutation-append_right out.entries (d ∷ w) (world_with_dependency_put_in_name_order d w) (moved d w h)) out.same);
+      kept = (λ world. out.kept (IsWorldSortedByName-world_with_dependency_put_in_name_order d w (read-out x d r).0 world));
     }
 
-new-by : (x : List ℕ) (words : List (List ℕ)) (d : Dependency) (w v : List Dependency) (b : Bool) → dependency_of x ≡ Some d → has_dependency_named d.name w ≡ b → option_and_then (λ m. world_with_words m words) (cond b None (Some (world_with_dependency_set d w))) ≡ Some v → ((u : List Dependency) → world_with_words u words ≡ Some v → AreRead words u v) → AreRead (x ∷ words) w v
+new-by : (x : List ℕ) (words : List (List ℕ)) (d : Dependency) (w v : List Dependency) (b : Bool) → dependency_of x ≡ Some d → has_dependency_named d.name w ≡ b → option_and_then (λ m. world_with_words m words) (cond b None (Some (world_with_dependency_put_in_name_order d w))) ≡ Some v → ((u : List Dependency) → world_with_words u words ≡ Some v → AreRead words u v) → AreRead (x ∷ words) w v
 new-by x words d w v true r e h more = (cc)
-new-by x words d w v false r e h more = one-more x words d w v r e (more (world_with_dependency_set d w) h)
+new-by x words d w v false r e h more = one-more x words d w v r e (more (world_with_dependency_put_in_name_order d w) h)
 
 read-by : (x : List ℕ) (words : List (List ℕ)) (o : Option Dependency) (w v : List Dependency) → dependency_of x ≡ o → option_and_then (λ m. world_with_words m words) (option_and_then (world_with_new_dependency w) o) ≡ Some v → ((u : List Dependency) → world_with_words u words ≡ Some v → AreRead words u v) → AreRead (x ∷ words) w v
 read-by x words None w v r h more = (cc)
@@ -136,7 +136,7 @@ words-read [] v w h = record {
   apart = refl;
   fresh = refl;
   same = (let P : List Dependency → Type 0 = λ u. IsPermutation w u in subst P (some-inj h) (IsPermutation-refl w));
-  kept = (λ world. subst IsWorld (some-inj h) world);
+  kept = (λ world. subst IsWorldSortedByName (some-inj h) world);
 }
 words-read (x ∷ words) v w h = read-by x words (dependency_of x) w v refl h (words-read words v)
 
@@ -150,12 +150,12 @@ words-good (x ∷ words) (d ∷ ds) w r a n =
     let fresh : (not (has_dependency_named d.name w) ≡ true) × (are_new w ds ≡ true) = and_parts (not (has_dependency_named d.name w)) (are_new w ds) n in
     let absent : has_dependency_named d.name w ≡ false = not-true (has_dependency_named d.name w) fresh.0 in
     ap (λ o. is_some (option_and_then (λ m. world_with_words m words) (option_and_then (world_with_new_dependency w) o))) first
-    ∙ (ap (λ b. is_some (option_and_then (λ m. world_with_words m words) (cond b None (Some (world_with_dependency_set d w))))) absent
-    ∙ words-good words ds (world_with_dependency_set d w) others apart.1 (new-joined d w ds absent (not-true (has_dependency_named d.name ds) apart.0) fresh.1))
+    ∙ (ap (λ b. is_some (option_and_then (λ m. world_with_words m words) (cond b None (Some (world_with_dependency_put_in_name_order d w))))) absent
+    ∙ words-good words ds (world_with_dependency_put_in_name_order d w) others apart.1 (new-joined d w ds absent (not-true (has_dependency_named d.name ds) apart.0) fresh.1))
 
 -- ---- the whole text
 
-pub world-words : (text : List ℕ) (world : List Dependency) → world_of text ≡ Ok world → IsWorldOfText text world
+pub world-words : (text : List ℕ) (world : List Dependency) → world_of text ≡ Ok world → IsSortedWorldOfTextWithoutRepeatedNames text world
 unfolding world_of
 world-words text world h =
     let out : AreRead (words_in text) [] world = words-read (words_in text) world [] (sym (lines-words (lines_of text) 1 []) ∙ ap result_ok h) in
@@ -184,7 +184,7 @@ record IsBadAt (w : List Dependency) (k : ℕ) (lines : List (List ℕ)) (line :
   good_before : is_ok (world_with_lines w k (take before lines)) ≡ true
   bad_with : is_ok (world_with_lines w k (take (suc before) lines)) ≡ false
 
-bad-by : (w : List Dependency) (k : ℕ) (text : List ℕ) (lines : List (List ℕ)) (line : ℕ) (o : Option (List Dependency)) → world_with_words w (words_of_line text) ≡ o → or_bad_line k (λ m. world_with_lines m (k + 1) lines) o ≡ Err line → ((u : List Dependency) → world_with_lines u (k + 1) lines ≡ Err line → IsBadAt u (k + 1) lines line) → IsBadAt w k (text ∷ lines) line
+bad-by : (w : List Dependency) (k : ℕ) (text : List ℕ) (lines : List (List ℕ)) (line : ℕ) (o : Option (List Dependency)) → world_with_words w (words_between_blanks text) ≡ o → or_bad_line k (λ m. world_with_lines m (k + 1) lines) o ≡ Err line → ((u : List Dependency) → world_with_lines u (k + 1) lines ≡ Err line → IsBadAt u (k + 1) lines line) → IsBadAt w k (text ∷ lines) line
 bad-by w k text lines line None e h more = record {
   before = 0;
   number = (let same : k ≡ line = cc in omega arith);
@@ -205,7 +205,7 @@ bad-by w k text lines line (Some u) e h more =
 bad-at : (lines : List (List ℕ)) (w : List Dependency) (k line : ℕ) → world_with_lines w k lines ≡ Err line → IsBadAt w k lines line
 bad-at [] w k line h = (cc)
 bad-at (text ∷ lines) w k line h =
-    bad-by w k text lines line (world_with_words w (words_of_line text)) refl h (λ u. bad-at lines u (k + 1) line)
+    bad-by w k text lines line (world_with_words w (words_between_blanks text)) refl h (λ u. bad-at lines u (k + 1) line)
 
 pub first-bad_line : (text : List ℕ) (line : ℕ) → world_of text ≡ Err line → IsFirstBadLineOfWorldText text line
 unfolding world_of

@@ -8,7 +8,7 @@ use Rattle.std.specs.declared.cmp.Ordering.TheVariants.{Less, Equal, Greater}
 use Rattle.std.proofs.lemmas.Bool.{and_parts, and_from}
 use Rattle.dep_core.specs.Dependency.{Dependency}
 use Rattle.dep_core.specs.DependencyText.{is_dependency}
-use Rattle.dep_core.specs.World.{IsWorld, is_in_order, world_with_dependency_set, world_without_name}
+use Rattle.dep_core.specs.World.{IsWorldSortedByName, is_in_order, world_with_dependency_put_in_name_order, world_without_name}
 use Rattle.base_core.specs.ByteOrder.{bytes_cmp}
 use Rattle.base_core.proofs.Orderings.{is_less, names_total}
 
@@ -30,10 +30,10 @@ all-by P d e rest more Less pd pw pm = and_from (P d) (list_all P (e ∷ rest)) 
 all-by P d e rest more Equal pd pw pm = and_from (P d) (list_all P rest) pd (and_parts (P e) (list_all P rest) pw).1
 all-by P d e rest more Greater pd pw pm = and_from (P e) (list_all P more) (and_parts (P e) (list_all P rest) pw).0 pm
 
-pub all-world_with_dependency_set : (P : Dependency → Bool) (d : Dependency) (w : List Dependency) → P d ≡ true → list_all P w ≡ true → list_all P (world_with_dependency_set d w) ≡ true
-all-world_with_dependency_set P d [] pd pw = and_from (P d) true pd refl
-all-world_with_dependency_set P d (e ∷ rest) pd pw =
-    all-by P d e rest (world_with_dependency_set d rest) (bytes_cmp d.name e.name) pd pw (all-world_with_dependency_set P d rest pd (and_parts (P e) (list_all P rest) pw).1)
+pub all-world_with_dependency_put_in_name_order : (P : Dependency → Bool) (d : Dependency) (w : List Dependency) → P d ≡ true → list_all P w ≡ true → list_all P (world_with_dependency_put_in_name_order d w) ≡ true
+all-world_with_dependency_put_in_name_order P d [] pd pw = and_from (P d) true pd refl
+all-world_with_dependency_put_in_name_order P d (e ∷ rest) pd pw =
+    all-by P d e rest (world_with_dependency_put_in_name_order d rest) (bytes_cmp d.name e.name) pd pw (all-world_with_dependency_put_in_name_order P d rest pd (and_parts (P e) (list_all P rest) pw).1)
 
 all-filter : (P q : Dependency → Bool) (w : List Dependency) → list_all P w ≡ true → list_all P (filter q w) ≡ true
 all-filter P q [] pw = refl
@@ -69,11 +69,11 @@ order-by d e rest more Equal h w m b =
     and_from (list_all (is_behind d.name) rest) (is_in_order rest) (subst P (sym (cmp-equal d.name e.name h)) parts.0) parts.1
 order-by d e rest more Greater h w m b = and_from (list_all (is_behind e.name) more) (is_in_order more) (b refl) m
 
-order-world_with_dependency_set : (d : Dependency) (w : List Dependency) → is_in_order w ≡ true → is_in_order (world_with_dependency_set d w) ≡ true
-order-world_with_dependency_set d [] h = refl
-order-world_with_dependency_set d (e ∷ rest) h =
+order-world_with_dependency_put_in_name_order : (d : Dependency) (w : List Dependency) → is_in_order w ≡ true → is_in_order (world_with_dependency_put_in_name_order d w) ≡ true
+order-world_with_dependency_put_in_name_order d [] h = refl
+order-world_with_dependency_put_in_name_order d (e ∷ rest) h =
     let parts : (list_all (is_behind e.name) rest ≡ true) × (is_in_order rest ≡ true) = and_parts (list_all (is_behind e.name) rest) (is_in_order rest) h in
-    order-by d e rest (world_with_dependency_set d rest) (bytes_cmp d.name e.name) refl h (order-world_with_dependency_set d rest parts.1) (λ g. all-world_with_dependency_set (is_behind e.name) d rest (ap is_lt (cmp-back d.name e.name Greater g)) parts.0)
+    order-by d e rest (world_with_dependency_put_in_name_order d rest) (bytes_cmp d.name e.name) refl h (order-world_with_dependency_put_in_name_order d rest parts.1) (λ g. all-world_with_dependency_put_in_name_order (is_behind e.name) d rest (ap is_lt (cmp-back d.name e.name Greater g)) parts.0)
 
 order-filter : (q : Dependency → Bool) (w : List Dependency) → is_in_order w ≡ true → is_in_order (filter q w) ≡ true
 order-filter q [] h = refl
@@ -85,12 +85,12 @@ order-filter q (e ∷ rest) h =
     by true behind rest_in_order = and_from (list_all (is_behind e.name) (filter q rest)) (is_in_order (filter q rest)) behind rest_in_order
     by false behind rest_in_order = rest_in_order
 
-pub IsWorld-world_with_dependency_set : (d : Dependency) (w : List Dependency) → is_dependency d ≡ true → IsWorld w → IsWorld (world_with_dependency_set d w)
-IsWorld-world_with_dependency_set d w hd hw =
+pub IsWorldSortedByName-world_with_dependency_put_in_name_order : (d : Dependency) (w : List Dependency) → is_dependency d ≡ true → IsWorldSortedByName w → IsWorldSortedByName (world_with_dependency_put_in_name_order d w)
+IsWorldSortedByName-world_with_dependency_put_in_name_order d w hd hw =
     let parts : (list_all is_dependency w ≡ true) × (is_in_order w ≡ true) = and_parts (list_all is_dependency w) (is_in_order w) hw in
-    and_from (list_all is_dependency (world_with_dependency_set d w)) (is_in_order (world_with_dependency_set d w)) (all-world_with_dependency_set is_dependency d w hd parts.0) (order-world_with_dependency_set d w parts.1)
+    and_from (list_all is_dependency (world_with_dependency_put_in_name_order d w)) (is_in_order (world_with_dependency_put_in_name_order d w)) (all-world_with_dependency_put_in_name_order is_dependency d w hd parts.0) (order-world_with_dependency_put_in_name_order d w parts.1)
 
-pub IsWorld-without : (name : List ℕ) (w : List Dependency) → IsWorld w → IsWorld (world_without_name name w)
-IsWorld-without name w hw =
+pub IsWorldSortedByName-without : (name : List ℕ) (w : List Dependency) → IsWorldSortedByName w → IsWorldSortedByName (world_without_name name w)
+IsWorldSortedByName-without name w hw =
     let parts : (list_all is_dependency w ≡ true) × (is_in_order w ≡ true) = and_parts (list_all is_dependency w) (is_in_order w) hw in
     and_from (list_all is_dependency (world_without_name name w)) (is_in_order (world_without_name name w)) (all-filter is_dependency (λ (d : Dependency). not (bytes_eq d.name name)) w parts.0) (order-filter (λ (d : Dependency). not (bytes_eq d.name name)) w parts.1)

@@ -3,7 +3,7 @@
 use Rattle.std.specs.Prelude.{ℕ, ◌==◌, Bool, true, false, ◌&&◌, List, [], ◌∷◌, ◌++◌, map, Option, Some, None, is_some, unwrap_or, IsTrue}
 use Rattle.std.specs.Map.{lookup}
 use Rattle.version_core.specs.Order.{is_version}
-use Rattle.dep_core.specs.Dependency.{Dependency, is_dep_name, is_tag, operators}
+use Rattle.dep_core.specs.Dependency.{Dependency, is_dependency_name_by_bytes_and_length, is_tag, operators}
 
 -- the text of the operator that has these match bits, if there is one
 abbrev pub operator_text : ℕ → Option (List ℕ)
@@ -22,7 +22,7 @@ is_tag_or_none (Some tag) = is_tag tag
 
 -- whether a dependency is valid, by the grammar: its name, its wanted version with the match bits, and its tag
 abbrev pub is_dependency : Dependency → Bool
-is_dependency d = is_dep_name d.name && is_constraint_or_none d.version d.bits && is_tag_or_none d.tag
+is_dependency d = is_dependency_name_by_bytes_and_length d.name && is_constraint_or_none d.version d.bits && is_tag_or_none d.tag
 
 -- the dependency is valid, by the grammar
 abbrev pub IsDependency : Dependency → Type 0

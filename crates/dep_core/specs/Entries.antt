@@ -5,11 +5,11 @@ use Rattle.std.specs.List.{flat_map}
 use Rattle.std.specs.List.Sorted.{IsPermutation}
 use Rattle.dep_core.specs.Dependency.{Dependency}
 use Rattle.dep_core.specs.Reading.{dependency_of}
-use Rattle.dep_core.specs.World.{IsWorld, has_dependency_named, lines_of, world_with_lines, words_of_line}
+use Rattle.dep_core.specs.World.{IsWorldSortedByName, has_dependency_named, lines_of, world_with_lines, words_between_blanks}
 
 -- the words of all lines of a text, in their order
 abbrev pub words_in : List ℕ → List (List ℕ)
-words_in text = flat_map words_of_line (lines_of text)
+words_in text = flat_map words_between_blanks (lines_of text)
 
 -- whether no two of some dependencies have the same name
 abbrev pub have_different_names : List Dependency → Bool
@@ -18,7 +18,7 @@ have_different_names (d ∷ rest) = not (has_dependency_named d.name rest) && ha
 
 -- `world` is the world of the text: each word of the text is a dependency, no name occurs twice, and the world has
 -- exactly these dependencies, in byte order of their names
-pub record IsWorldOfText (text : List ℕ) (world : List Dependency) : Type 0 where
+pub record IsSortedWorldOfTextWithoutRepeatedNames (text : List ℕ) (world : List Dependency) : Type 0 where
   -- the dependencies of the words, in the order of the words
   pub entries : List Dependency
   -- each word is a dependency
@@ -28,7 +28,7 @@ pub record IsWorldOfText (text : List ℕ) (world : List Dependency) : Type 0 wh
   -- the world has these dependencies, perhaps in another order
   pub same : IsPermutation entries world
   -- the world is in byte order of the names
-  pub in_order : IsWorld world
+  pub in_order : IsWorldSortedByName world
 
 -- `line`, counted from 1, is the first bad line of the text: the lines before it are a world, but together with it they
 -- are not

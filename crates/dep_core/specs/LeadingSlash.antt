@@ -3,6 +3,6 @@
 use Rattle.std.specs.Prelude.{ℕ, ◌==◌, if◌then◌else◌, List, [], ◌∷◌}
 
 -- a text without one leading `/` (47)
-abbrev pub without_slash : List ℕ → List ℕ
-without_slash [] = []
-without_slash (b ∷ rest) = if b == 47 then rest else b ∷ rest
+abbrev pub without_leading_slash : List ℕ → List ℕ
+without_leading_slash [] = []
+without_leading_slash (b ∷ rest) = if b == 47 then rest else b ∷ rest

@@ -7,7 +7,7 @@ use Rattle.std.specs.List.{prefix_len, take_while}
 use Rattle.std.specs.Map.{lookup}
 use Rattle.std.specs.Str.{bytes_eq}
 use Rattle.version_core.specs.Order.{is_version}
-use Rattle.dep_core.specs.Dependency.{Dependency, dependency_from_parts, is_name_byte, is_dep_name, is_tag_byte, is_tag, operators}
+use Rattle.dep_core.specs.Dependency.{Dependency, dependency_from_parts, is_name_byte, is_dependency_name_by_bytes_and_length, is_tag_byte, is_tag, operators}
 
 -- the text without its longest prefix of bytes that all have the property `p`
 abbrev pub without_leading_bytes : (ℕ → Bool) → List ℕ → List ℕ
@@ -45,8 +45,8 @@ dependency_after_version d (b ∷ tag) =
     if (b == 64) && (not (is_some d.tag) && is_tag tag) then Some (with_tag d tag) else None
 
 -- parses the text after an operator with these match bits: a version up to the first `@`, and then a tag or nothing
-unfoldable pub dependency_from_version : Dependency → ℕ → List ℕ → Option Dependency
-dependency_from_version d bits text =
+unfoldable pub dependency_from_version_onward : Dependency → ℕ → List ℕ → Option Dependency
+dependency_from_version_onward d bits text =
     if is_version (take_while is_not_at_sign text)
     then dependency_after_version (with_constraint d (take_while is_not_at_sign text) bits)
     (without_leading_bytes is_not_at_sign text)
@@ -56,20 +56,20 @@ dependency_from_version d bits text =
 -- no operator
 abbrev pub dependency_after_operator : Dependency → Option ℕ → List ℕ → Option Dependency
 dependency_after_operator d None text = None
-dependency_after_operator d (Some bits) text = dependency_from_version d bits text
+dependency_after_operator d (Some bits) text = dependency_from_version_onward d bits text
 
 -- parses the text after the name and its tag: it is empty, or it begins with an operator
-unfoldable pub dependency_from_operator : Dependency → List ℕ → Option Dependency
-dependency_from_operator d [] = Some d
-dependency_from_operator d (b ∷ rest) =
+unfoldable pub dependency_from_operator_onward : Dependency → List ℕ → Option Dependency
+dependency_from_operator_onward d [] = Some d
+dependency_from_operator_onward d (b ∷ rest) =
     dependency_after_operator d (operator_bits (take_while is_operator_byte (b ∷ rest)))
     (without_leading_bytes is_operator_byte (b ∷ rest))
 
 -- parses the text after the `@` that follows the name: a tag, and then an operator with a version, or nothing
-unfoldable pub dependency_from_tag : Dependency → List ℕ → Option Dependency
-dependency_from_tag d text =
+unfoldable pub dependency_from_tag_onward : Dependency → List ℕ → Option Dependency
+dependency_from_tag_onward d text =
     if is_tag (take_while is_tag_byte text)
-    then dependency_from_operator (with_tag d (take_while is_tag_byte text))
+    then dependency_from_operator_onward (with_tag d (take_while is_tag_byte text))
     (without_leading_bytes is_tag_byte text)
     else None
 
@@ -78,12 +78,12 @@ dependency_from_tag d text =
 unfoldable pub dependency_after_name : Dependency → List ℕ → Option Dependency
 dependency_after_name d [] = Some d
 dependency_after_name d (b ∷ rest) =
-    if b == 64 then dependency_from_tag d rest else dependency_from_operator d (b ∷ rest)
+    if b == 64 then dependency_from_tag_onward d rest else dependency_from_operator_onward d (b ∷ rest)
 
 -- parses a text that begins with the name; `conflict` says whether a `!` preceded the name
-unfoldable pub dependency_from_name : Bool → List ℕ → Option Dependency
-dependency_from_name conflict text =
-    if is_dep_name (take_while is_name_byte text)
+unfoldable pub dependency_from_name_onward : Bool → List ℕ → Option Dependency
+dependency_from_name_onward conflict text =
+    if is_dependency_name_by_bytes_and_length (take_while is_name_byte text)
     then dependency_after_name (dependency_on_any_version conflict (take_while is_name_byte text))
     (without_leading_bytes is_name_byte text)
     else None
@@ -93,4 +93,4 @@ dependency_from_name conflict text =
 unfoldable pub dependency_of : List ℕ → Option Dependency
 dependency_of [] = None
 dependency_of (b ∷ rest) =
-    if b == 33 then dependency_from_name true rest else dependency_from_name false (b ∷ rest)
+    if b == 33 then dependency_from_name_onward true rest else dependency_from_name_onward false (b ∷ rest)

@@ -5,7 +5,7 @@ use Rattle.std.specs.Option.{option_map}
 use Rattle.std.specs.List.{suffix_len, take_while}
 use Rattle.base_core.specs.Name.{is_name}
 use Rattle.dep_core.specs.Dependency.{is_tag_byte, is_tag}
-use Rattle.dep_core.specs.LeadingSlash.{without_slash}
+use Rattle.dep_core.specs.LeadingSlash.{without_leading_slash}
 use Rattle.dep_core.specs.Reading.{without_leading_bytes}
 use Rattle.dep_core.specs.World.{is_blank, lines_of}
 
@@ -29,9 +29,9 @@ abbrev pub without_outer_blanks : List ℕ → List ℕ
 without_outer_blanks text = without_trailing_blanks (without_leading_bytes is_blank text)
 
 -- whether a line is skipped, given the line without blanks at both ends: it is empty, or begins with `#` (35)
-abbrev pub is_blank_or_comment : List ℕ → Bool
-is_blank_or_comment [] = true
-is_blank_or_comment (b ∷ rest) = b == 35
+abbrev pub is_trimmed_line_empty_or_comment : List ℕ → Bool
+is_trimmed_line_empty_or_comment [] = true
+is_trimmed_line_empty_or_comment (b ∷ rest) = b == 35
 
 -- whether the first byte is a space or a tab
 abbrev pub begins_with_blank : List ℕ → Bool
@@ -42,7 +42,7 @@ begins_with_blank (b ∷ rest) = is_blank b
 -- name
 abbrev pub repository_at_path : Option (List ℕ) → List ℕ → Option Repository
 repository_at_path tag path =
-    if is_name (without_slash path) then Some (repository tag (without_slash path)) else None
+    if is_name (without_leading_slash path) then Some (repository tag (without_leading_slash path)) else None
 
 -- the repository of a line, given the text after the `@` of the line: a tag, blanks, and a path
 unfoldable pub repository_after_at_sign : List ℕ → Option Repository
@@ -66,7 +66,7 @@ singleton found = found ∷ []
 -- the repositories on a line: none if the line is skipped, otherwise one. None if the line is bad
 abbrev pub repositories_on_line : List ℕ → Option (List Repository)
 repositories_on_line line =
-    if is_blank_or_comment (without_outer_blanks line) then Some []
+    if is_trimmed_line_empty_or_comment (without_outer_blanks line) then Some []
     else option_map singleton (repository_of (without_outer_blanks line))
 
 -- the repositories of a line, followed by those of the later lines (`rest`); if the line is bad

@@ -4,7 +4,7 @@
 -- table 1.
 use Rattle.std.specs.Prelude.{ℕ, ◌+◌, ◌%◌, ◌==◌, nat_lt, Bool, true, false, ◌&&◌, if◌then◌else◌, List, [], ◌∷◌, Option, Some, None, unwrap_or}
 use Rattle.version_core.specs.Order.{is_version}
-use Rattle.version_core.specs.Op.{is_operator_bits}
+use Rattle.version_core.specs.Op.{are_match_bits_below_16_except_6_and_14}
 use Rattle.dep_core.specs.Dependency.{Dependency}
 
 -- the three fields of a dependency in a package's information, as they are stored
@@ -36,7 +36,7 @@ dep_value d =
 
 -- whether a number is a match number: it is below 32, and its low four bits are accepted as an operator
 abbrev pub is_match_number : ℕ → Bool
-is_match_number matching = nat_lt matching 32 && is_operator_bits (matching % 16)
+is_match_number matching = nat_lt matching 32 && are_match_bits_below_16_except_6_and_14 (matching % 16)
 
 -- whether a text is a version, or empty
 abbrev pub is_version_or_empty : List ℕ → Bool

@@ -16,8 +16,8 @@ is_in_order (d ∷ rest) =
     list_all (λ (e : Dependency). is_lt (bytes_cmp d.name e.name)) rest && is_in_order rest
 
 -- the list is a world: valid dependencies in byte order of their names, each name once
-abbrev pub IsWorld : List Dependency → Type 0
-IsWorld world = IsTrue (list_all is_dependency world && is_in_order world)
+abbrev pub IsWorldSortedByName : List Dependency → Type 0
+IsWorldSortedByName world = IsTrue (list_all is_dependency world && is_in_order world)
 
 -- whether one of the dependencies has this name
 abbrev pub has_dependency_named : List ℕ → List Dependency → Bool
@@ -25,11 +25,11 @@ has_dependency_named name world = list_any (λ (d : Dependency). bytes_eq d.name
 
 -- world with this dependency: it replaces the entry with its name, or is inserted in the order of
 -- the names
-abbrev pub world_with_dependency_set : Dependency → List Dependency → List Dependency
-world_with_dependency_set d [] = d ∷ []
-world_with_dependency_set d (e ∷ rest) =
+abbrev pub world_with_dependency_put_in_name_order : Dependency → List Dependency → List Dependency
+world_with_dependency_put_in_name_order d [] = d ∷ []
+world_with_dependency_put_in_name_order d (e ∷ rest) =
     match_ordering (bytes_cmp d.name e.name) (d ∷ (e ∷ rest)) (d ∷ rest)
-    (e ∷ world_with_dependency_set d rest)
+    (e ∷ world_with_dependency_put_in_name_order d rest)
 
 -- world without the entry of a name
 abbrev pub world_without_name : List ℕ → List Dependency → List Dependency
@@ -54,13 +54,13 @@ abbrev pub lines_of : List ℕ → List (List ℕ)
 lines_of text = slice_split is_line_end text
 
 -- the words of a line, between blanks
-abbrev pub words_of_line : List ℕ → List (List ℕ)
-words_of_line line = filter (λ word. not (length word == 0)) (slice_split is_blank line)
+abbrev pub words_between_blanks : List ℕ → List (List ℕ)
+words_between_blanks line = filter (λ word. not (length word == 0)) (slice_split is_blank line)
 
 -- world with this dependency as a new entry, or None if an entry has its name
 abbrev pub world_with_new_dependency : List Dependency → Dependency → Option (List Dependency)
 world_with_new_dependency world d =
-    if has_dependency_named d.name world then None else Some (world_with_dependency_set d world)
+    if has_dependency_named d.name world then None else Some (world_with_dependency_put_in_name_order d world)
 
 -- world with the entries of some words; None if a word is no dependency, or repeats the name of an entry
 abbrev pub world_with_words : List Dependency → List (List ℕ) → Option (List Dependency)
@@ -82,7 +82,7 @@ abbrev pub world_with_lines : List Dependency → ℕ → List (List ℕ) → Re
 world_with_lines world line [] = Ok world
 world_with_lines world line (text ∷ rest) =
     or_bad_line line (λ more. world_with_lines more (line + 1) rest)
-    (world_with_words world (words_of_line text))
+    (world_with_words world (words_between_blanks text))
 
 -- the world that a text denotes, or the number of its first bad line, counted from 1
 unfoldable pub world_of : List ℕ → Result (List Dependency) ℕ

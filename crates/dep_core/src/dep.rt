@@ -4,7 +4,7 @@
 
 ghost use Rattle.std.specs.Prelude.{IsTrue, ◌≡◌, Some, IfSome, is_some, ◌==◌};
 ghost use Rattle.std.specs.Option.{option_copied};
-ghost use Rattle.dep_core.specs.Dependency.{dependency_from_parts, begins_with_dash_or_dot, is_dep_name, is_name_byte, is_package_name, is_tag, is_tag_byte};
+ghost use Rattle.dep_core.specs.Dependency.{dependency_from_parts, begins_with_dash_or_dot, is_dependency_name_by_bytes_and_length, is_name_byte, is_package_name, is_tag, is_tag_byte};
 ghost use Rattle.dep_core.specs.DependencyText.{is_dependency, operator_text};
 ghost use Rattle.dep_core.specs.Reading.{operator_bits};
 ghost use Rattle.std.specs.List.{list_all, list_any};
@@ -59,7 +59,7 @@ impl<'a> Dep<'a> {
     /// conflict.
     pub(crate) fn dependency_on_any_version(conflict: bool, name: &'a [u8]) -> Dep<'a>
         // The bytes are an allowed name of a dependency.
-        requires { IsTrue (is_dep_name name.now) }
+        requires { IsTrue (is_dependency_name_by_bytes_and_length name.now) }
         ensures { dependency result ≡ dependency_on_any_version conflict name.entry.now }
     {
         Dep {
@@ -143,8 +143,8 @@ pub fn operator_text(op: Op) -> &'static [u8]
 
 /// Whether the bytes are the name of a dependency: 1 to 255 bytes from 0x21 to 0x7e, none of them
 /// `!`, `<`, `=`, `>`, `@` or `~`.
-pub fn is_dep_name(name: &[u8]) -> bool
-    ensures { result ≡ is_dep_name name.now }
+pub fn is_dependency_name_by_bytes_and_length(name: &[u8]) -> bool
+    ensures { result ≡ is_dependency_name_by_bytes_and_length name.now }
 {
     if name.is_empty() || name.len() > 255 {
         return false;
@@ -164,7 +164,7 @@ fn has_name_bytes(name: &[u8]) -> bool
 pub fn is_package_name(name: &[u8]) -> bool
     ensures { result ≡ is_package_name name.now }
 {
-    if !is_dep_name(name) || begins_with_dash_or_dot(name) {
+    if !is_dependency_name_by_bytes_and_length(name) || begins_with_dash_or_dot(name) {
         return false;
     }
     !has_slash(name)

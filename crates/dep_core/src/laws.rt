@@ -9,8 +9,8 @@ ghost use Rattle.dep_core.specs.Reading.{dependency_of};
 ghost use Rattle.dep_core.specs.Spelling.{SpellsDependency};
 ghost use Rattle.dep_core.specs.Value.{dep_value};
 ghost use Rattle.dep_core.specs.ValueReading.{dependency_of_value};
-ghost use Rattle.dep_core.specs.World.{IsWorld, world_of, world_text};
-ghost use Rattle.dep_core.specs.Entries.{IsFirstBadLineOfWorldText, IsWorldOfText, have_different_names, words_in};
+ghost use Rattle.dep_core.specs.World.{IsWorldSortedByName, world_of, world_text};
+ghost use Rattle.dep_core.specs.Entries.{IsFirstBadLineOfWorldText, IsSortedWorldOfTextWithoutRepeatedNames, have_different_names, words_in};
 ghost use Rattle.dep_core.specs.Repositories.{Repository, repositories_of};
 ghost use Rattle.dep_core.specs.RepositoryText.{is_repository_writable_as_line, repositories_text};
 ghost use Rattle.std.specs.List.{list_all};
@@ -57,7 +57,7 @@ pub fn values_are_read_back()
 
 /// The text that a world is written as is read as that world.
 pub fn worlds_are_read_back()
-    ensures { (world : List Dependency) → IsWorld world → world_of (world_text world) ≡ Ok world }
+    ensures { (world : List Dependency) → IsWorldSortedByName world → world_of (world_text world) ≡ Ok world }
 {
     // A law that the proof needs; it has no effect at run time.
     versions_have_version_bytes();
@@ -67,7 +67,7 @@ pub fn worlds_are_read_back()
 /// once, in byte order.
 pub fn worlds_hold_their_words()
     ensures { (text : List ℕ) (world : List Dependency) → world_of text ≡ Ok world
-        → IsWorldOfText text world }
+        → IsSortedWorldOfTextWithoutRepeatedNames text world }
 {}
 
 /// A text whose words are all dependencies, of different names, is read as a world.

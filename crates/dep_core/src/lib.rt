@@ -17,12 +17,12 @@ mod repos;
 mod text;
 mod world;
 
-pub use dep::{Dep, has_slash, is_dep_name, is_package_name};
+pub use dep::{Dep, has_slash, is_dependency_name_by_bytes_and_length, is_package_name};
 pub use laws::{
     first_bad_line_is_reported, read_texts_are_spelled, repositories_are_read_back,
     spelled_texts_are_read, texts_are_read_back, values_are_read_back,
     words_of_different_names_are_a_world, worlds_are_read_back, worlds_hold_their_words,
 };
-pub use repos::{Repos, ReposFault, without_slash};
+pub use repos::{Repos, ReposFault, without_leading_slash};
 pub use text::{dep_of, dep_of_parts, dep_text, read_dep};
 pub use world::{World, WorldFault};

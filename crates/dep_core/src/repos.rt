@@ -3,9 +3,9 @@
 
 ghost use Rattle.std.specs.Prelude.{◌≡◌, ◌<◌, ◌==◌, ◌++◌, length, slice_get, Some, None, if◌then◌else◌, IfOk, IfErr, option_copied};
 ghost use Rattle.std.specs.Option.{option_map};
-ghost use Rattle.dep_core.specs.Repositories.{repository_at_path, begins_with_blank, is_blank_or_comment, repositories_of, repositories_on_line, repository_of, repository_after_at_sign, without_outer_blanks, without_trailing_blanks};
+ghost use Rattle.dep_core.specs.Repositories.{repository_at_path, begins_with_blank, is_trimmed_line_empty_or_comment, repositories_of, repositories_on_line, repository_of, repository_after_at_sign, without_outer_blanks, without_trailing_blanks};
 ghost use Rattle.dep_core.specs.Faults.{IsReposFault};
-ghost use Rattle.dep_core.specs.LeadingSlash.{without_slash};
+ghost use Rattle.dep_core.specs.LeadingSlash.{without_leading_slash};
 
 use crate::dep::is_tag;
 use crate::text::{blank_len, is_blank, tag_len};
@@ -136,7 +136,7 @@ fn add_line(alloc: Global, repos: &mut Vec<Repo>, line: &[u8]) -> Result<bool, A
         ≡ (if good then Some repos.new.items else None)) }
 {
     let line = without_outer_blanks(line);
-    if is_blank_or_comment(line) {
+    if is_trimmed_line_empty_or_comment(line) {
         return Ok(true);
     }
     let Some(repo) = read_repo(alloc, line)? else {
@@ -166,8 +166,8 @@ fn without_trailing_blanks(text: &[u8]) -> &[u8]
 
 /// Whether a line is skipped, given the line without blanks at both ends: it is empty, or begins
 /// with `#`.
-fn is_blank_or_comment(text: &[u8]) -> bool
-    ensures { result ≡ is_blank_or_comment text.now }
+fn is_trimmed_line_empty_or_comment(text: &[u8]) -> bool
+    ensures { result ≡ is_trimmed_line_empty_or_comment text.now }
 {
     match text.first() {
         Some(byte) => *byte == b'#',
@@ -219,7 +219,7 @@ fn repository_at_path(
 ) -> Result<Option<Repo>, AllocError>
     ensures { IfOk result (λ found. found ≡ repository_at_path (option_copied tag.entry) path.now) }
 {
-    let Some(path) = Name::read(alloc, without_slash(path))? else {
+    let Some(path) = Name::read(alloc, without_leading_slash(path))? else {
         return Ok(None);
     };
     let tag = match tag {
@@ -230,8 +230,8 @@ fn repository_at_path(
 }
 
 /// A text without one leading `/`, which is allowed before a path below the root.
-pub fn without_slash(path: &[u8]) -> &[u8]
-    ensures { result.now ≡ without_slash path.now }
+pub fn without_leading_slash(path: &[u8]) -> &[u8]
+    ensures { result.now ≡ without_leading_slash path.now }
 {
     match path.split_first() {
         Some((b'/', rest)) => rest,

@@ -3,16 +3,16 @@
 
 ghost use Rattle.std.specs.Prelude.{◌≡◌, IsTrue, true, is_some, IfSome, ◌++◌, IfOk, OnOk, ◌≤◌, length, not, position};
 ghost use Rattle.std.specs.Option.{option_map};
-ghost use Rattle.dep_core.specs.Dependency.{is_dep_name, is_name_byte, is_tag_byte};
+ghost use Rattle.dep_core.specs.Dependency.{is_dependency_name_by_bytes_and_length, is_name_byte, is_tag_byte};
 ghost use Rattle.dep_core.specs.DependencyText.{operator_text, dep_text};
-ghost use Rattle.dep_core.specs.Reading.{dependency_from_tag, dependency_of, dependency_after_version, dependency_from_operator, dependency_from_name, dependency_after_name, dependency_from_version, is_not_at_sign, is_operator_byte};
+ghost use Rattle.dep_core.specs.Reading.{dependency_from_tag_onward, dependency_of, dependency_after_version, dependency_from_operator_onward, dependency_from_name_onward, dependency_after_name, dependency_from_version_onward, is_not_at_sign, is_operator_byte};
 ghost use Rattle.dep_core.specs.Meets.{dependency};
 ghost use Rattle.dep_core.specs.Value.{is_version_or_empty};
-ghost use Rattle.dep_core.specs.ValueReading.{match_bits_unless_any_version, dependency_of_value};
+ghost use Rattle.dep_core.specs.ValueReading.{match_bits_of_low_bits_unless_any_version, dependency_of_value};
 ghost use Rattle.std.specs.List.{prefix_len};
 ghost use Rattle.dep_core.specs.World.{is_blank};
 
-use crate::dep::{Dep, is_dep_name, is_name_byte, is_tag, is_tag_byte, operator_of, operator_text};
+use crate::dep::{Dep, is_dependency_name_by_bytes_and_length, is_name_byte, is_tag, is_tag_byte, operator_of, operator_text};
 use base_core::Text;
 use std::alloc::{AllocError, Global};
 use version_core::{Op, Version};
@@ -24,21 +24,21 @@ pub fn read_dep(text: &[u8]) -> Option<Dep<'_>>
     ensures { option_map dependency result ≡ dependency_of text.entry.now }
 {
     match text.split_first() {
-        Some((b'!', rest)) => dependency_from_name(true, rest),
-        Some(_) => dependency_from_name(false, text),
+        Some((b'!', rest)) => dependency_from_name_onward(true, rest),
+        Some(_) => dependency_from_name_onward(false, text),
         None => None,
     }
 }
 
 /// Reads a dependency from a text that begins with its name. `conflict` says whether a `!` preceded
 /// the name.
-#[tactic(auto, unfolding(crate::specs::Reading::dependency_from_name))]
-fn dependency_from_name(conflict: bool, text: &[u8]) -> Option<Dep<'_>>
+#[tactic(auto, unfolding(crate::specs::Reading::dependency_from_name_onward))]
+fn dependency_from_name_onward(conflict: bool, text: &[u8]) -> Option<Dep<'_>>
     // The result is the dependency, or None, that the definition with this name gives.
-    ensures { option_map dependency result ≡ dependency_from_name conflict text.entry.now }
+    ensures { option_map dependency result ≡ dependency_from_name_onward conflict text.entry.now }
 {
     let (name, rest) = text.split_at(name_len(text));
-    if !is_dep_name(name) {
+    if !is_dependency_name_by_bytes_and_length(name) {
         return None;
     }
     dependency_after_name(Dep::dependency_on_any_version(conflict, name), rest)
@@ -54,49 +54,49 @@ fn dependency_after_name<'a>(dep: Dep<'a>, text: &'a [u8]) -> Option<Dep<'a>>
 {
     match text.split_first() {
         None => Some(dep),
-        Some((b'@', rest)) => dependency_from_tag(dep, rest),
-        Some(_) => dependency_from_operator(dep, text),
+        Some((b'@', rest)) => dependency_from_tag_onward(dep, rest),
+        Some(_) => dependency_from_operator_onward(dep, text),
     }
 }
 
 /// Reads the text after the `@` that follows the name: a tag, and then an operator with a version,
 /// or nothing.
-#[tactic(auto, unfolding(crate::specs::Reading::dependency_from_tag))]
-fn dependency_from_tag<'a>(dep: Dep<'a>, text: &'a [u8]) -> Option<Dep<'a>>
+#[tactic(auto, unfolding(crate::specs::Reading::dependency_from_tag_onward))]
+fn dependency_from_tag_onward<'a>(dep: Dep<'a>, text: &'a [u8]) -> Option<Dep<'a>>
     // The result is the dependency, or None, that the definition with this name gives.
     ensures { option_map dependency result
-        ≡ dependency_from_tag (dependency dep.entry) text.entry.now }
+        ≡ dependency_from_tag_onward (dependency dep.entry) text.entry.now }
 {
     let (tag, rest) = text.split_at(tag_len(text));
     if !is_tag(tag) {
         return None;
     }
-    dependency_from_operator(dep.with_tag(tag), rest)
+    dependency_from_operator_onward(dep.with_tag(tag), rest)
 }
 
 /// Reads the text after the name and its tag: an operator with a version, or nothing.
-#[tactic(auto, unfolding(crate::specs::Reading::dependency_from_operator))]
-fn dependency_from_operator<'a>(dep: Dep<'a>, text: &'a [u8]) -> Option<Dep<'a>>
+#[tactic(auto, unfolding(crate::specs::Reading::dependency_from_operator_onward))]
+fn dependency_from_operator_onward<'a>(dep: Dep<'a>, text: &'a [u8]) -> Option<Dep<'a>>
     // The result is the dependency, or None, that the definition with this name gives.
     ensures { option_map dependency result
-        ≡ dependency_from_operator (dependency dep.entry) text.entry.now }
+        ≡ dependency_from_operator_onward (dependency dep.entry) text.entry.now }
 {
     if text.is_empty() {
         return Some(dep);
     }
     let (operator, rest) = text.split_at(operator_len(text));
     let op = operator_of(operator)?;
-    dependency_from_version(dep, op, rest)
+    dependency_from_version_onward(dep, op, rest)
 }
 
 /// Reads the text after the operator `op`: a version, and then a tag or nothing.
-#[tactic(auto, unfolding(crate::specs::Reading::dependency_from_version))]
-fn dependency_from_version<'a>(dep: Dep<'a>, op: Op, text: &'a [u8]) -> Option<Dep<'a>>
+#[tactic(auto, unfolding(crate::specs::Reading::dependency_from_version_onward))]
+fn dependency_from_version_onward<'a>(dep: Dep<'a>, op: Op, text: &'a [u8]) -> Option<Dep<'a>>
     // The operator is one that has a text.
     requires { IsTrue (is_some (operator_text op)) }
     // The result is the dependency, or None, that the definition with this name gives.
     ensures { option_map dependency result
-        ≡ dependency_from_version (dependency dep.entry) op text.entry.now }
+        ≡ dependency_from_version_onward (dependency dep.entry) op text.entry.now }
 {
     let (version, rest) = text.split_at(len_before_at_sign(text));
     let version = Version::read(version)?;
@@ -134,7 +134,7 @@ pub fn dep_of<'a>(name: &'a [u8], version: &'a [u8], matching: u64) -> Option<De
     ensures { option_map dependency result
         ≡ dependency_of_value name.entry.now version.entry.now matching }
 {
-    if !is_dep_name(name) || !is_version_or_empty(version) {
+    if !is_dependency_name_by_bytes_and_length(name) || !is_version_or_empty(version) {
         return None;
     }
     dep_of_parts(name, version, matching)
@@ -145,7 +145,7 @@ pub fn dep_of<'a>(name: &'a [u8], version: &'a [u8], matching: u64) -> Option<De
 #[tactic(auto, unfolding(crate::specs::ValueReading::dependency_of_value))]
 pub fn dep_of_parts<'a>(name: &'a [u8], version: &'a [u8], matching: u64) -> Option<Dep<'a>>
     // The name is allowed for a dependency.
-    requires name { is_dep_name name.now ≡ true }
+    requires name { is_dependency_name_by_bytes_and_length name.now ≡ true }
     // The version is valid, or empty.
     requires version { is_version_or_empty version.now ≡ true }
     // The result is the dependency, or None, that the definition with this name gives.
@@ -177,7 +177,7 @@ fn is_version_or_empty(text: &[u8]) -> bool
 /// The operator that the low four bits (`low`) of a match number denote; None if they accept any
 /// version.
 fn wanted_op(low: Op) -> Option<Op>
-    ensures bits { result ≡ match_bits_unless_any_version low }
+    ensures bits { result ≡ match_bits_of_low_bits_unless_any_version low }
     // An operator that is returned can be written as a text.
     ensures has_text { IfSome result (λ op. IsTrue (is_some (operator_text op))) }
 {

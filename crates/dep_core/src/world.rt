@@ -4,7 +4,7 @@
 
 ghost use Rattle.std.specs.Prelude.{◌≡◌, ◌<◌, ◌==◌, Some, length, slice_get, IfOk, IfErr, OnOk, OnErr, IsTrue, [], None, not, if◌then◌else◌};
 ghost use Rattle.dep_core.specs.Meets.{dependency};
-ghost use Rattle.dep_core.specs.World.{IsWorld, has_dependency_named, world_with_dependency_set, world_without_name, world_of, world_text, world_with_new_dependency, world_with_words, words_of_line};
+ghost use Rattle.dep_core.specs.World.{IsWorldSortedByName, has_dependency_named, world_with_dependency_put_in_name_order, world_without_name, world_of, world_text, world_with_new_dependency, world_with_words, words_between_blanks};
 ghost use Rattle.base_core.specs.ByteOrder.{bytes_cmp};
 ghost use Rattle.dep_core.specs.Faults.{IsWorldFault};
 ghost use Rattle.dep_core.specs.DependencyText.{is_dependency, IsDependency};
@@ -55,7 +55,7 @@ pub struct World {
 impl Model for World {
     ghost use Rattle.std.specs.Prelude.{List};
     ghost use Rattle.dep_core.specs.Dependency.{Dependency};
-    ghost use Rattle.dep_core.specs.World.{IsWorld};
+    ghost use Rattle.dep_core.specs.World.{IsWorldSortedByName};
 
     ghost Value = { List Dependency };
 
@@ -63,7 +63,7 @@ impl Model for World {
     ghost view = { λ world. world.entries.items };
 
     // Each entry is a valid dependency, and each name occurs once, in byte order.
-    ghost invariant = { λ world. IsWorld world.entries.items };
+    ghost invariant = { λ world. IsWorldSortedByName world.entries.items };
 }
 
 impl World {
@@ -75,7 +75,7 @@ impl World {
         // An error is that of the definition, or out of memory.
         ensures bad { IfErr result (λ fault. IsWorldFault fault (world_of bytes.now)) }
         // The result has each name once, in byte order.
-        ensures world { IfOk result (λ world. IsWorld world) }
+        ensures world { IfOk result (λ world. IsWorldSortedByName world) }
     {
         let mut found = Found::new(alloc);
         let mut line = 0;
@@ -94,7 +94,7 @@ impl World {
     pub fn add(&mut self, dep: &Dep<'_>) -> Result<(), AllocError>
         // On Ok, the entries have the dependency, instead of an entry with the same name.
         ensures ok { OnOk result (self.new
-            ≡ world_with_dependency_set (dependency dep.now) self.old) }
+            ≡ world_with_dependency_put_in_name_order (dependency dep.now) self.old) }
         // After an error, world is unchanged.
         ensures err { OnErr result (self.new ≡ self.old) }
     {
@@ -117,7 +117,7 @@ impl World {
         // On Ok, the text is that of the world.
         ensures text { IfOk result (λ text. text ≡ world_text self.now) }
         // Each name occurs once, in byte order.
-        ensures world { IsWorld self.now }
+        ensures world { IsWorldSortedByName self.now }
     {
         let mut text = Vec::new(alloc);
         for entry in &self.entries {
@@ -131,7 +131,7 @@ impl World {
     pub fn len(&self) -> usize
         ensures value { result ≡ length self.now }
         // Each name occurs once, in byte order.
-        ensures world { IsWorld self.now }
+        ensures world { IsWorldSortedByName self.now }
     {
         self.entries.len()
     }
@@ -240,16 +240,16 @@ impl Entry {
 /// names if there is no such entry. A call that fails changes nothing.
 pub fn put(entries: &mut Vec<Entry>, entry: Entry) -> Result<(), AllocError>
     // The entries are those of a world: each name once, in byte order.
-    requires world { IsWorld entries.old.items }
+    requires world { IsWorldSortedByName entries.old.items }
     // The entry is a valid dependency.
     requires dependency { IsDependency entry }
     // On Ok, the entries have `entry`, instead of an entry with the same name.
     ensures ok { OnOk result (entries.new.items
-        ≡ world_with_dependency_set entry entries.old.items) }
+        ≡ world_with_dependency_put_in_name_order entry entries.old.items) }
     // After an error, the entries are unchanged.
     ensures err { OnErr result (entries.new.items ≡ entries.old.items) }
     // Afterwards each name still occurs once, in byte order.
-    ensures still_world { IsWorld entries.new.items }
+    ensures still_world { IsWorldSortedByName entries.new.items }
 {
     match index_of(entries, entry.name()) {
         Ok(index) => entries[index] = entry,
@@ -261,13 +261,13 @@ pub fn put(entries: &mut Vec<Entry>, entry: Entry) -> Result<(), AllocError>
 /// Removes the entry with this name, and returns whether there was such an entry.
 pub fn take_out(entries: &mut Vec<Entry>, name: &[u8]) -> bool
     // The entries are those of a world: each name once, in byte order.
-    requires { IsWorld entries.old.items }
+    requires { IsWorldSortedByName entries.old.items }
     // The result says whether an entry had the name.
     ensures found { result ≡ has_dependency_named name.now entries.old.items }
     // The entry with the name is removed, and the others remain.
     ensures rest { entries.new.items ≡ world_without_name name.now entries.old.items }
     // Afterwards each name still occurs once, in byte order.
-    ensures still_world { IsWorld entries.new.items }
+    ensures still_world { IsWorldSortedByName entries.new.items }
 {
     match index_of(entries, name) {
         Ok(index) => {
@@ -304,7 +304,7 @@ impl<'a> Model for Found<'a> {
     ghost use Rattle.std.specs.BTreeMap.{values};
     ghost use Rattle.dep_core.specs.Dependency.{Dependency};
     ghost use Rattle.dep_core.specs.Found.{IsKeyedByName};
-    ghost use Rattle.dep_core.specs.World.{IsWorld};
+    ghost use Rattle.dep_core.specs.World.{IsWorldSortedByName};
 
     ghost Value = { List Dependency };
 
@@ -313,7 +313,7 @@ impl<'a> Model for Found<'a> {
 
     // Each entry is under its own name, and the entries are a world.
     ghost invariant = { λ found. IsKeyedByName found.by_name.entries
-        × IsWorld (values found.by_name) };
+        × IsWorldSortedByName (values found.by_name) };
 }
 
 impl<'a> Found<'a> {
@@ -333,7 +333,7 @@ impl<'a> Found<'a> {
         // On `Ok(true)`, the entries are those of the definition. On `Ok(false)`, the definition
         // gives None, which means that the line is bad.
         ensures { IfOk result (λ good.
-            world_with_words self.old (words_of_line line.entry.now)
+            world_with_words self.old (words_between_blanks line.entry.now)
             ≡ (if good then Some self.new else None)) }
     {
         for word in line.split(|byte| is_blank(*byte)) {
@@ -369,7 +369,7 @@ impl<'a> Found<'a> {
             ≡ not (has_dependency_named dep.now.name.now self.old)) }
         // On Ok, the entries have the dependency, instead of an entry with the same name.
         ensures added { OnOk result (self.new
-            ≡ world_with_dependency_set (dependency dep.now) self.old) }
+            ≡ world_with_dependency_put_in_name_order (dependency dep.now) self.old) }
     {
         let entry = Entry::of(self.alloc, dep)?;
         let old = self.by_name.insert(dep.name, entry)?;
@@ -381,7 +381,7 @@ impl<'a> Found<'a> {
         // On Ok, the result has the entries that were found.
         ensures value { IfOk result (λ entries. entries.items ≡ self.entry) }
         // Each name occurs once, in byte order.
-        ensures world { IsWorld self.entry }
+        ensures world { IsWorldSortedByName self.entry }
     {
         self.by_name.into_values().collect(self.alloc)
     }

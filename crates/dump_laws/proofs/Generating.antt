@@ -4,7 +4,7 @@ use Rattle.std.proofs.lemmas.Bool.{eqb-true}
 use Rattle.std.specs.Prelude.{All, IfSome, IsSome, unwrap_or}
 use Rattle.base_core.specs.declared.cause.Cause.{Cause}
 use Rattle.adb_block.specs.Header.{schema_of_header}
-use Rattle.adb_block.specs.ReaderPosition.{first_block_position_of_schema_and_file}
+use Rattle.adb_block.specs.PositionBetweenBlocks.{first_block_position_of_schema_and_file}
 use Rattle.adb_block.specs.Reading.{Reading, block_stream_from}
 use Rattle.adb_view.specs.Plain.{Plain, null, plain_of, IsNormal}
 use Rattle.adb_view.specs.Head.{root_word_of_payload}
@@ -14,9 +14,9 @@ use Rattle.adb_view.specs.declared.tables.Which.{Which}
 use Rattle.adb_view.specs.declared.tables.Which.TheVariants.{Package, Index, Idb, Intent}
 use Rattle.adb_view.specs.declared.tables.Kind.TheVariants.{Obj}
 use Rattle.adb_view.proofs.FoundShapes.{shape_null}
-use Rattle.outcome.specs.adb_schema.Soundness.{first_block_payload, payload_after_header, payload_in, root_value_of_payload, schema_word}
+use Rattle.outcome.specs.adb_schema.Soundness.{first_block_payload, payload_by_header_schema_or_fault, payload_in, root_value_of_payload, header_schema_if_root_table}
 use Rattle.outcome.specs.adb_schema.declared.read.TheConstants.{PACKAGE_WORD, INDEX_WORD, IDB_WORD, INTENT_WORD}
-use Rattle.outcome.specs.adb_write.Canonical.{ByteAndValueCounts, canonical, payload_or_overflow}
+use Rattle.outcome.specs.adb_write.Canonical.{ByteAndValueCounts, canonical, payload_or_counts_at_overflow}
 use Rattle.outcome.specs.adb_write.File.{file_of}
 use Rattle.outcome.specs.pkg_core.Whole.{table_of_schema}
 use Rattle.outcome.proofs.adb_sound.Lower.{Lower}
@@ -38,8 +38,8 @@ Found = (payload : List ℕ) → All (λ b. b < 256) payload → (which : Which)
 
 -- ---- a text, its container, and the text again
 
-some_word : (w : Which) → IsSome (schema_word w) → schema_word w ≡ Some (schema_word_or_zero w)
-some_word w e = go (schema_word w) e
+some_word : (w : Which) → IsSome (header_schema_if_root_table w) → header_schema_if_root_table w ≡ Some (schema_word_or_zero w)
+some_word w e = go (header_schema_if_root_table w) e
   where
     go : (o : Option ℕ) → IsSome o → o ≡ Some (unwrap_or o 0)
     go None e = absurd cc
@@ -58,7 +58,7 @@ printed_again laws over texts text file e = go (dumped_root text) refl e
     go (Err n) is e = absurd cc
     go (Ok root) is e =
         let (root_is, text_is) = texts.said text root is in
-        let (payload, wrote, file_is) = written_file (schema_word_or_zero root.which) (payload_or_overflow root.value) file e in
+        let (payload, wrote, file_is) = written_file (schema_word_or_zero root.which) (payload_or_counts_at_overflow root.value) file e in
         let (g, canonical_is) = within over root.which root.value payload root_is.normal.0 root_is.normal.1 wrote in
         ap dump_of (sym file_is ∙ ap (file_of (schema_word_or_zero root.which)) (sym canonical_is))
         ∙ printed laws root.which (schema_word_or_zero root.which) root.value (some_word root.which root_is.root) g
@@ -66,11 +66,11 @@ printed_again laws over texts text file e = go (dumped_root text) refl e
 
 -- ---- a container, its text, and the container again
 
-generated : Texts → (which : Which) (v : Plain) → IsNormalRootValueOfTable which v → generated_file (dump_text which v) ≡ file_of_schema_and_payload_unless_too_large (schema_word_or_zero which) (payload_or_overflow v)
+generated : Texts → (which : Which) (v : Plain) → IsNormalRootValueOfTable which v → generated_file (dump_text which v) ≡ file_of_schema_and_payload_unless_too_large (schema_word_or_zero which) (payload_or_counts_at_overflow v)
 unfolding generated_file
 generated texts which v is = ap file_of_root (texts.accepted which v is)
 
-root_word : (schema : ℕ) (which : Which) → table_of_schema schema ≡ Some which → schema_word which ≡ Some schema
+root_word : (schema : ℕ) (which : Which) → table_of_schema schema ≡ Some which → header_schema_if_root_table which ≡ Some schema
 root_word schema which e =
     elim (chosen (eqb schema PACKAGE_WORD) _ _ _ e) [
       | inl x ↦ named Package PACKAGE_WORD refl x.0 x.1
@@ -89,12 +89,12 @@ root_word schema which e =
           ]
     ]
   where
-    named : (w : Which) (word : ℕ) → schema_word w ≡ Some word → eqb schema word ≡ true → Some w ≡ Some which → schema_word which ≡ Some schema
+    named : (w : Which) (word : ℕ) → header_schema_if_root_table w ≡ Some word → eqb schema word ≡ true → Some w ≡ Some which → header_schema_if_root_table which ≡ Some schema
     named w word h t e =
         let same : w ≡ which = cc in
-        ap schema_word (sym same) ∙ h ∙ ap (λ (n : ℕ). Some n) (sym (eqb-true schema word t))
+        ap header_schema_if_root_table (sym same) ∙ h ∙ ap (λ (n : ℕ). Some n) (sym (eqb-true schema word t))
 
-word_known : (which : Which) (schema : ℕ) → schema_word which ≡ Some schema → (IsSome (schema_word which)) × (schema_word_or_zero which ≡ schema)
+word_known : (which : Which) (schema : ℕ) → header_schema_if_root_table which ≡ Some schema → (IsSome (header_schema_if_root_table which)) × (schema_word_or_zero which ≡ schema)
 word_known which schema e = (subst IsSome (sym e) refl, ap (λ (o : Option ℕ). unwrap_or o 0) e)
 
 -- what is printed of blocks
@@ -110,7 +110,7 @@ unfolding dump_of payload_in
 printed_text file text schema which e h root =
     let r = block_stream_from (first_block_position_of_schema_and_file schema file) in
     let blocks : dump_of_blocks which r ≡ Ok text = sym (ap (dump_by_schema file) h ∙ ap (dump_by_root_table schema r) root) ∙ e in
-    ap (λ (o : Result ℕ Cause). dump_text which (root_value_of_payload which (payload_after_header file o))) h ∙ text_of_blocks which r text blocks
+    ap (λ (o : Result ℕ Cause). dump_text which (root_value_of_payload which (payload_by_header_schema_or_fault file o))) h ∙ text_of_blocks which r text blocks
 
 null_root : (which : Which) → IsNormalValueOfTable which null × IsOfBytes null
 unfolding IsNormal IsOfBytes
@@ -125,7 +125,7 @@ found_value found which payload bytes = go (plain_of payload (shape_of (Obj whic
     go (Some v) h = h
 
 pub generated_value : Texts → Found → (file text : List ℕ) (schema : ℕ) (which : Which) → All (λ b. b < 256) (payload_in file) → dump_of file ≡ Ok text → schema_of_header file ≡ Ok schema → table_of_schema schema ≡ Some which
-    → generated_file text ≡ file_of_schema_and_payload_unless_too_large schema (payload_or_overflow (root_value_of_payload which (payload_in file)))
+    → generated_file text ≡ file_of_schema_and_payload_unless_too_large schema (payload_or_counts_at_overflow (root_value_of_payload which (payload_in file)))
 generated_value texts found file text schema which bytes e h root =
     let word = root_word schema which root in
     let k = word_known which schema word in
@@ -133,7 +133,7 @@ generated_value texts found file text schema which bytes e h root =
     let is : IsNormalRootValueOfTable which (root_value_of_payload which (payload_in file)) = record { root = k.0; normal = v.0; bytes = v.1 } in
     ap generated_file (sym (printed_text file text schema which e h root))
     ∙ generated texts which (root_value_of_payload which (payload_in file)) is
-    ∙ ap (λ (n : ℕ). file_of_schema_and_payload_unless_too_large n (payload_or_overflow (root_value_of_payload which (payload_in file)))) k.1
+    ∙ ap (λ (n : ℕ). file_of_schema_and_payload_unless_too_large n (payload_or_counts_at_overflow (root_value_of_payload which (payload_in file)))) k.1
 
 abbrev ok_text : List ℕ → Result (List ℕ) Cause
 ok_text t = Ok t
@@ -141,7 +141,7 @@ ok_text t = Ok t
 same_text : (s t : List ℕ) → ok_text s ≡ ok_text t → s ≡ t
 same_text s t e = cc
 
-pub generated_again : Lower → Overflows → Texts → (which : Which) (value : Plain) (schema : ℕ) (payload text : List ℕ) → IsNormalRootValueOfTable which value → schema_word which ≡ Some schema → payload_or_overflow value ≡ Ok payload → dump_of (file_of schema payload) ≡ Ok text
+pub generated_again : Lower → Overflows → Texts → (which : Which) (value : Plain) (schema : ℕ) (payload text : List ℕ) → IsNormalRootValueOfTable which value → header_schema_if_root_table which ≡ Some schema → payload_or_counts_at_overflow value ≡ Ok payload → dump_of (file_of schema payload) ≡ Ok text
     → generated_file text ≡ Ok (file_of schema payload)
 generated_again laws over texts which value schema payload text is word wrote e =
     let (g, canonical_is) = within over which value payload is.normal.0 is.normal.1 wrote in
@@ -149,4 +149,4 @@ generated_again laws over texts which value schema payload text is word wrote e 
     let same : dump_text which value ≡ text = same_text (dump_text which value) text (sym dump ∙ e) in
     let k = word_known which schema word in
     ap generated_file (sym same) ∙ generated texts which value is
-    ∙ ap (λ (n : ℕ). file_of_schema_and_payload_unless_too_large n (payload_or_overflow value)) k.1 ∙ ap (file_of_schema_and_payload_unless_too_large schema) wrote
+    ∙ ap (λ (n : ℕ). file_of_schema_and_payload_unless_too_large n (payload_or_counts_at_overflow value)) k.1 ∙ ap (file_of_schema_and_payload_unless_too_large schema) wrote

@@ -9,8 +9,8 @@ ghost use Rattle.std.specs.Prelude.{◌≡◌, ◌<◌, ℕ, All, List, Some, Ok
 ghost use Rattle.adb_block.specs.Header.{schema_of_header};
 ghost use Rattle.adb_view.specs.declared.tables.Which.{Which};
 ghost use Rattle.adb_view.specs.Plain.{Plain};
-ghost use Rattle.outcome.specs.adb_schema.Soundness.{payload_in, root_value_of_payload, schema_word};
-ghost use Rattle.outcome.specs.adb_write.Canonical.{payload_or_overflow};
+ghost use Rattle.outcome.specs.adb_schema.Soundness.{payload_in, root_value_of_payload, header_schema_if_root_table};
+ghost use Rattle.outcome.specs.adb_write.Canonical.{payload_or_counts_at_overflow};
 ghost use Rattle.outcome.specs.adb_write.File.{file_of};
 ghost use Rattle.outcome.specs.pkg_core.Whole.{table_of_schema};
 ghost use Rattle.outcome.specs.gen_core.Dumps.{IsNormalRootValueOfTable};
@@ -47,13 +47,13 @@ pub fn what_is_printed_is_generated_again()
         → All (λ b. b < 256) (payload_in file) → dump_of file ≡ Ok text
         → schema_of_header file ≡ Ok schema → table_of_schema schema ≡ Some which
         → generated_file text
-        ≡ file_of_schema_and_payload_unless_too_large schema (payload_or_overflow
+        ≡ file_of_schema_and_payload_unless_too_large schema (payload_or_counts_at_overflow
         (root_value_of_payload which
         (payload_in file))) }
     // A canonical container without contents is made again, byte for byte.
     ensures canonical { (which : Which) (value : Plain) (schema : ℕ) (payload text : List ℕ)
-        → IsNormalRootValueOfTable which value → schema_word which ≡ Some schema
-        → payload_or_overflow value ≡ Ok payload → dump_of (file_of schema payload) ≡ Ok text
+        → IsNormalRootValueOfTable which value → header_schema_if_root_table which ≡ Some schema
+        → payload_or_counts_at_overflow value ≡ Ok payload → dump_of (file_of schema payload) ≡ Ok text
         → generated_file text ≡ Ok (file_of schema payload) }
 {
     what_is_written_is_spelled();

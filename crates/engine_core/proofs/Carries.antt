@@ -5,9 +5,9 @@ use Rattle.std.proofs.lemmas.Bool.{ne_eqb}
 use Rattle.std.proofs.lemmas.List.{length-map}
 use Rattle.std.specs.Option.{option_copied}
 use Rattle.std.specs.Str.{bytes_eq}
-use Rattle.added_packages.specs.adb_write.Canonical.{ByteAndValueCounts, counts_after_values, overflow_of}
+use Rattle.added_packages.specs.adb_write.Canonical.{ByteAndValueCounts, counts_after_values, counts_at_first_overflow}
 use Rattle.journal_staging.specs.adb_schema.Reserved.{is_reserved}
-use Rattle.base_core.specs.Listed.{AreSortedDistinctNames}
+use Rattle.base_core.specs.Listed.{AreSortedDistinctTexts}
 use Rattle.base_core.specs.Name.{IsName}
 use Rattle.base_core.proofs.Rising.{IsIn, rises_from_pairs}
 use Rattle.base_core.specs.Calls.{IfObservable}
@@ -94,7 +94,7 @@ abbrev pub ready_change : Inputs → Replacement → ChangeWishes → List Membe
 ready_change inputs r wishes found files database =
     let records = database_and_world_after_change inputs database in
     let actions = intent_of_change inputs (packages_before_and_after_with_purge inputs wishes found) files records in
-    unless_overflow (overflow_of (value_of_intent actions)) (change_done inputs r wishes found files records)
+    unless_overflow (counts_at_first_overflow (value_of_intent actions)) (change_done inputs r wishes found files records)
 
 -- ---- what is made ready
 
@@ -126,7 +126,7 @@ all_in P [] all q here = absurd here
 all_in P (x ∷ xs) all q (inl is) = subst P (sym is) (all 0 x (omega arith))
 all_in P (x ∷ xs) all q (inr more) = all_in P xs (λ k d below. all (suc k) d (omega (arith, below))) q more
 
-pub once_reserved : (names more : List (List ℕ)) → All IsUnreservedName names → AreSortedDistinctNames names → HaveNoRepeats more → ((q : List ℕ) → IsIn q more → is_reserved q ≡ true) → HaveNoRepeats (names ++ more)
+pub once_reserved : (names more : List (List ℕ)) → All IsUnreservedName names → AreSortedDistinctTexts names → HaveNoRepeats more → ((q : List ℕ) → IsIn q more → is_reserved q ≡ true) → HaveNoRepeats (names ++ more)
 once_reserved names more listed rise once reserved =
     once_both names more (once_rising names (rises_from_pairs names rise)) once
     (λ q at. none_of q more (λ here. true≢false (sym (reserved q here) ∙ (all_in IsUnreservedName names listed q (name_of_any q names at)).unreserved)))
@@ -264,11 +264,11 @@ module _ (history : List TreeState) (p : Plan) (found : List MemberFound) (files
 
   -- ---- the intent
 
-  pub overflow_is : overflow_of (value_of_intent (intent_of_lists removals (map name_of_write writes))) ≡ overflow_of (value_of_intent actions)
-  overflow_is = λ i. overflow_of (value_of_intent (intent_of_lists (removed_is i) (written_is i)))
+  pub overflow_is : counts_at_first_overflow (value_of_intent (intent_of_lists removals (map name_of_write writes))) ≡ counts_at_first_overflow (value_of_intent actions)
+  overflow_is = λ i. counts_at_first_overflow (value_of_intent (intent_of_lists (removed_is i) (written_is i)))
 
-  pub ready_fits : unless_overflow (overflow_of (value_of_intent (intent_of_lists removals (map name_of_write writes)))) true ≡ Ok true → wanted ≡ Ok done
-  ready_fits is = fits (overflow_of (value_of_intent actions)) done (ap (λ (o : Option ByteAndValueCounts). unless_overflow o true) (sym overflow_is) ∙ is)
+  pub ready_fits : unless_overflow (counts_at_first_overflow (value_of_intent (intent_of_lists removals (map name_of_write writes)))) true ≡ Ok true → wanted ≡ Ok done
+  ready_fits is = fits (counts_at_first_overflow (value_of_intent actions)) done (ap (λ (o : Option ByteAndValueCounts). unless_overflow o true) (sym overflow_is) ∙ is)
 
   pub commits_is : has_actions (record { removals = removals; writes = map name_of_write writes }) ≡ done.commits
   commits_is = λ i. has_actions (record { removals = removed_is i; writes = written_is i })
@@ -438,8 +438,8 @@ ready_is history p r ready =
 -- a journal entry that is too large, by the names that are removed and written
 pub entry_large : {A : Type 0} (view : A → Bool) (history : List TreeState) (p : Plan) (found : List MemberFound) (files : Files) (made : NewRecords) (rw : RecordWrites) (writes : List StagedWrite) (removals : List (List ℕ))
     → IsMadeReady history p found files made rw writes removals → (fault : Refused)
-    → Agrees view (Err fault) (unless_overflow (overflow_of (value_of_intent (intent_of_lists removals (map name_of_write writes)))) true)
-    → Agrees {A = Bool} {B = Bool} (λ _. true) (Err fault) (unless_overflow (overflow_of (value_of_intent (intent_of_change (inputs_of_plan p) (packages_before_and_after_with_purge (inputs_of_plan p) (wishes_of_plan p) found) files (database_and_world_after_change (inputs_of_plan p) made.database.items)))) true)
+    → Agrees view (Err fault) (unless_overflow (counts_at_first_overflow (value_of_intent (intent_of_lists removals (map name_of_write writes)))) true)
+    → Agrees {A = Bool} {B = Bool} (λ _. true) (Err fault) (unless_overflow (counts_at_first_overflow (value_of_intent (intent_of_change (inputs_of_plan p) (packages_before_and_after_with_purge (inputs_of_plan p) (wishes_of_plan p) found) files (database_and_world_after_change (inputs_of_plan p) made.database.items)))) true)
 entry_large view history p found files made rw writes removals ready (IsRefused refusal) told =
     ap (λ (o : Option ByteAndValueCounts). unless_overflow o true) (sym (overflow_is history p found files made rw writes removals ready)) ∙ told
 entry_large view history p found files made rw writes removals ready Disk told = told
@@ -447,10 +447,10 @@ entry_large view history p found files made rw writes removals ready Memory told
 
 -- the same, by names that are equal
 pub same_told : {A B : Type 0} (view : A → Bool) (other : B → Bool) (fault : Refused) (removals writes gone wrote : List (List ℕ)) → removals ≡ gone → writes ≡ wrote
-    → Agrees view (Err fault) (unless_overflow (overflow_of (value_of_intent (intent_of_lists removals writes))) true)
-    → Agrees other (Err fault) (unless_overflow (overflow_of (value_of_intent (intent_of_lists gone wrote))) true)
+    → Agrees view (Err fault) (unless_overflow (counts_at_first_overflow (value_of_intent (intent_of_lists removals writes))) true)
+    → Agrees other (Err fault) (unless_overflow (counts_at_first_overflow (value_of_intent (intent_of_lists gone wrote))) true)
 same_told view other (IsRefused refusal) removals writes gone wrote gone_is wrote_is told =
-    (λ i. unless_overflow (overflow_of (value_of_intent (intent_of_lists (sym gone_is i) (sym wrote_is i)))) true) ∙ told
+    (λ i. unless_overflow (counts_at_first_overflow (value_of_intent (intent_of_lists (sym gone_is i) (sym wrote_is i)))) true) ∙ told
 same_told view other Disk removals writes gone wrote gone_is wrote_is told = told
 same_told view other Memory removals writes gone wrote gone_is wrote_is told = tt
 
@@ -469,7 +469,7 @@ some_length name names = ne_eqb (length (name ∷ names)) 0 (λ e. absurd (omega
 
 -- that of a change that does nothing would fit
 pub idle_fits : (removals writes : List (List ℕ)) → has_actions (record { removals = removals; writes = writes }) ≡ false
-    → unless_overflow (overflow_of (value_of_intent (intent_of_lists removals writes))) true ≡ Ok true
+    → unless_overflow (counts_at_first_overflow (value_of_intent (intent_of_lists removals writes))) true ≡ Ok true
 unfolding counts_after_values
 idle_fits [] [] is = refl
 idle_fits (name ∷ removals) writes is =
@@ -597,7 +597,7 @@ module _ (history : List TreeState) (p : Plan) (found : List MemberFound) (files
     large_entry counts fault large =
         subst (λ (w : Result ChangeDone Refusal). IsEndOfRunOfWantedChange (Ok found) w history history counts counts (Err fault)) (sym made_database)
         (entry_refused (Ok found)
-        (overflow_of (value_of_intent (intent_of_change (inputs_of_plan p) (packages_before_and_after_with_purge (inputs_of_plan p) (wishes_of_plan p) found) files (database_and_world_after_change (inputs_of_plan p) records.database.items))))
+        (counts_at_first_overflow (value_of_intent (intent_of_change (inputs_of_plan p) (packages_before_and_after_with_purge (inputs_of_plan p) (wishes_of_plan p) found) files (database_and_world_after_change (inputs_of_plan p) records.database.items))))
         (change_done (inputs_of_plan p) (replacement_of_plan p) (wishes_of_plan p) found files (database_and_world_after_change (inputs_of_plan p) records.database.items)) history counts fault (large history found files plan))
 
     -- the journal entry fits

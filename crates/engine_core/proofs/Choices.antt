@@ -2,7 +2,7 @@
 use Rattle.std.proofs.Common.{◌≡◌, inl, inr, ℕ, ◌+◌, List, Option, Some, None, Result, Ok, Err, refl, sym, ap, subst, ◌∙◌, arith}
 use Rattle.change_report.specs.candidate_core.Candidates.{Need, is_eligible}
 use Rattle.change_report.specs.candidate_core.Options.{IsIn, places_passing_counted_from}
-use Rattle.change_report.specs.candidate_core.Rank.{SealedPool}
+use Rattle.change_report.specs.candidate_core.Rank.{SelectionProblem}
 use Rattle.change_report.proofs.candidate_core.OptionLists.{in_places}
 use Rattle.report_core.specs.declared.refusal.Refusal.{Refusal}
 use Rattle.change_report.specs.search_tables.Reasons.{HasOptions}
@@ -15,9 +15,9 @@ use Rattle.engine_core.specs.Choice.{IsPreferredChoice, IsPreferredChoiceUnlessR
 
 -- what a pool promises of the options of each need
 abbrev pub HaveOptions : Type 0
-HaveOptions = (pool : SealedPool) (need : Need) → HasOptions pool need
+HaveOptions = (pool : SelectionProblem) (need : Need) → HasOptions pool need
 
-pool_choice : HaveOptions → (pool : SealedPool) → (chosen : Option (List ℕ)) × IsPreferredChoice pool chosen
+pool_choice : HaveOptions → (pool : SelectionProblem) → (chosen : Option (List ℕ)) × IsPreferredChoice pool chosen
 pool_choice has pool =
     let facts = pool_facts pool (has pool) in
     let all = places_passing_counted_from 0 (is_eligible pool.world) pool.candidates in
@@ -33,20 +33,20 @@ pool_choice has pool =
       | inr dead ↦ (None, none_satisfies pool dead)
     ]
 
-pub choice_exists : HaveOptions → (pool : Result SealedPool Refusal) → (chosen : Option (List ℕ)) × IsPreferredChoiceUnlessRefused pool chosen
+pub choice_exists : HaveOptions → (pool : Result SelectionProblem Refusal) → (chosen : Option (List ℕ)) × IsPreferredChoiceUnlessRefused pool chosen
 choice_exists has (Ok pool) = pool_choice has pool
 choice_exists has (Err refusal) = (None, refl)
 
 -- a pool has one first selection at most
 abbrev pub HasOneFirst : Type 0
-HasOneFirst = (pool : SealedPool) (trace other : List ℕ) → IsFirstPreferredSelection pool trace → IsFirstPreferredSelection pool other → trace ≡ other
+HasOneFirst = (pool : SelectionProblem) (trace other : List ℕ) → IsFirstPreferredSelection pool trace → IsFirstPreferredSelection pool other → trace ≡ other
 
-pool_one : HasOneFirst → (pool : SealedPool) (a b : Option (List ℕ)) → IsPreferredChoice pool a → IsPreferredChoice pool b → a ≡ b
+pool_one : HasOneFirst → (pool : SelectionProblem) (a b : Option (List ℕ)) → IsPreferredChoice pool a → IsPreferredChoice pool b → a ≡ b
 pool_one one pool None None x y = refl
 pool_one one pool None (Some t) x y = absurd (x t y.satisfies)
 pool_one one pool (Some t) None x y = absurd (y t x.satisfies)
 pool_one one pool (Some t) (Some u) x y = ap Some (one pool t u x y)
 
-pub choice_one : HasOneFirst → (pool : Result SealedPool Refusal) (a b : Option (List ℕ)) → IsPreferredChoiceUnlessRefused pool a → IsPreferredChoiceUnlessRefused pool b → a ≡ b
+pub choice_one : HasOneFirst → (pool : Result SelectionProblem Refusal) (a b : Option (List ℕ)) → IsPreferredChoiceUnlessRefused pool a → IsPreferredChoiceUnlessRefused pool b → a ≡ b
 choice_one one (Ok pool) a b x y = pool_one one pool a b x y
 choice_one one (Err refusal) a b x y = x ∙ sym y

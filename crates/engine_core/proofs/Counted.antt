@@ -1,7 +1,7 @@
 -- The counts of a run behind calls that only read.
 use Rattle.std.proofs.Common.{◌≡◌, List, Result, Ok, Err, refl, ap}
 use Rattle.std.specs.Prelude.{IfErr, OnOk}
-use Rattle.base_core.specs.Faults.{Counts, CountsOnlyRise, IsFaultCountedWithCause, CountsNoNewFault}
+use Rattle.base_core.specs.Faults.{Counts, CountsOnlyRise, CountsNewFaultWithCause, CountsNoNewFaultOrLackOfMemory}
 use Rattle.base_core.specs.Read.{OnlyReads}
 use Rattle.base_core.specs.Tree.{TreeState}
 use Rattle.base_core.proofs.Counting.{goes_on_twice, no_fault_twice}
@@ -10,7 +10,7 @@ use Rattle.change_report.specs.change_inputs.declared.root.Refused.TheVariants.{
 use Rattle.engine_core.specs.Runs.{IsRunCounted}
 
 -- behind calls that count no fault
-pub counted_after : {A : Type 0} (a b c : Counts) (result : Result A Refused) → CountsOnlyRise a b → CountsNoNewFault a b → ((x y z : Counts) → CountsOnlyRise x y → IsFaultCountedWithCause y z → IsFaultCountedWithCause x z) → IsRunCounted b c result → IsRunCounted a c result
+pub counted_after : {A : Type 0} (a b c : Counts) (result : Result A Refused) → CountsOnlyRise a b → CountsNoNewFaultOrLackOfMemory a b → ((x y z : Counts) → CountsOnlyRise x y → CountsNewFaultWithCause y z → CountsNewFaultWithCause x z) → IsRunCounted b c result → IsRunCounted a c result
 counted_after {A} a b c result on none cause counted = record {
   goes_on = goes_on_twice a b c on counted.goes_on;
   disk = λ is. cause a b c on (counted.disk is);
@@ -18,11 +18,11 @@ counted_after {A} a b c result on none cause counted = record {
   others = others result counted.others;
 }
   where
-    kept : (r : Result A Refused) → OnOk r (CountsNoNewFault b c) → OnOk r (CountsNoNewFault a c)
+    kept : (r : Result A Refused) → OnOk r (CountsNoNewFaultOrLackOfMemory b c) → OnOk r (CountsNoNewFaultOrLackOfMemory a c)
     kept (Ok x) is = no_fault_twice a b c none is
     kept (Err e) is = tt
 
-    others : (r : Result A Refused) → IfErr r (λ refused. (refused ≡ Disk → ⊥) → CountsNoNewFault b c) → IfErr r (λ refused. (refused ≡ Disk → ⊥) → CountsNoNewFault a c)
+    others : (r : Result A Refused) → IfErr r (λ refused. (refused ≡ Disk → ⊥) → CountsNoNewFaultOrLackOfMemory b c) → IfErr r (λ refused. (refused ≡ Disk → ⊥) → CountsNoNewFaultOrLackOfMemory a c)
     others (Ok x) is = tt
     others (Err e) is = λ not. no_fault_twice a b c none (is not)
 

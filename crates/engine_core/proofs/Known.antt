@@ -11,7 +11,7 @@ use Rattle.base_core.proofs.Orderings.{is_less, names_total}
 use Rattle.command_core.specs.declared.operands.Operand.{Operand}
 use Rattle.dep_core.specs.Dependency.{Dependency}
 use Rattle.dep_core.specs.DependencyText.{is_dependency}
-use Rattle.dep_core.specs.World.{IsWorld, has_dependency_named, is_in_order}
+use Rattle.dep_core.specs.World.{IsWorldSortedByName, has_dependency_named, is_in_order}
 use Rattle.dep_core.proofs.Places.{has_dependency_named-at, has_dependency_named-none, in_order_at}
 use Rattle.dep_core.proofs.Worlds.{cmp-back}
 use Rattle.change_report.proofs.make_info.Left.{left_at}
@@ -41,7 +41,7 @@ pub name_nowhere : (name : List ℕ) (world : List Dependency) (low high : ℕ) 
 name_nowhere name world low high narrowed met =
     sym (has_dependency_named-none name world low ((λ k d inside early. narrowed.2 k d (omega (arith, inside)) (omega (arith, early))), (λ k d late inside. narrowed.3 k d (omega (arith, met, late)) (omega (arith, inside)))))
 
-module _ (name : List ℕ) (world : List Dependency) (is_world : IsWorld world) (i : ℕ) (d : Dependency) (at : slice_get world i ≡ Some d) where
+module _ (name : List ℕ) (world : List Dependency) (is_world : IsWorldSortedByName world) (i : ℕ) (d : Dependency) (at : slice_get world i ≡ Some d) where
   within : i < length world
   within = slice_get_within world i d at
 

@@ -30,7 +30,7 @@ use Rattle.change_report.specs.package_changes.Placed.{candidates_at, placed_nam
 use Rattle.change_report.specs.package_changes.Seen.{placed_names_seen, placed_replacement_from_parts}
 use Rattle.change_report.specs.package_changes.declared.placed.PlacedNames.{PlacedNames}
 use Rattle.change_report.specs.path_clashes.Clash.{NamePair}
-use Rattle.change_report.specs.candidate_core.Rank.{SealedPool}
+use Rattle.change_report.specs.candidate_core.Rank.{SelectionProblem}
 use Rattle.change_report.specs.candidate_core.declared.candidate_list.TheConstants.{MOST_CANDIDATES}
 use Rattle.report_core.specs.declared.refusal.Refusal.{Refusal}
 use Rattle.engine_core.specs.ChangeRun.{IsEndOfRunOfWantedChange}
@@ -54,15 +54,15 @@ use Rattle.change_report.specs.change_inputs.Answers.{Agrees}
 use Rattle.engine_core.proofs.WholeRuns.{run_after_reads}
 
 -- a pool that is not refused holds no more than members can be
-few_by : (b : Bool) (n : ℕ) (e : Refusal) (made pool : SealedPool) → nat_lt 65536 n ≡ b → n ≡ length made.candidates → (if b then Err e else Ok made) ≡ Ok pool → length pool.candidates ≤ 65536
+few_by : (b : Bool) (n : ℕ) (e : Refusal) (made pool : SelectionProblem) → nat_lt 65536 n ≡ b → n ≡ length made.candidates → (if b then Err e else Ok made) ≡ Ok pool → length pool.candidates ≤ 65536
 few_by true n e made pool more is same = absurd (cc (same))
-few_by false n e made pool more is same = subst (λ (p : SealedPool). length p.candidates ≤ 65536) (ap pool_or same) (let most = ltb-false 65536 n more in omega (arith, most, is))
+few_by false n e made pool more is same = subst (λ (p : SelectionProblem). length p.candidates ≤ 65536) (ap pool_or same) (let most = ltb-false 65536 n more in omega (arith, most, is))
   where
-    pool_or : Result SealedPool Refusal → SealedPool
+    pool_or : Result SelectionProblem Refusal → SelectionProblem
     pool_or (Ok p) = p
     pool_or (Err refusal) = made
 
-pub few_candidates : (command : CommandLine) (inputs : Inputs) (pool : SealedPool) → pool_of_inputs command inputs ≡ Ok pool → length pool.candidates ≤ MOST_MEMBERS
+pub few_candidates : (command : CommandLine) (inputs : Inputs) (pool : SelectionProblem) → pool_of_inputs command inputs ≡ Ok pool → length pool.candidates ≤ MOST_MEMBERS
 unfolding root_pool
 few_candidates command inputs pool is = few_by (nat_lt MOST_CANDIDATES (length (candidates_of inputs))) (length (candidates_of inputs)) _ _ pool refl refl is
 

@@ -13,7 +13,7 @@ use Rattle.change_report.specs.change_inputs.declared.root.Refused.TheVariants.{
 use Rattle.change_report.specs.change_outcome.ChangeOutcome.{ChangeDone, change_or_refusal}
 use Rattle.command_core.specs.Command.{CommandLine}
 use Rattle.change_report.specs.package_changes.Report.{simulated_report}
-use Rattle.change_report.specs.candidate_core.Rank.{SealedPool, UpgradedNames}
+use Rattle.change_report.specs.candidate_core.Rank.{SelectionProblem, UpgradedNames}
 use Rattle.report_core.specs.declared.refusal.Refusal.{Refusal}
 use Rattle.report_core.specs.declared.refusal.Refusal.TheVariants.{NotInstalled}
 use Rattle.engine_core.specs.Changed.{InputsAndReplacement, selected_from_pool_by_choice, selected_from_inputs_by_choice, simulated_change}
@@ -27,7 +27,7 @@ use Rattle.engine_core.specs.declared.choosing.Selection.{Selection}
 use Rattle.engine_core.proofs.Early.{HaveClash, IsOnlyRead, Seen, comes_to_idle, of_seen, seen_any, selected_failure, selected_refusal}
 
 abbrev pub HaveChoice : Type 0
-HaveChoice = (pool : Result SealedPool Refusal) → (chosen : Option (List ℕ)) × IsPreferredChoiceUnlessRefused pool chosen
+HaveChoice = (pool : Result SelectionProblem Refusal) → (chosen : Option (List ℕ)) × IsPreferredChoiceUnlessRefused pool chosen
 
 -- a run by these inputs, and by whatever is chosen among their candidates
 abbrev pub IsRunBy :
@@ -74,28 +74,28 @@ module _ (command : CommandLine) (inputs : Inputs) where
   not_disk Memory selected is = cc
 
   -- there are too many candidates
-  pub without_pool : HaveChoice → (fault : Refused) (names : UpgradedNames) → names ≡ names_to_upgrade command.applet command.operands → Agrees (λ (pool : SealedPool). pool) (Err fault) (root_pool inputs names) → IsSelectedFrom command inputs (Err fault)
+  pub without_pool : HaveChoice → (fault : Refused) (names : UpgradedNames) → names ≡ names_to_upgrade command.applet command.operands → Agrees (λ (pool : SelectionProblem). pool) (Err fault) (root_pool inputs names) → IsSelectedFrom command inputs (Err fault)
   without_pool choose fault names same agrees =
-      by fault (subst (λ (p : Result SealedPool Refusal). Agrees (λ (pool : SealedPool). pool) (Err fault) p) (ap (root_pool inputs) same) agrees)
+      by fault (subst (λ (p : Result SelectionProblem Refusal). Agrees (λ (pool : SelectionProblem). pool) (Err fault) p) (ap (root_pool inputs) same) agrees)
     where
-      by : (fault : Refused) → Agrees (λ (pool : SealedPool). pool) (Err fault) (pool_of_inputs command inputs) → IsSelectedFrom command inputs (Err fault)
+      by : (fault : Refused) → Agrees (λ (pool : SelectionProblem). pool) (Err fault) (pool_of_inputs command inputs) → IsSelectedFrom command inputs (Err fault)
       by (IsRefused refusal) is = (
         None,
-        subst (λ (p : Result SealedPool Refusal). IsPreferredChoiceUnlessRefused p None) (sym is) refl,
-        ap (λ (p : Result SealedPool Refusal). and_then p (λ pool. unless_unknown_operand (unknown_operand_place command.applet inputs command.operands) (selected_from_pool_by_choice command inputs pool None))) is,
+        subst (λ (p : Result SelectionProblem Refusal). IsPreferredChoiceUnlessRefused p None) (sym is) refl,
+        ap (λ (p : Result SelectionProblem Refusal). and_then p (λ pool. unless_unknown_operand (unknown_operand_place command.applet inputs command.operands) (selected_from_pool_by_choice command inputs pool None))) is,
       )
       by Disk is = absurd is
       by Memory is = out_of_memory choose
 
-  module _ (pool : SealedPool) (pool_is : pool_of_inputs command inputs ≡ Ok pool) where
+  module _ (pool : SelectionProblem) (pool_is : pool_of_inputs command inputs ≡ Ok pool) where
     selected_is : (chosen : Option (List ℕ)) (unknown : Option ℕ) → unknown_operand_place command.applet inputs command.operands ≡ unknown
         → selected_from_inputs_by_choice command chosen inputs ≡ unless_unknown_operand unknown (selected_from_pool_by_choice command inputs pool chosen)
     selected_is chosen unknown known_is =
-        ap (λ (p : Result SealedPool Refusal). and_then p (λ pool. unless_unknown_operand (unknown_operand_place command.applet inputs command.operands) (selected_from_pool_by_choice command inputs pool chosen))) pool_is
+        ap (λ (p : Result SelectionProblem Refusal). and_then p (λ pool. unless_unknown_operand (unknown_operand_place command.applet inputs command.operands) (selected_from_pool_by_choice command inputs pool chosen))) pool_is
         ∙ ap (λ (o : Option ℕ). unless_unknown_operand o (selected_from_pool_by_choice command inputs pool chosen)) known_is
 
     choice_is : (chosen : Option (List ℕ)) → IsPreferredChoice pool chosen → IsPreferredChoiceUnlessRefused (pool_of_inputs command inputs) chosen
-    choice_is chosen choice = subst (λ (p : Result SealedPool Refusal). IsPreferredChoiceUnlessRefused p chosen) (sym pool_is) choice
+    choice_is chosen choice = subst (λ (p : Result SelectionProblem Refusal). IsPreferredChoiceUnlessRefused p chosen) (sym pool_is) choice
 
     -- an operand is not known
     pub unknown_operand_found : HaveChoice → (place : ℕ) → unknown_operand_place command.applet inputs command.operands ≡ Some place → IsSelectedFrom command inputs (Err (IsRefused (NotInstalled place)))

@@ -21,7 +21,7 @@ use Rattle.change_report.specs.make_info.Reads.{Reads}
 use Rattle.change_report.specs.package_files.Runs.{AreReadsOfTreeIfObservable, HoldsOfSomeReadsOfTree}
 use Rattle.change_report.specs.package_changes.Changes.{Replacement}
 use Rattle.change_report.specs.path_clashes.Clash.{NamePair}
-use Rattle.change_report.specs.candidate_core.Rank.{SealedPool}
+use Rattle.change_report.specs.candidate_core.Rank.{SelectionProblem}
 use Rattle.report_core.specs.declared.refusal.Refusal.{Refusal}
 use Rattle.change_report.specs.change_outcome.Premises.{AreDatabaseAndWorldReadFromFiles}
 use Rattle.engine_core.specs.Preparing.{IsRootRead}
@@ -142,15 +142,15 @@ HasInputs inputs (Err refusal) = Unit {0}
 selected_has : (command : CommandLine) (chosen : Option (List ℕ)) (inputs : Inputs) → HasInputs inputs (selected_from_inputs_by_choice command chosen inputs)
 selected_has command chosen inputs = by_pool (pool_of_inputs command inputs)
   where
-    by_choice : (pool : SealedPool) (c : Option (List ℕ)) → HasInputs inputs (selected_from_pool_by_choice command inputs pool c)
+    by_choice : (pool : SelectionProblem) (c : Option (List ℕ)) → HasInputs inputs (selected_from_pool_by_choice command inputs pool c)
     by_choice pool None = tt
     by_choice pool (Some trace) = refl
 
-    by_place : (pool : SealedPool) (place : Option ℕ) → HasInputs inputs (unless_unknown_operand place (selected_from_pool_by_choice command inputs pool chosen))
+    by_place : (pool : SelectionProblem) (place : Option ℕ) → HasInputs inputs (unless_unknown_operand place (selected_from_pool_by_choice command inputs pool chosen))
     by_place pool None = by_choice pool chosen
     by_place pool (Some place) = tt
 
-    by_pool : (p : Result SealedPool Refusal) → HasInputs inputs (and_then p (λ pool. unless_unknown_operand (unknown_operand_place command.applet inputs command.operands) (selected_from_pool_by_choice command inputs pool chosen)))
+    by_pool : (p : Result SelectionProblem Refusal) → HasInputs inputs (and_then p (λ pool. unless_unknown_operand (unknown_operand_place command.applet inputs command.operands) (selected_from_pool_by_choice command inputs pool chosen)))
     by_pool (Ok pool) = by_place pool (unknown_operand_place command.applet inputs command.operands)
     by_pool (Err refusal) = tt
 

@@ -12,7 +12,7 @@ use Rattle.change_report.specs.make_info.Reads.{Reads}
 use Rattle.change_report.specs.package_changes.Changes.{Replacement}
 use Rattle.change_report.specs.package_changes.Report.{simulated_report}
 use Rattle.change_report.specs.path_clashes.Clash.{NamePair}
-use Rattle.change_report.specs.candidate_core.Rank.{SealedPool}
+use Rattle.change_report.specs.candidate_core.Rank.{SelectionProblem}
 use Rattle.report_core.specs.declared.refusal.Refusal.{Refusal}
 use Rattle.report_core.specs.declared.refusal.Refusal.TheVariants.{Unsatisfied}
 use Rattle.engine_core.specs.Selecting.{pool_of_inputs, replacement_of_choice}
@@ -30,7 +30,7 @@ pub record InputsAndReplacement : Type 0 where
 -- what is selected, if the candidates at the places `trace` are chosen; None means that no selection satisfies the new
 -- world, which is refused
 abbrev pub selected_from_pool_by_choice :
-    CommandLine → Inputs → SealedPool → Option (List ℕ) → Result InputsAndReplacement Refusal
+    CommandLine → Inputs → SelectionProblem → Option (List ℕ) → Result InputsAndReplacement Refusal
 selected_from_pool_by_choice command inputs pool None = Err Unsatisfied
 selected_from_pool_by_choice command inputs pool (Some trace) =
     Ok (record {

@@ -2,7 +2,7 @@
 -- `src/rendering.rt` and `src/committing.rt`; the rules are in `docs/commands.md`, "`add` and `del`", and
 -- in `docs/crash-safety.md`, "A change of several files".
 use Rattle.std.specs.Prelude.{◌≡◌, ◌++◌, ℕ, Bool, true, false, List, All, Option, Some, None, Ok, Err, map}
-use Rattle.added_packages.specs.adb_write.Canonical.{overflow_of}
+use Rattle.added_packages.specs.adb_write.Canonical.{counts_at_first_overflow}
 use Rattle.base_core.specs.Files.{Files}
 use Rattle.base_core.specs.Tree.{TreeState}
 use Rattle.change_report.specs.change_files.PlanLists.{sorted_distinct_names}
@@ -61,7 +61,7 @@ abbrev pub IsRefusedForOverflow : Plan → NewRecords → Refused → Type 0
 IsRefusedForOverflow p records refused =
     (history : List TreeState) (found : List MemberFound) (files : Files)
     → IsPlanned history p found files
-    → Agrees {A = Bool} {B = Bool} (λ _. true) (Err refused) (unless_overflow (overflow_of
+    → Agrees {A = Bool} {B = Bool} (λ _. true) (Err refused) (unless_overflow (counts_at_first_overflow
     (value_of_intent (intent_of_change (inputs_of_plan p)
     (packages_before_and_after_with_purge (inputs_of_plan p) (wishes_of_plan p) found) files
     (database_and_world_after_change (inputs_of_plan p) records.database.items)))) true)
@@ -75,7 +75,7 @@ pub record IsRendered (p : Plan) (records : NewRecords) (r : Rendered) : Type 0 
   -- the stage lists the removals and writes of the change
   pub stage : IsStageOf (removals_of_plan p) (map name_of_write r.writes.items) r.stage
   -- the journal entry exceeds no limit of the writer
-  pub fits : unless_overflow (overflow_of (value_of_intent
+  pub fits : unless_overflow (counts_at_first_overflow (value_of_intent
       (intent_of_lists (removals_of_plan p) (map name_of_write r.writes.items)))) true ≡ Ok true
   -- the report is that of the change
   pub report : (history : List TreeState) (found : List MemberFound) (files : Files)

@@ -3,7 +3,7 @@
 -- contract of the whole run is *IsChangeRun*.
 use Rattle.std.specs.Prelude.{◌≡◌, ℕ, List, Option, Result, Ok, OnOk, IfErr, IsErrOf}
 use Rattle.base_core.specs.Calls.{IfObservable}
-use Rattle.base_core.specs.Faults.{Counts, CountsOnlyRise, IsFaultCountedWithCause, CountsNoNewFault}
+use Rattle.base_core.specs.Faults.{Counts, CountsOnlyRise, CountsNewFaultWithCause, CountsNoNewFaultOrLackOfMemory}
 use Rattle.base_core.specs.Files.{Files}
 use Rattle.base_core.specs.Tree.{TreeState, files_of}
 use Rattle.change_report.specs.change_inputs.Chains.{and_then}
@@ -71,8 +71,8 @@ pub record IsRunCounted {A : Type 0} (before after : Counts) (result : Result A 
   -- no count falls
   pub goes_on : CountsOnlyRise before after
   -- an I/O error is answered only if a failed call was counted, with its cause
-  pub disk : IsErrOf result Disk → IsFaultCountedWithCause before after
+  pub disk : IsErrOf result Disk → CountsNewFaultWithCause before after
   -- after Ok, neither the count of faults nor that of calls without memory rose
-  pub kept : OnOk result (CountsNoNewFault before after)
+  pub kept : OnOk result (CountsNoNewFaultOrLackOfMemory before after)
   -- after a refusal or out of memory, neither of these two counts rose
-  pub others : IfErr result (λ refused. (refused ≡ Disk → ⊥) → CountsNoNewFault before after)
+  pub others : IfErr result (λ refused. (refused ≡ Disk → ⊥) → CountsNoNewFaultOrLackOfMemory before after)

@@ -8,22 +8,22 @@ use Rattle.command_core.specs.Command.{CommandLine}
 use Rattle.change_report.specs.make_info.Reads.{Reads}
 use Rattle.change_report.specs.package_changes.Changes.{Replacement}
 use Rattle.change_report.specs.package_changes.Placed.{candidates_at}
-use Rattle.change_report.specs.candidate_core.Rank.{SealedPool}
+use Rattle.change_report.specs.candidate_core.Rank.{SelectionProblem}
 use Rattle.report_core.specs.declared.refusal.Refusal.{Refusal}
 use Rattle.engine_core.specs.Wishes.{names_to_upgrade}
 
 -- the candidates that a command may choose from, by its inputs: under the new world and the names
 -- that the command upgrades
-abbrev pub pool_of_inputs : CommandLine → Inputs → Result SealedPool Refusal
+abbrev pub pool_of_inputs : CommandLine → Inputs → Result SelectionProblem Refusal
 pool_of_inputs command inputs = root_pool inputs (names_to_upgrade command.applet command.operands)
 
 -- the candidates that a command may choose from, by what reads find
-abbrev pub pool_of_command : CommandLine → Reads → Result SealedPool Refusal
+abbrev pub pool_of_command : CommandLine → Reads → Result SelectionProblem Refusal
 pool_of_command command read = and_then (inputs_of command read) (pool_of_inputs command)
 
 -- the effect of a choice on the packages before: the chosen candidates replace them, and some names are
 -- reinstalled
-abbrev pub replacement_of_choice : List (List ℕ) → Inputs → SealedPool → List ℕ → Replacement
+abbrev pub replacement_of_choice : List (List ℕ) → Inputs → SelectionProblem → List ℕ → Replacement
 replacement_of_choice again inputs pool trace = record {
   before = inputs.root.database.packages;
   selected = candidates_at pool trace;

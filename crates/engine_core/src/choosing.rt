@@ -8,7 +8,7 @@ ghost use Rattle.engine_core.specs.Choice.{IsPreferredChoice, IsPreferredChoiceU
 ghost use Rattle.engine_core.specs.SelectionSeen.{IsSelectedFrom, IsSelectionFor};
 ghost use Rattle.engine_core.specs.Wishes.{names_of_upgrade};
 ghost use Rattle.std.specs.Prelude.{◌≡◌, ℕ, IfOk, List, Option, Result};
-ghost use Rattle.change_report.specs.candidate_core.Rank.{SealedPool};
+ghost use Rattle.change_report.specs.candidate_core.Rank.{SelectionProblem};
 ghost use Rattle.report_core.specs.declared.refusal.Refusal.{Refusal};
 
 use crate::wishes::{names_to_reinstall, names_to_upgrade, unknown_operand};
@@ -105,7 +105,7 @@ fn first_selection<'a>(
 /// A law: there is always a choice among candidates. The choice is the first preferred selection,
 /// or None if no selection satisfies world or the candidates were refused.
 pub fn a_choice_exists()
-    ensures { (pool : Result SealedPool Refusal) →
+    ensures { (pool : Result SelectionProblem Refusal) →
         (chosen : Option (List ℕ)) × IsPreferredChoiceUnlessRefused pool chosen }
 {
     // A law that the proof needs; it has no effect at run time.
@@ -114,7 +114,7 @@ pub fn a_choice_exists()
 
 /// A law: there is only one choice among given candidates.
 pub fn a_choice_is_unique()
-    ensures { (pool : Result SealedPool Refusal) (a b : Option (List ℕ)) →
+    ensures { (pool : Result SelectionProblem Refusal) (a b : Option (List ℕ)) →
         IsPreferredChoiceUnlessRefused pool a → IsPreferredChoiceUnlessRefused pool b → a ≡ b }
 {
     // A law that the proof needs; it has no effect at run time.

@@ -1,7 +1,7 @@
 //! The database after a change, and the stage of its files. The rules are in `docs/formats.md`,
 //! "The database after a change", and in `docs/crash-safety.md`, "A change of several files"; the
 //! limits in `docs/formats.md`, "Canonical layout".
-ghost use Rattle.added_packages.specs.adb_write.Canonical.{overflow_of};
+ghost use Rattle.added_packages.specs.adb_write.Canonical.{counts_at_first_overflow};
 ghost use Rattle.change_report.specs.change_inputs.Answers.{Agrees};
 ghost use Rattle.change_report.specs.change_outcome.ChangeOutcome.{is_absent_or_different, or_result_too_large, unless_overflow};
 ghost use Rattle.change_report.specs.db_core.Seen.{members_of};
@@ -67,7 +67,7 @@ pub(crate) fn begin_stage(alloc: Global, removals: Names, writes: Names) -> Resu
         ≡ new_stage_of_removals_and_writes removals writes) }
     // Refused exactly if the intent exceeds a limit of the writer, unless memory ran out.
     ensures told { Agrees (λ _. true) result (unless_overflow
-        (overflow_of (value_of_intent (intent_of_lists removals writes))) true) }
+        (counts_at_first_overflow (value_of_intent (intent_of_lists removals writes))) true) }
 {
     match Stage::of_names(alloc, removals, writes) {
         Ok(stage) => Ok(stage),

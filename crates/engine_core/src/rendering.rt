@@ -2,7 +2,7 @@
 //! and the report are made in memory. The rules are in `docs/commands.md`, "`add` and `del`" (what
 //! is written, reported and refused), in `docs/formats.md`, "The database after a change", and in
 //! `docs/crash-safety.md`, "A change of several files".
-ghost use Rattle.added_packages.specs.adb_write.Canonical.{overflow_of};
+ghost use Rattle.added_packages.specs.adb_write.Canonical.{counts_at_first_overflow};
 ghost use Rattle.base_core.specs.Files.{Files};
 ghost use Rattle.base_core.specs.Tree.{TreeState};
 ghost use Rattle.change_report.specs.change_inputs.Answers.{Agrees};
@@ -97,7 +97,7 @@ fn journal_entry(
     ensures stage { IfOk result
         (IsStageOf (removals_of_plan plan.now) (map name_of_write writes.now)) }
     // Refused exactly if the value of the intent exceeds a limit of the writer.
-    ensures told { Agrees (λ _. true) result (unless_overflow (overflow_of (value_of_intent
+    ensures told { Agrees (λ _. true) result (unless_overflow (counts_at_first_overflow (value_of_intent
         (intent_of_lists (removals_of_plan plan.now) (map name_of_write writes.now)))) true) }
 {
     let loaded = plan.packages.selection.loaded;

@@ -3,8 +3,8 @@
 //! bytes `00 a0`, which mark a link.
 ghost use Rattle.journal_staging.specs.adb_fields.ListValue.{list_value};
 ghost use Rattle.journal_staging.specs.adb_schema.Views.{package_value};
-ghost use Rattle.adb_view.specs.FieldIndexes.{PACKAGE_PATHS};
-ghost use Rattle.adb_view.specs.Values.{count_of, entries_in, entry_in};
+ghost use Rattle.adb_view.specs.FieldIndexes.{PACKAGE_PATHS_INDEX};
+ghost use Rattle.adb_view.specs.Values.{count_of, entries_in, entry_at_index};
 ghost use Rattle.change_report.specs.db_core.Seen.{members_of};
 ghost use Rattle.engine_core.specs.Writing.{entry_of_write};
 ghost use Rattle.journal_staging.specs.file_guard.AsListed.{file_target};
@@ -31,9 +31,9 @@ pub(crate) fn target_of<'c>(members: &Members<'c>, write: &Write) -> &'c [u8]
 /// package, `file` that of the file in this folder, both counted from 1.
 fn target_in<'c>(pkg: &PackageView<'c>, folder: u32, file: u32) -> &'c [u8]
     // The package has a file at these positions.
-    requires { HasFileAt (entry_in (package_value pkg.now) PACKAGE_PATHS) folder file }
+    requires { HasFileAt (entry_at_index (package_value pkg.now) PACKAGE_PATHS_INDEX) folder file }
     ensures { result.now ≡ file_target
-        (listed_file_at (entry_in (package_value pkg.now) PACKAGE_PATHS) folder file) }
+        (listed_file_at (entry_at_index (package_value pkg.now) PACKAGE_PATHS_INDEX) folder file) }
 {
     target_in_folders(&pkg.paths(), folder, file)
 }
@@ -54,7 +54,7 @@ fn target_in_files<'c>(files: &List<'c, FileInfo<'c>>, file: u32) -> &'c [u8]
     // The position is at least 1, and at most the number of files.
     requires low { 0 < file }
     requires high { file ≤ count_of (entries_in (list_value files.now)) }
-    ensures { result.now ≡ file_target (entry_in (list_value files.now) (file - 1)) }
+    ensures { result.now ≡ file_target (entry_at_index (list_value files.now) (file - 1)) }
 {
     let file = files.get(file as usize);
     file.target()

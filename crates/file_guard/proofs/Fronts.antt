@@ -4,7 +4,7 @@ use Rattle.std.specs.Option.{option_map}
 use Rattle.std.specs.Prelude.{IfErr, IfSome, IsErrOf, OnErr}
 use Rattle.std.proofs.Math.Seq.{take-add}
 use Rattle.base_core.specs.Calls.{IfObservable, IsCounted}
-use Rattle.base_core.specs.Faults.{Counts, IsFaultCountedWithCause, CountsNoNewFault}
+use Rattle.base_core.specs.Faults.{Counts, CountsNewFaultWithCause, CountsNoNewFaultOrLackOfMemory}
 use Rattle.base_core.specs.Read.{OnlyReads}
 use Rattle.base_core.specs.Tree.{TreeState, CanRead, files_of}
 use Rattle.base_core.specs.declared.tree.Disk.{Disk}
@@ -93,11 +93,11 @@ proper_where : (history : List TreeState) (can : TreeState → Type 0) (P : Type
 proper_where [] can P h may = tt
 proper_where (v ∷ earlier) can P h may = h may
 
-counted_disk : {A : Type 0} (a b : Counts) (fault : Disk) (r : Result A Disk) → OnErr r (IsFaultCountedWithCause a b) → IsErrOf r fault → IsFaultCountedWithCause a b
+counted_disk : {A : Type 0} (a b : Counts) (fault : Disk) (r : Result A Disk) → OnErr r (CountsNewFaultWithCause a b) → IsErrOf r fault → CountsNewFaultWithCause a b
 counted_disk a b fault (Ok value) cause is = absurd (cc)
 counted_disk a b fault (Err other) cause is = cause
 
-no_other : {A : Type 0} (a b : Counts) (fault : Disk) (r : Result A Disk) → IfErr r (λ other. (other ≡ fault → ⊥) → CountsNoNewFault a b)
+no_other : {A : Type 0} (a b : Counts) (fault : Disk) (r : Result A Disk) → IfErr r (λ other. (other ≡ fault → ⊥) → CountsNoNewFaultOrLackOfMemory a b)
 no_other a b fault (Ok value) = tt
 no_other a b fault (Err other) = λ off. absurd (off refl)
 

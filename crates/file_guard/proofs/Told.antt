@@ -2,7 +2,7 @@
 use Rattle.std.proofs.Common.{◌≡◌, ℕ, ◌==◌, true, false, List, [], ◌∷◌, ◌++◌, length, drop, refl, ap, ◌∙◌, Some}
 use Rattle.std.specs.Prelude.{codes, is_none}
 use Rattle.std.specs.Str.{bytes_eq}
-use Rattle.pkg_core.specs.Contents.{hash_fault}
+use Rattle.pkg_core.specs.Contents.{fault_if_digest_is_not_of_bytes}
 use Rattle.adb_view.specs.Plain.{Plain}
 use Rattle.file_guard.specs.AsListed.{file_hash, file_size, is_as_listed, is_as_listed_by_size_hash_target}
 use Rattle.file_guard.specs.Listed.{DescribesEntry, is_as_described}
@@ -13,7 +13,7 @@ pub told_link : (size : ℕ) (hash target bytes : List ℕ) → (length target =
 unfolding is_as_listed_by_size_hash_target
 told_link size hash target bytes link = rw link refl
 
-pub told_hash : (size : ℕ) (hash target bytes : List ℕ) → (length target == 0) ≡ true → (length hash == 0) ≡ false → is_as_listed_by_size_hash_target size hash target bytes ≡ is_none (hash_fault hash bytes)
+pub told_hash : (size : ℕ) (hash target bytes : List ℕ) → (length target == 0) ≡ true → (length hash == 0) ≡ false → is_as_listed_by_size_hash_target size hash target bytes ≡ is_none (fault_if_digest_is_not_of_bytes hash bytes)
 unfolding is_as_listed_by_size_hash_target
 told_hash size hash target bytes no_link hashed = rw (no_link, hashed) refl
 

@@ -3,23 +3,23 @@
 -- `docs/formats.md`, "Schemas", table 4.
 use Rattle.std.specs.Prelude.{ℕ, ◌==◌, Bool, not, ◌&&◌, if◌then◌else◌, List, ◌++◌, length, drop, codes, bytes_eq, is_none}
 use Rattle.adb_view.specs.Plain.{Plain}
-use Rattle.adb_view.specs.FieldIndexes.{FILE_HASHES, FILE_SIZE, FILE_TARGET}
-use Rattle.adb_view.specs.Values.{entry_in, int_in, text_in}
-use Rattle.pkg_core.specs.Contents.{hash_fault}
+use Rattle.adb_view.specs.FieldIndexes.{FILE_HASHES_INDEX, FILE_SIZE_INDEX, FILE_TARGET_INDEX}
+use Rattle.adb_view.specs.Values.{entry_at_index, int_in, text_in}
+use Rattle.pkg_core.specs.Contents.{fault_if_digest_is_not_of_bytes}
 
 -- the size in bytes that the entry of a file gives; 0 if it gives none
 abbrev pub file_size : Plain → ℕ
-file_size entry = int_in (entry_in entry FILE_SIZE)
+file_size entry = int_in (entry_at_index entry FILE_SIZE_INDEX)
 
 -- the digest that the entry of a file gives, whose length selects the function; no bytes if the entry
 -- gives none
 abbrev pub file_hash : Plain → List ℕ
-file_hash entry = text_in (entry_in entry FILE_HASHES)
+file_hash entry = text_in (entry_at_index entry FILE_HASHES_INDEX)
 
 -- the target that the entry of a file gives: for a link `00 a0` and the link's text, for another file no
 -- bytes
 abbrev pub file_target : Plain → List ℕ
-file_target entry = text_in (entry_in entry FILE_TARGET)
+file_target entry = text_in (entry_at_index entry FILE_TARGET_INDEX)
 
 -- whether the entry is that of a symbolic link: its target is not empty
 abbrev pub has_target : Plain → Bool
@@ -48,7 +48,7 @@ unfoldable pub is_as_listed_by_size_hash_target : ℕ → List ℕ → List ℕ 
 is_as_listed_by_size_hash_target size hash target bytes =
     if not (length target == 0) then bytes_eq bytes (link_file_bytes_of_target target)
     else if length hash == 0 then (size == 0) && (length bytes == 0)
-    else is_none (hash_fault hash bytes)
+    else is_none (fault_if_digest_is_not_of_bytes hash bytes)
 
 -- whether bytes are as an entry lists them
 abbrev pub is_as_listed : Plain → List ℕ → Bool

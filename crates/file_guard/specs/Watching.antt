@@ -1,7 +1,7 @@
 -- What is known of a file's bytes after some of them were read. It serves the contracts of `Watch` in
 -- `src/watch.rt`.
 use Rattle.std.specs.Prelude.{◌≡◌, Bool, false, ℕ, List, ◌++◌, bytes_eq, is_none}
-use Rattle.pkg_core.specs.Contents.{hash_fault}
+use Rattle.pkg_core.specs.Contents.{fault_if_digest_is_not_of_bytes}
 use Rattle.pkg_core.specs.Hashing.{HasHashedMessage}
 use Rattle.file_guard.specs.declared.watch.Watch.{Watch}
 use Rattle.file_guard.specs.declared.watch.Watch.TheVariants.{Never, Exactly, Hashed}
@@ -15,4 +15,4 @@ IsWatchOfTest (Exactly first second) test so_far =
     (further : List ℕ) → test (so_far ++ further) ≡ bytes_eq further (first.now ++ second.now)
 IsWatchOfTest (Hashed hasher hash) test so_far =
     HasHashedMessage hasher hash.now so_far
-    × ((bytes : List ℕ) → test bytes ≡ is_none (hash_fault hash.now bytes))
+    × ((bytes : List ℕ) → test bytes ≡ is_none (fault_if_digest_is_not_of_bytes hash.now bytes))

@@ -12,7 +12,7 @@ use Rattle.version_core.specs.Order.{is_version}
 use Rattle.adb_view.specs.Plain.{Plain, Plains}
 use Rattle.path_claims.specs.adb_fields.Repeated.{list_of, package_name}
 use Rattle.db_core.specs.adb_schema.Dependencies.{dependency_in}
-use Rattle.adb_view.specs.Values.{count_of, entry_in, int_in, nth, text_in, value_at}
+use Rattle.adb_view.specs.Values.{count_of, entry_at_index, int_in, nth, text_in, value_at}
 use Rattle.adb_view.specs.declared.tables.Kind.TheVariants as Kinds
 use Rattle.db_core.specs.Members.{Member, is_found_place, member_name}
 use Rattle.db_core.proofs.AnyOf.{any_step, past_end}
@@ -34,7 +34,7 @@ named_so members place name found m g = sym ((bytes_decides (member_name m) name
 
 -- an entry names no other member than the one that has its name
 pub found_asks : (entry : Plain) (members : List Member) (place : ℕ)
-    → ((i : ℕ) (m : Member) → slice_get members i ≡ Some m → is_found_place i (Some place) ≡ bytes_eq (member_name m) (text_in (entry_in entry 0)))
+    → ((i : ℕ) (m : Member) → slice_get members i ≡ Some m → is_found_place i (Some place) ≡ bytes_eq (member_name m) (text_in (entry_at_index entry 0)))
     → (y : ℕ) (m : Member) → slice_get members y ≡ Some m → ((place == y) && does_replaces_entry_name_package entry m.pkg) ≡ does_replaces_entry_name_package entry m.pkg
 found_asks entry members place found y m g = go (eqb_tells place y)
   where
@@ -104,10 +104,10 @@ asks_alike members payload one other p q same y pkg =
     let m = some_at members one.place p.within in
     let first : Plain = entry_of_question payload one in
     let second : Plain = entry_of_question payload other in
-    let name : text_in (entry_in first 0) ≡ text_in (entry_in second 0) =
+    let name : text_in (entry_at_index first 0) ≡ text_in (entry_at_index second 0) =
     p.name m.0 m.1 ∙ sym (q.name m.0 (ap (slice_get members) (sym same.place) ∙ m.1)) in
-    let version : text_in (entry_in first 1) ≡ text_in (entry_in second 1) = p.version ∙ (ap (λ (w : ℕ). text_in (value_at payload Kinds.Text w)) same.version ∙ sym q.version) in
-    let matching : int_in (entry_in first 2) ≡ int_in (entry_in second 2) = p.matching ∙ (same.matching ∙ sym q.matching) in
+    let version : text_in (entry_at_index first 1) ≡ text_in (entry_at_index second 1) = p.version ∙ (ap (λ (w : ℕ). text_in (value_at payload Kinds.Text w)) same.version ∙ sym q.version) in
+    let matching : int_in (entry_at_index first 2) ≡ int_in (entry_at_index second 2) = p.matching ∙ (same.matching ∙ sym q.matching) in
     let dependency : dependency_in first ≡ dependency_in second = λ k. dependency_of_value (name k) (version k) (matching k) in
     λ k. (same.place k == y) && (is_version (package_version_text pkg) && is_package_met_by_replaces_entry (dependency k) (package_name pkg) (package_version_text pkg))
 

@@ -4,7 +4,7 @@ use Rattle.std.specs.Prelude.{option_map, slice_get, IfOk, Result, Ok, Err}
 use Rattle.std.specs.declared.alloc.AllocError.{AllocError}
 use Rattle.base_core.specs.Sorted.{sorted_by}
 use Rattle.db_core.specs.Members.{Listing, Member, listings_of_members}
-use Rattle.path_claims.specs.Claims.{AreNumberedByPlace, PathClaim, claim_cmp, first_contested_path, is_owning_member, is_claim_of_owner, owner_among}
+use Rattle.path_claims.specs.Claims.{AreNumberedByPlace, PathClaim, claim_cmp, first_contested_path_in_byte_order, is_owning_member, is_claim_of_owner, owner_among}
 use Rattle.path_claims.specs.ContestedSeen.{contested_seen}
 use Rattle.path_claims.specs.Seen.{claim_seen}
 use Rattle.path_claims.specs.declared.owner.Owners.{Owners}
@@ -92,8 +92,8 @@ owned_seen members cs (Ok found) g h =
     h ∙ ((λ j. map (is_claim_of_owner (member_beats members) ((g ∙ all_gathered members) j)) ((g ∙ all_gathered members) j)) ∙ owned_is members)
 
 pub contested_seen_by : (members : List Member) (cs : List PathClaim) (r : Result Owners AllocError) → cs ≡ claims_with_listings [] (listings_of_members members)
-    → IfOk r (λ found. option_map contested_seen found.contested ≡ first_contested_path (member_beats members) cs)
+    → IfOk r (λ found. option_map contested_seen found.contested ≡ first_contested_path_in_byte_order (member_beats members) cs)
     → IfOk r (λ found. option_map contested_seen found.contested ≡ first_contested_member_path_in_byte_order members)
 unfolding first_contested_member_path_in_byte_order
 contested_seen_by members cs (Err e) g h = h
-contested_seen_by members cs (Ok found) g h = h ∙ ap (first_contested_path (member_beats members)) (g ∙ all_gathered members)
+contested_seen_by members cs (Ok found) g h = h ∙ ap (first_contested_path_in_byte_order (member_beats members)) (g ∙ all_gathered members)

@@ -6,7 +6,7 @@ use Rattle.adb_view.specs.Values.{count_of, nth}
 use Rattle.path_claims.specs.adb_fields.Paths.{path_of}
 use Rattle.path_claims.specs.adb_fields.Repeated.{files_in, list_of, name_of}
 use Rattle.path_claims.proofs.adb_fields.Listed.{none_listed}
-use Rattle.db_core.specs.Members.{Listing, Member, listing_of_file_entry, listings_of_member, listings_of_members_from, listings_in_folder_from_file, listings_in_folders_from, listings_of_members}
+use Rattle.db_core.specs.Members.{Listing, Member, listing_of_file_entry, listings_of_member, listings_of_members_from, listings_from_member_folder_file_places, listings_in_folders_from, listings_of_members}
 use Rattle.path_claims.specs.Claims.{PathClaim}
 use Rattle.file_owners.specs.Gathered.{claims_with_listings}
 use Rattle.file_owners.specs.Owners.{indexed_claim_of_listing}
@@ -24,8 +24,8 @@ front (more v vs) (suc i) h = front vs i (omega arith)
 
 abbrev pub FilesLeft : List PathClaim → List PathClaim → Member → ℕ → ℕ → List ℕ → Plains → ℕ → Type 0
 FilesLeft old now m member folder name vs i =
-    claims_with_listings now (listings_in_folder_from_file m member folder (i + 1) name (drop i (list_of vs)))
-    ≡ claims_with_listings old (listings_in_folder_from_file m member folder 1 name (list_of vs))
+    claims_with_listings now (listings_from_member_folder_file_places m member folder (i + 1) name (drop i (list_of vs)))
+    ≡ claims_with_listings old (listings_from_member_folder_file_places m member folder 1 name (list_of vs))
 
 pub file_added : (old now new : List PathClaim) (m : Member) (member folder : ℕ) (name : List ℕ) (vs : Plains) (i : ℕ) (file : List ℕ) → i < count_of vs
     → file ≡ name_of (nth vs i)
@@ -35,13 +35,13 @@ file_added old now new m member folder name vs i file h e add inv =
     let s : i + 1 ≡ suc i = omega arith in
     let l : Listing = listing_of_file_entry m member folder (i + 1) name (nth vs i) in
     let one : new ≡ claims_with_listings now (l ∷ []) = add l (ap (path_of name) (sym e)) refl refl refl in
-    (λ j. claims_with_listings (one j) (listings_in_folder_from_file m member folder (i + 1 + 1) name (drop (s j) (list_of vs))))
-    ∙ (ap (λ ps. claims_with_listings now (listings_in_folder_from_file m member folder (i + 1) name ps)) (sym (front vs i h)) ∙ inv)
+    (λ j. claims_with_listings (one j) (listings_from_member_folder_file_places m member folder (i + 1 + 1) name (drop (s j) (list_of vs))))
+    ∙ (ap (λ ps. claims_with_listings now (listings_from_member_folder_file_places m member folder (i + 1) name ps)) (sym (front vs i h)) ∙ inv)
 
 pub files_added : (old now : List PathClaim) (m : Member) (member folder : ℕ) (name : List ℕ) (vs : Plains) (i : ℕ) → count_of vs ≤ i
-    → FilesLeft old now m member folder name vs i → now ≡ claims_with_listings old (listings_in_folder_from_file m member folder 1 name (list_of vs))
+    → FilesLeft old now m member folder name vs i → now ≡ claims_with_listings old (listings_from_member_folder_file_places m member folder 1 name (list_of vs))
 files_added old now m member folder name vs i h inv =
-    ap (λ ps. claims_with_listings now (listings_in_folder_from_file m member folder (i + 1) name ps)) (sym (none_listed vs i h)) ∙ inv
+    ap (λ ps. claims_with_listings now (listings_from_member_folder_file_places m member folder (i + 1) name ps)) (sym (none_listed vs i h)) ∙ inv
 
 -- ---- folders
 
@@ -51,12 +51,12 @@ FoldersLeft old now m member vs i =
     ≡ claims_with_listings old (listings_in_folders_from m member 1 (list_of vs))
 
 pub folder_added : (old now new : List PathClaim) (m : Member) (member : ℕ) (vs : Plains) (i : ℕ) → i < count_of vs
-    → new ≡ claims_with_listings now (listings_in_folder_from_file m member (i + 1) 1 (name_of (nth vs i)) (files_in (nth vs i)))
+    → new ≡ claims_with_listings now (listings_from_member_folder_file_places m member (i + 1) 1 (name_of (nth vs i)) (files_in (nth vs i)))
     → FoldersLeft old now m member vs i → FoldersLeft old new m member vs (i + 1)
 folder_added old now new m member vs i h one inv =
     let s : i + 1 ≡ suc i = omega arith in
     (λ j. claims_with_listings (one j) (listings_in_folders_from m member (i + 1 + 1) (drop (s j) (list_of vs))))
-    ∙ (with_more now (listings_in_folder_from_file m member (i + 1) 1 (name_of (nth vs i)) (files_in (nth vs i))) (listings_in_folders_from m member (i + 1 + 1) (drop (suc i) (list_of vs)))
+    ∙ (with_more now (listings_from_member_folder_file_places m member (i + 1) 1 (name_of (nth vs i)) (files_in (nth vs i))) (listings_in_folders_from m member (i + 1 + 1) (drop (suc i) (list_of vs)))
     ∙ (ap (λ ps. claims_with_listings now (listings_in_folders_from m member (i + 1) ps)) (sym (front vs i h)) ∙ inv))
 
 pub folders_added : (old now : List PathClaim) (m : Member) (member : ℕ) (vs : Plains) (i : ℕ) → count_of vs ≤ i

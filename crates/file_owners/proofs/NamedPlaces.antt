@@ -15,12 +15,12 @@ use Rattle.std.proofs.lemmas.Map.Keys.{ge_from_not_lt}
 use Rattle.dep_core.specs.Dependency.{Dependency}
 use Rattle.dep_core.specs.Reading.{dependency_on_any_version}
 use Rattle.dep_core.specs.Value.{is_match_number, is_version_or_empty}
-use Rattle.dep_core.specs.ValueReading.{match_bits_unless_any_version, dependency_of_value, with_wanted_version_if_any}
-use Rattle.dep_core.specs.Dependency.{is_dep_name}
+use Rattle.dep_core.specs.ValueReading.{match_bits_of_low_bits_unless_any_version, dependency_of_value, with_constraint_if_version_and_match_bits}
+use Rattle.dep_core.specs.Dependency.{is_dependency_name_by_bytes_and_length}
 use Rattle.version_core.specs.Order.{is_version}
 use Rattle.adb_view.specs.Plain.{Plain}
-use Rattle.path_claims.specs.adb_fields.Repeated.{entries_at, package_name}
-use Rattle.adb_view.specs.Values.{entry_in, int_in, text_in}
+use Rattle.path_claims.specs.adb_fields.Repeated.{entries_of_field_at_index, package_name}
+use Rattle.adb_view.specs.Values.{entry_at_index, int_in, text_in}
 use Rattle.db_core.specs.Members.{Member, member_name}
 use Rattle.file_owners.specs.NamedPlaces.{ArePlacesOfNamedMembers, ArePlacesNamedByEachMember}
 use Rattle.file_owners.specs.Owners.{member_beats, takes_over_if_both_exist}
@@ -38,7 +38,7 @@ value_or d (Some x) = x
 
 -- ---- an entry names no package of another name
 
-named_on : (d : Dependency) (version : List ℕ) (bits : Option ℕ) → (with_wanted_version_if_any d version bits).name ≡ d.name
+named_on : (d : Dependency) (version : List ℕ) (bits : Option ℕ) → (with_constraint_if_version_and_match_bits d version bits).name ≡ d.name
 named_on d [] bits = refl
 named_on d (b ∷ rest) None = refl
 named_on d (b ∷ rest) (Some bits) = refl
@@ -54,8 +54,8 @@ not_met (Some d) name version h = go (not d.conflict) (bytes_eq d.name name) _ (
 value_named : (name version : List ℕ) (matching : ℕ) (d : Dependency) → dependency_of_value name version matching ≡ Some d → d.name ≡ name
 unfolding dependency_of_value
 value_named name version matching d e =
-    let made : Dependency = with_wanted_version_if_any (dependency_on_any_version (not (nat_lt matching 16)) name) version (match_bits_unless_any_version (matching % 16)) in
-    go (is_dep_name name && (is_version_or_empty version && is_match_number matching)) made (named_on (dependency_on_any_version (not (nat_lt matching 16)) name) version (match_bits_unless_any_version (matching % 16))) e
+    let made : Dependency = with_constraint_if_version_and_match_bits (dependency_on_any_version (not (nat_lt matching 16)) name) version (match_bits_of_low_bits_unless_any_version (matching % 16)) in
+    go (is_dependency_name_by_bytes_and_length name && (is_version_or_empty version && is_match_number matching)) made (named_on (dependency_on_any_version (not (nat_lt matching 16)) name) version (match_bits_of_low_bits_unless_any_version (matching % 16))) e
   where
     go : (t : Bool) (made : Dependency) → made.name ≡ name → (if t then Some made else None) ≡ Some d → d.name ≡ name
     go true made n s = sym (ap (λ o. (value_or d o).name) s) ∙ n
@@ -68,12 +68,12 @@ turned a b h = go (bytes_eq b a) refl
     go false e = refl
     go true e = absurd (true≢false (sym ((bytes_decides a b).1 (sym ((bytes_decides b a).0 e))) ∙ h))
 
-pub other_name : (entry y : Plain) → bytes_eq (package_name y) (text_in (entry_in entry 0)) ≡ false → does_replaces_entry_name_package entry y ≡ false
+pub other_name : (entry y : Plain) → bytes_eq (package_name y) (text_in (entry_at_index entry 0)) ≡ false → does_replaces_entry_name_package entry y ≡ false
 other_name entry y h =
-    let name : List ℕ = text_in (entry_in entry 0) in
+    let name : List ℕ = text_in (entry_at_index entry 0) in
     ap (λ t. is_version (package_version_text y) && t)
     (not_met (dependency_in entry) (package_name y) (package_version_text y)
-    (λ d e. ap (λ n. bytes_eq n (package_name y)) (value_named name (text_in (entry_in entry 1)) (int_in (entry_in entry 2)) d e) ∙ turned (package_name y) name h))
+    (λ d e. ap (λ n. bytes_eq n (package_name y)) (value_named name (text_in (entry_at_index entry 1)) (int_in (entry_at_index entry 2)) d e) ∙ turned (package_name y) name h))
     ∙ none_and (is_version (package_version_text y))
   where
     none_and : (a : Bool) → (a && false) ≡ false
@@ -82,14 +82,14 @@ other_name entry y h =
 
 -- ---- the member that an entry names
 
-pub none_found : (entry : Plain) (members : List Member) → ((i : ℕ) (m : Member) → slice_get members i ≡ Some m → false ≡ bytes_eq (member_name m) (text_in (entry_in entry 0)))
+pub none_found : (entry : Plain) (members : List Member) → ((i : ℕ) (m : Member) → slice_get members i ≡ Some m → false ≡ bytes_eq (member_name m) (text_in (entry_at_index entry 0)))
     → (y : ℕ) (m : Member) → slice_get members y ≡ Some m → false ≡ does_replaces_entry_name_package entry m.pkg
 none_found entry members h y m g = sym (other_name entry m.pkg (sym (h y m g)))
 
 -- ---- in rising order
 
 pub in_order : (members : List Member) (pkg : Plain) (old new : List ℕ) → IsPermutation old new → IsSorted nat_cmp new
-    → ((y : ℕ) (m : Member) → slice_get members y ≡ Some m → list_any (λ p. p == y) old ≡ list_any (λ entry. does_replaces_entry_name_package entry m.pkg) (entries_at 16 (entry_in pkg 0)))
+    → ((y : ℕ) (m : Member) → slice_get members y ≡ Some m → list_any (λ p. p == y) old ≡ list_any (λ entry. does_replaces_entry_name_package entry m.pkg) (entries_of_field_at_index 16 (entry_at_index pkg 0)))
     → ArePlacesOfNamedMembers members pkg new
 unfolding does_first_list_second_in_replaces
 in_order members pkg old new moved rising named = record {

@@ -6,26 +6,26 @@ use Rattle.std.proofs.lemmas.Grind.{not_there}
 use Rattle.version_core.specs.Order.{is_version}
 use Rattle.adb_view.specs.Plain.{Plain, Plains, none, more}
 use Rattle.adb_view.specs.Shaped.{Each}
-use Rattle.adb_view.specs.FieldIndexes.{INFO_REPLACES, PACKAGE_INFO}
-use Rattle.adb_view.specs.Values.{count_of, entries_in, entry_in, nth}
+use Rattle.adb_view.specs.FieldIndexes.{INFO_REPLACES_INDEX, PACKAGE_INFO_INDEX}
+use Rattle.adb_view.specs.Values.{count_of, entries_in, entry_at_index, nth}
 use Rattle.adb_view.specs.declared.tables.Which.{Which}
 use Rattle.adb_view.specs.declared.tables.Which.TheVariants as Tables
 use Rattle.path_claims.specs.adb_fields.FirstPair.{IsIn}
 use Rattle.path_claims.specs.adb_fields.Repeated.{list_of}
-use Rattle.db_core.specs.adb_schema.SoundValues.{IsSoundPackage, IsSoundDependency}
+use Rattle.db_core.specs.adb_schema.SoundValues.{ObeysTextAndNumberRulesOfPackage, ObeysTextAndNumberRulesOfDependency}
 use Rattle.db_core.proofs.adb_schema.SoundLeaves.{each_at}
 use Rattle.db_core.specs.Members.{Member}
 use Rattle.db_core.specs.SoundMembers.{AreMembersOfSoundContainers, IsPackageOfSoundContainer}
 use Rattle.file_owners.specs.Replaces.{package_version_text}
 
 abbrev replaced_by : Plain → Plains
-replaced_by pkg = entries_in (entry_in (entry_in pkg PACKAGE_INFO) INFO_REPLACES)
+replaced_by pkg = entries_in (entry_at_index (entry_at_index pkg PACKAGE_INFO_INDEX) INFO_REPLACES_INDEX)
 
 record IsSoundMember (pkg : Plain) : Type 0 where
   pub version : is_version (package_version_text pkg) ≡ true
-  pub replaced : Each IsSoundDependency (replaced_by pkg)
+  pub replaced : Each ObeysTextAndNumberRulesOfDependency (replaced_by pkg)
 
-of_package : (root : Which) (pkg : Plain) → IsSoundPackage root pkg → IsSoundMember pkg
+of_package : (root : Which) (pkg : Plain) → ObeysTextAndNumberRulesOfPackage root pkg → IsSoundMember pkg
 of_package root pkg h = record { version = h.info.version; replaced = h.info.replaces }
 
 each_in : (P : Plain → Type 0) (v : Plain) (vs : Plains) → Each P vs → IsIn v (list_of vs) → P v
@@ -34,7 +34,7 @@ each_in P v (more u us) h (inl is) = subst P (sym is) h.0
 each_in P v (more u us) h (inr here) = each_in P v us h.1 here
 
 of_container : (pkg : Plain) (id : Option (List ℕ)) → IsPackageOfSoundContainer pkg id → IsSoundMember pkg
-of_container pkg None h = of_package Tables.Idb pkg (each_in (IsSoundPackage Tables.Idb) pkg (entries_in (entry_in h.database 0)) h.sound.rules h.listed)
+of_container pkg None h = of_package Tables.Idb pkg (each_in (ObeysTextAndNumberRulesOfPackage Tables.Idb) pkg (entries_in (entry_at_index h.database 0)) h.sound.rules h.listed)
 of_container pkg (Some id) h = of_package Tables.Package pkg h.sound.rules
 
 -- the package at a place of sound members
@@ -56,14 +56,14 @@ module _ (members : List Member) (i : ℕ) (pkg : Plain) (within : i < length me
   pub version_sound : is_version (package_version_text pkg) ≡ true
   version_sound = is_passed (is_version (package_version_text pkg)) sound (λ all. (member_at members i pkg within at all).version)
 
-  dependency_sound : (k : ℕ) → k < count_of (replaced_by pkg) → IsSoundDependency (nth (replaced_by pkg) k)
+  dependency_sound : (k : ℕ) → k < count_of (replaced_by pkg) → ObeysTextAndNumberRulesOfDependency (nth (replaced_by pkg) k)
   dependency_sound k less =
-      let sure : AreMembersOfSoundContainers members → IsSoundDependency (nth (replaced_by pkg) k) = λ all. each_at IsSoundDependency (replaced_by pkg) k (member_at members i pkg within at all).replaced less in
+      let sure : AreMembersOfSoundContainers members → ObeysTextAndNumberRulesOfDependency (nth (replaced_by pkg) k) = λ all. each_at ObeysTextAndNumberRulesOfDependency (replaced_by pkg) k (member_at members i pkg within at all).replaced less in
       record {
         name = is_passed _ sound (λ all. (sure all).name);
         version = is_passed _ sound (λ all. (sure all).version);
         matching = is_passed _ sound (λ all. (sure all).matching);
       }
 
-  pub replaced_sound : Each IsSoundDependency (replaced_by pkg)
-  replaced_sound = each_by IsSoundDependency (replaced_by pkg) dependency_sound
+  pub replaced_sound : Each ObeysTextAndNumberRulesOfDependency (replaced_by pkg)
+  replaced_sound = each_by ObeysTextAndNumberRulesOfDependency (replaced_by pkg) dependency_sound

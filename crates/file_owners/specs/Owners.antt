@@ -3,7 +3,7 @@
 -- *contested* and *rivals* in `docs/names.md`, "The installed database and a change of it".
 use Rattle.std.specs.Prelude.{ℕ, ◌+◌, Bool, false, List, [], ◌∷◌, map, Option, Some, None, slice_get}
 use Rattle.db_core.specs.Members.{Listing, Member, listings_of_members}
-use Rattle.path_claims.specs.Claims.{ContestedPath, PathClaim, first_contested_path, is_owning_member, owner_among}
+use Rattle.path_claims.specs.Claims.{ContestedPath, PathClaim, first_contested_path_in_byte_order, is_owning_member, owner_among}
 use Rattle.file_owners.specs.Replaces.{takes_over}
 
 -- ---- which member beats which
@@ -57,4 +57,4 @@ owned_flags_of members =
 -- path, and the first other one that this member does not beat. None if each path has an owner
 unfoldable pub first_contested_member_path_in_byte_order : List Member → Option ContestedPath
 first_contested_member_path_in_byte_order members =
-    first_contested_path (member_beats members) (claims_in members)
+    first_contested_path_in_byte_order (member_beats members) (claims_in members)

@@ -2,11 +2,11 @@
 -- (32-bit reference) of the entry's version, so that entries with the same word and operator ask the same question.
 use Rattle.std.specs.Prelude.{◌≡◌, ◌<◌, ℕ, Bool, true, false, ◌==◌, ◌&&◌, List, [], ◌∷◌, ◌++◌, length, Option, Some, None, slice_get}
 use Rattle.adb_view.specs.Plain.{Plain}
-use Rattle.adb_view.specs.FieldIndexes.{DEP_MATCH, DEP_NAME, DEP_VERSION}
-use Rattle.adb_view.specs.Values.{entry_in, int_in, is_sound, text_in, value_at}
+use Rattle.adb_view.specs.FieldIndexes.{DEP_MATCH_INDEX, DEP_NAME_INDEX, DEP_VERSION_INDEX}
+use Rattle.adb_view.specs.Values.{entry_at_index, int_in, is_sound, text_in, value_at}
 use Rattle.adb_view.specs.declared.tables.Kind.TheVariants.{Obj, Text}
 use Rattle.adb_view.specs.declared.tables.Which.TheVariants.{Dep}
-use Rattle.db_core.specs.adb_schema.SoundValues.{IsSoundDependency}
+use Rattle.db_core.specs.adb_schema.SoundValues.{ObeysTextAndNumberRulesOfDependency}
 use Rattle.db_core.specs.Members.{Member, member_name}
 use Rattle.file_owners.specs.Replaces.{does_replaces_entry_name_package}
 use Rattle.file_owners.specs.declared.questions.Question.{Question}
@@ -39,15 +39,15 @@ pub record IsQuestionIn (members : List Member) (payload : List ℕ) (q : Questi
   -- the word leads to a value with the shape of a dependency
   pub shaped : is_sound payload (Obj Dep) q.word ≡ true
   -- the entry is a sound dependency
-  pub sound : IsSoundDependency (entry_of_question payload q)
+  pub sound : ObeysTextAndNumberRulesOfDependency (entry_of_question payload q)
   -- the entry has the name of this member
   pub name : (m : Member) → slice_get members q.place ≡ Some m
-      → text_in (entry_in (entry_of_question payload q) DEP_NAME) ≡ member_name m
+      → text_in (entry_at_index (entry_of_question payload q) DEP_NAME_INDEX) ≡ member_name m
   -- the version word leads to the version of the entry
-  pub version : text_in (entry_in (entry_of_question payload q) DEP_VERSION)
+  pub version : text_in (entry_at_index (entry_of_question payload q) DEP_VERSION_INDEX)
       ≡ text_in (value_at payload Text q.version)
   -- the match bits are those of the entry
-  pub matching : int_in (entry_in (entry_of_question payload q) DEP_MATCH) ≡ q.matching
+  pub matching : int_in (entry_at_index (entry_of_question payload q) DEP_MATCH_INDEX) ≡ q.matching
 
 -- two questions are the same: they are about the same member, and have the same word for the version and the same
 -- match bits

@@ -3,9 +3,9 @@
 use Rattle.std.specs.Prelude.{ℕ, ◌==◌, nat_lt, Bool, false, not, ◌&&◌, ◌||◌, List, Option, Some, None}
 use Rattle.std.specs.List.{list_any}
 use Rattle.adb_view.specs.Plain.{Plain}
-use Rattle.adb_view.specs.FieldIndexes.{INFO_REPLACES, INFO_VERSION, PACKAGE_INFO, PACKAGE_REPLACES_PRIORITY}
-use Rattle.adb_view.specs.Values.{entry_in, int_in, text_in}
-use Rattle.path_claims.specs.adb_fields.Repeated.{entries_at, package_name}
+use Rattle.adb_view.specs.FieldIndexes.{INFO_REPLACES_INDEX, INFO_VERSION_INDEX, PACKAGE_INFO_INDEX, PACKAGE_REPLACES_PRIORITY_INDEX}
+use Rattle.adb_view.specs.Values.{entry_at_index, int_in, text_in}
+use Rattle.path_claims.specs.adb_fields.Repeated.{entries_of_field_at_index, package_name}
 use Rattle.version_core.specs.Order.{is_version}
 use Rattle.dep_core.specs.Dependency.{Dependency}
 use Rattle.dep_core.specs.Meets.{meets}
@@ -14,7 +14,7 @@ use Rattle.base_core.specs.ByteOrder.{precedes}
 
 -- the text of the version in the information of a package
 abbrev pub package_version_text : Plain → List ℕ
-package_version_text pkg = text_in (entry_in (entry_in pkg PACKAGE_INFO) INFO_VERSION)
+package_version_text pkg = text_in (entry_at_index (entry_at_index pkg PACKAGE_INFO_INDEX) INFO_VERSION_INDEX)
 
 -- whether a package with this name and version meets the dependency, which is that of an entry of `replaces`; false
 -- if there is no dependency, or if it is a conflict
@@ -33,11 +33,11 @@ does_replaces_entry_name_package entry y =
 unfoldable pub does_first_list_second_in_replaces : Plain → Plain → Bool
 does_first_list_second_in_replaces x y =
     list_any (λ entry. does_replaces_entry_name_package entry y)
-    (entries_at INFO_REPLACES (entry_in x PACKAGE_INFO))
+    (entries_of_field_at_index INFO_REPLACES_INDEX (entry_at_index x PACKAGE_INFO_INDEX))
 
 -- the field `replaces-priority` of a package; 0 if the package has none
 abbrev pub replacing_priority : Plain → ℕ
-replacing_priority pkg = int_in (entry_in pkg PACKAGE_REPLACES_PRIORITY)
+replacing_priority pkg = int_in (entry_at_index pkg PACKAGE_REPLACES_PRIORITY_INDEX)
 
 -- whether x, of two packages that name each other, is preferred: x has the greater priority, or both have the same
 -- priority and the name of x is later in byte order

@@ -8,7 +8,7 @@ ghost use Rattle.path_claims.specs.adb_fields.Paths.{path_of};
 ghost use Rattle.path_claims.specs.adb_fields.ListValue.{list_value};
 ghost use Rattle.path_claims.specs.adb_fields.Repeated.{files_in, list_of, name_of};
 ghost use Rattle.adb_view.specs.Values.{count_of, entries_in, nth};
-ghost use Rattle.db_core.specs.Members.{Listing, Member, listings_of_member, listings_in_folder_from_file, listings_in_folders_from, listings_of_members};
+ghost use Rattle.db_core.specs.Members.{Listing, Member, listings_of_member, listings_from_member_folder_file_places, listings_in_folders_from, listings_of_members};
 ghost use Rattle.db_core.specs.Seen.{members_of};
 ghost use Rattle.path_claims.specs.Seen.{claim_seen};
 ghost use Rattle.file_owners.specs.Gathered.{claims_with_listings};
@@ -67,7 +67,7 @@ fn add_files<'a>(
     // On Ok, the claims of the folder's files are added at the end.
     ensures { IfOk result (λ _. (m : Member) → map claim_seen claims.new.items
         ≡ claims_with_listings (map claim_seen claims.old.items)
-        (listings_in_folder_from_file m place.now.member place.now.folder 1 place.now.name.now
+        (listings_from_member_folder_file_places m place.now.member place.now.folder 1 place.now.name.now
         (list_of (entries_in (list_value files.now))))) }
 {
     for i in 0..files.len() {
@@ -89,7 +89,7 @@ fn add_folder<'a>(
     // On Ok, the claims of the files of this folder are added at the end.
     ensures { IfOk result (λ _. (m : Member) → map claim_seen claims.new.items
         ≡ claims_with_listings (map claim_seen claims.old.items)
-        (listings_in_folder_from_file m member (i + 1) 1
+        (listings_from_member_folder_file_places m member (i + 1) 1
         (name_of (nth (entries_in (list_value folders.now)) i))
         (files_in (nth (entries_in (list_value folders.now)) i)))) }
 {

@@ -10,13 +10,13 @@ ghost use Rattle.std.specs.Ordering.{nat_cmp};
 ghost use Rattle.adb_view.specs.Adb.{payload_of};
 ghost use Rattle.adb_view.specs.Entries.{array_entries};
 ghost use Rattle.adb_view.specs.Shaped.{Each};
-ghost use Rattle.adb_view.specs.FieldIndexes.{INFO_REPLACES, PACKAGE_INFO};
-ghost use Rattle.adb_view.specs.Values.{entries_in, entry_in};
+ghost use Rattle.adb_view.specs.FieldIndexes.{INFO_REPLACES_INDEX, PACKAGE_INFO_INDEX};
+ghost use Rattle.adb_view.specs.Values.{entries_in, entry_at_index};
 ghost use Rattle.adb_view.specs.declared.tables.Kind.TheVariants as Kinds;
 ghost use Rattle.adb_view.specs.declared.tables.Which.TheVariants as Tables;
 ghost use Rattle.path_claims.specs.adb_fields.Fields.{are_all_sound, array_at};
 ghost use Rattle.db_core.specs.adb_schema.Views.{info_value, package_value};
-ghost use Rattle.db_core.specs.adb_schema.SoundValues.{IsSoundDependency};
+ghost use Rattle.db_core.specs.adb_schema.SoundValues.{ObeysTextAndNumberRulesOfDependency};
 ghost use Rattle.db_core.specs.Seen.{members_of};
 ghost use Rattle.file_owners.specs.NamedPlaces.{ArePlacesOfNamedMembers, ArePlacesNamedByEachMember};
 
@@ -58,8 +58,8 @@ fn places_named(
     pkg: &PackageView<'_>,
 ) -> Result<Vec<u32>, AllocError>
     // The entries of `replaces` obey the rules of dependencies.
-    requires { Each IsSoundDependency (entries_in
-        (entry_in (entry_in (package_value pkg.now) PACKAGE_INFO) INFO_REPLACES)) }
+    requires { Each ObeysTextAndNumberRulesOfDependency (entries_in
+        (entry_at_index (entry_at_index (package_value pkg.now) PACKAGE_INFO_INDEX) INFO_REPLACES_INDEX)) }
     // On Ok, these are the indexes of the members that the package names.
     ensures { IfOk result (λ places.
         ArePlacesOfNamedMembers (members_of members.now) (package_value pkg.now) places.items) }
@@ -77,7 +77,7 @@ fn replaced_entries<'a>(info: &PkgInfo<'a>) -> Arr<'a>
         (array_entries result) ≡ true }
     // The plain values of these words are the entries of the field.
     ensures value { array_at (payload_of info.now.adb) (Kinds.Obj Tables.Dep)
-        (array_entries result) ≡ entry_in (info_value info.now) INFO_REPLACES }
+        (array_entries result) ≡ entry_at_index (info_value info.now) INFO_REPLACES_INDEX }
 {
     objects_field(
         info.adb(),

@@ -15,7 +15,7 @@ ghost use Rattle.file_owners.specs.NamedPlaces.{ArePlacesNamedByEachMember};
 ghost use Rattle.db_core.specs.adb_schema.Views.{dependency_value, package_value};
 ghost use Rattle.file_owners.specs.Replaces.{does_replaces_entry_name_package, is_preferred_by_priority_or_later_name, is_package_met_by_replaces_entry, takes_over, package_version_text};
 ghost use Rattle.db_core.specs.adb_schema.Dependencies.{dependency_in};
-ghost use Rattle.db_core.specs.adb_schema.SoundValues.{IsSoundDependency};
+ghost use Rattle.db_core.specs.adb_schema.SoundValues.{ObeysTextAndNumberRulesOfDependency};
 ghost use Rattle.version_core.specs.Order.{is_version};
 ghost use Rattle.adb_view.specs.Plain.{Plain};
 ghost use Rattle.db_core.specs.OwnedListings.{HaveAtMostOneOwnerForEachPath, owned_listings};
@@ -112,7 +112,7 @@ pub fn owners_of_files<'a>(alloc: Global, members: &Members<'a>) -> Result<Owner
 /// meets it.
 fn is_replaced(dep: &DepView<'_>, name: &[u8], version: &Version<'_>) -> bool
     // The entry obeys the rules of a dependency.
-    requires { IsSoundDependency (dependency_value dep.now) }
+    requires { ObeysTextAndNumberRulesOfDependency (dependency_value dep.now) }
     ensures { result
         ≡ is_package_met_by_replaces_entry (dependency_in
         (dependency_value dep.now)) name.now version.now }
@@ -128,7 +128,7 @@ fn is_replaced(dep: &DepView<'_>, name: &[u8], version: &Version<'_>) -> bool
 /// containers.
 pub(crate) fn does_replaces_entry_name_package(entry: &DepView<'_>, pkg: &PackageView<'_>) -> bool
     // The entry obeys the rules of a dependency.
-    requires entry { IsSoundDependency (dependency_value entry.now) }
+    requires entry { ObeysTextAndNumberRulesOfDependency (dependency_value entry.now) }
     // The version of `pkg` is valid.
     requires version { is_version (package_version_text (package_value pkg.now)) ≡ true }
     ensures { result ≡ does_replaces_entry_name_package (dependency_value entry.now)

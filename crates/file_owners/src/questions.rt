@@ -14,7 +14,7 @@ ghost use Rattle.adb_view.specs.declared.tables.Kind.TheVariants as Kinds;
 ghost use Rattle.adb_view.specs.declared.tables.Which.TheVariants as Tables;
 ghost use Rattle.path_claims.specs.adb_fields.Fields.{are_all_sound, array_at};
 ghost use Rattle.path_claims.specs.adb_fields.Repeated.{list_of};
-ghost use Rattle.db_core.specs.adb_schema.SoundValues.{IsSoundDependency};
+ghost use Rattle.db_core.specs.adb_schema.SoundValues.{ObeysTextAndNumberRulesOfDependency};
 ghost use Rattle.db_core.specs.Members.{Member, is_found_place};
 ghost use Rattle.db_core.specs.Seen.{members_of};
 ghost use Rattle.file_owners.specs.Questions.{AreSameQuestion, IsQuestionIn, question_names_package, question_names_if_any, with_question};
@@ -78,7 +78,7 @@ pub(crate) fn places_in<'a>(
     requires sound { are_all_sound (payload_of adb) (Kinds.Obj Tables.Dep) (array_entries entries)
         ≡ true }
     // The entries obey the rules of dependencies.
-    requires texts { Each IsSoundDependency (entries_in
+    requires texts { Each ObeysTextAndNumberRulesOfDependency (entries_in
         (array_at (payload_of adb) (Kinds.Obj Tables.Dep) (array_entries entries))) }
     // On Ok, the index y of a member m is in the result exactly if one of the entries names m.
     ensures { IfOk result (λ places. (y : ℕ) (m : Member)
@@ -106,7 +106,7 @@ fn questions_of<'a>(
     requires sound { are_all_sound (payload_of adb) (Kinds.Obj Tables.Dep) (array_entries entries)
         ≡ true }
     // The entries obey the rules of dependencies.
-    requires texts { Each IsSoundDependency (entries_in
+    requires texts { Each ObeysTextAndNumberRulesOfDependency (entries_in
         (array_at (payload_of adb) (Kinds.Obj Tables.Dep) (array_entries entries))) }
     // For each member, one of the questions about it has the answer yes exactly if one of the
     // entries names the member.
@@ -146,7 +146,7 @@ fn question_of(members: &Members<'_>, adb: Adb<'_>, entry: Val) -> Option<Questi
     // The word leads to a value with the shape of a dependency.
     requires sound { is_sound (payload_of adb) (Kinds.Obj Tables.Dep) entry ≡ true }
     // The entry obeys the rules of a dependency.
-    requires texts { IsSoundDependency (value_at (payload_of adb) (Kinds.Obj Tables.Dep) entry) }
+    requires texts { ObeysTextAndNumberRulesOfDependency (value_at (payload_of adb) (Kinds.Obj Tables.Dep) entry) }
     // For each member, there is a question about it whose answer is yes exactly if the entry names
     // the member.
     ensures asked { (y : ℕ) (m : Member) → slice_get (members_of members.now) y ≡ Some m

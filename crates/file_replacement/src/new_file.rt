@@ -5,7 +5,7 @@
 ghost use Rattle.std.specs.Prelude.{◌≡◌, ◌⊎◌, ◌≢◌, ◌≤◌, ◌++◌, [], ◌∷◌, ℕ, List, Some, length, IfOk, OnOk, IsErrOf};
 ghost use Rattle.base_core.specs.Calls.{HoldsNow, IfObservable};
 ghost use Rattle.base_core.specs.Crash.{Since};
-ghost use Rattle.base_core.specs.Faults.{CountsOnlyRise, IsFaultCountedWithCause, CountsNoNewFault};
+ghost use Rattle.base_core.specs.Faults.{CountsOnlyRise, CountsNewFaultWithCause, CountsNoNewFaultOrLackOfMemory};
 ghost use Rattle.base_core.specs.Tree.{TreeState, CanRename};
 ghost use Rattle.file_replacement.specs.Lengths.{most_replaceable_name_bytes};
 ghost use Rattle.file_replacement.specs.Pieces.{OnlyScratchHasChanged, IsNewFile};
@@ -82,9 +82,9 @@ impl<'a> NewFile<'a> {
         ensures goes_on { CountsOnlyRise (T.counts tree.old) (T.counts tree.new) }
         // An I/O error is returned only if a fault was counted.
         ensures disk { IsErrOf result TreeFault.Disk
-            → IsFaultCountedWithCause (T.counts tree.old) (T.counts tree.new) }
+            → CountsNewFaultWithCause (T.counts tree.old) (T.counts tree.new) }
         // Ok is returned only if no fault was counted.
-        ensures kept { OnOk result (CountsNoNewFault (T.counts tree.old) (T.counts tree.new)) }
+        ensures kept { OnOk result (CountsNoNewFaultOrLackOfMemory (T.counts tree.old) (T.counts tree.new)) }
 
         // No call is a misuse, if the scratch name can be added without one name being a folder of
         // another.

@@ -5,7 +5,7 @@ ghost use Rattle.std.specs.Prelude.{◌≡◌, ◌⊎◌, ◌≢◌, ◌≤◌, 
 ghost use Rattle.base_core.specs.Calls.{HoldsNow, IfObservable};
 ghost use Rattle.base_core.specs.Crash.{Since};
 ghost use Rattle.base_core.specs.Undone.{IsDurable};
-ghost use Rattle.base_core.specs.Faults.{CountsOnlyRise, IsFaultCountedWithCause, CountsNoNewFault};
+ghost use Rattle.base_core.specs.Faults.{CountsOnlyRise, CountsNewFaultWithCause, CountsNoNewFaultOrLackOfMemory};
 ghost use Rattle.base_core.specs.Tree.{files_of};
 ghost use Rattle.file_replacement.specs.Lengths.{most_replaceable_name_bytes};
 ghost use Rattle.journal_core.specs.Filling.{CanAddBothNames, IsNewFileDurablyMoved, IsNewFileReadyToMove};
@@ -94,9 +94,9 @@ pub fn replace<T: Tree>(
     ensures goes_on { CountsOnlyRise (T.counts tree.old) (T.counts tree.new) }
     // An I/O error is returned only if a fault was counted.
     ensures disk { IsErrOf result TreeFault.Disk
-        → IsFaultCountedWithCause (T.counts tree.old) (T.counts tree.new) }
+        → CountsNewFaultWithCause (T.counts tree.old) (T.counts tree.new) }
     // Ok is returned only if no fault was counted.
-    ensures kept { OnOk result (CountsNoNewFault (T.counts tree.old) (T.counts tree.new)) }
+    ensures kept { OnOk result (CountsNoNewFaultOrLackOfMemory (T.counts tree.old) (T.counts tree.new)) }
 
     // No call is a misuse, if the name and its scratch name can be added without one name being a
     // folder of another.
@@ -144,9 +144,9 @@ fn write_new<T: Tree>(
     ensures goes_on { CountsOnlyRise (T.counts tree.old) (T.counts tree.new) }
     // An I/O error is returned only if a fault was counted.
     ensures disk { IsErrOf result TreeFault.Disk
-        → IsFaultCountedWithCause (T.counts tree.old) (T.counts tree.new) }
+        → CountsNewFaultWithCause (T.counts tree.old) (T.counts tree.new) }
     // Ok is returned only if no fault was counted.
-    ensures kept { OnOk result (CountsNoNewFault (T.counts tree.old) (T.counts tree.new)) }
+    ensures kept { OnOk result (CountsNoNewFaultOrLackOfMemory (T.counts tree.old) (T.counts tree.new)) }
     // No call is a misuse, if both names can be added without one name being a folder of another.
     ensures proper { IfObservable (T.history tree.old) (λ v.
         CanAddBothNames (scratch_name_of name.now) name.now v

@@ -8,9 +8,9 @@ use Rattle.adb_view.specs.Shaped.{Each, HasShape, HaveShapes}
 use Rattle.adb_view.proofs.FoundShapes.{shape_null}
 use Rattle.base_core.specs.Lists.{and_then}
 use Rattle.base_core.proofs.AtName.{is_name}
-use Rattle.adb_dump.specs.Dump.{Line, int_line, text_line, hash_line, indent, lines_with_dash_before_first, entry_lines_or_null_line, array_lines, block_lines, named_line, name_line_above_indented_lines, named_lines, fields_lines, field_lines_unless_null}
+use Rattle.adb_dump.specs.Dump.{Line, int_or_null_line, text_or_null_line, hash_or_null_line, indent, lines_with_dash_before_first, entry_lines_or_null_line, array_lines, block_lines, named_line, name_line_above_indented_lines, named_lines, fields_lines, field_lines_unless_null}
 use Rattle.adb_dump.specs.Values.{IsOfBytes, AreOfBytes}
-use Rattle.adb_dump.specs.ReadBack.{ResultOrBadLine, mapped_or_bad_line_shifted_by, strip_prefix, block_and_lines_after, single_line_value, entry_read, entries_from_dash_line, entries_read_with_recursion_bound, array_unless_empty, object_unless_empty, fields_read_with_value_on_line, fields_read_with_value_below, value_if_printed_as_line, fields_read_by_name_match, block_read, named_read, fields_read, int_of_line_unchecked, text_of_line_unchecked, hash_of_line_unchecked}
+use Rattle.adb_dump.specs.ReadBack.{ResultOrBadLine, mapped_or_bad_line_shifted_by, strip_prefix, block_and_lines_after, single_line_value, entry_read, entries_from_dash_line, entries_read_with_recursion_bound, array_or_bad_line_if_empty, object_or_bad_line_if_empty, fields_read_with_value_on_line, fields_read_with_value_below, value_if_printed_as_line, fields_read_by_name_match, block_read, named_read, fields_read, int_of_line_of_unchecked_form, text_of_line_of_unchecked_form, hash_of_line_of_unchecked_form}
 use Rattle.adb_dump.proofs.Booleans.{chosen}
 use Rattle.adb_dump.proofs.ReadOnly.{block_only, Fits1, split_block_parts, strip_prefix_some, keeps, entry_lines_or_null_line-is}
 use Rattle.adb_dump.proofs.BlockLines.{no_lines}
@@ -190,9 +190,9 @@ form_zero form l (Some v) k e =
     ]
 
 line_zero : (s : Shape) (l : Line) (k : ℕ) → line_read s l ≡ no_value k → k ≡ 0
-line_zero number l k e = form_zero int_line l (int_of_line_unchecked l) k e
-line_zero text l k e = form_zero text_line l (text_of_line_unchecked l) k e
-line_zero hash l k e = form_zero hash_line l (hash_of_line_unchecked l) k e
+line_zero number l k e = form_zero int_or_null_line l (int_of_line_of_unchecked_form l) k e
+line_zero text l k e = form_zero text_or_null_line l (text_of_line_of_unchecked_form l) k e
+line_zero hash l k e = form_zero hash_or_null_line l (hash_of_line_of_unchecked_form l) k e
 line_zero (array s) l k e = sym (value_number 0 k e)
 line_zero (object which fs) l k e = sym (value_number 0 k e)
 
@@ -342,8 +342,8 @@ array_completed s h ls k e =
       | inr nothing ↦ at_first (array s) (array_sample s) ls k (zero_of nothing e)
     ]
   where
-    zero_of : entries_read_with_recursion_bound (block_read s) (length ls) ls ≡ Ok none → and_then (entries_read_with_recursion_bound (block_read s) (length ls) ls) array_unless_empty ≡ no_value k → k ≡ 0
-    zero_of nothing e = sym (value_number 0 k (sym (ap (λ (r : ResultOrBadLine Plains). and_then r array_unless_empty) nothing) ∙ e))
+    zero_of : entries_read_with_recursion_bound (block_read s) (length ls) ls ≡ Ok none → and_then (entries_read_with_recursion_bound (block_read s) (length ls) ls) array_or_bad_line_if_empty ≡ no_value k → k ≡ 0
+    zero_of nothing e = sym (value_number 0 k (sym (ap (λ (r : ResultOrBadLine Plains). and_then r array_or_bad_line_if_empty) nothing) ∙ e))
 
 -- ---- fields
 
@@ -483,23 +483,23 @@ below_completed name s fs h inner next l [] ls k here e = go (block_read s (bloc
         let (j, bad, count) = later (1 + length (block_and_lines_after ls).0) v (fields_read fs (block_and_lines_after ls).1) k e in
         below_passed name s fs h l [] ls k j v here refl is count (next (block_and_lines_after ls).1 j bad)
 
-number_fits : (l : Line) (v : Plain) → value_if_printed_as_line int_line l (int_of_line_unchecked l) ≡ Ok v → Fit number v
+number_fits : (l : Line) (v : Plain) → value_if_printed_as_line int_or_null_line l (int_of_line_of_unchecked_form l) ≡ Ok v → Fit number v
 unfolding block_read
 number_fits l v e = read_fit number (l ∷ []) v e
 
-text_fits : (l : Line) (v : Plain) → value_if_printed_as_line text_line l (text_of_line_unchecked l) ≡ Ok v → Fit text v
+text_fits : (l : Line) (v : Plain) → value_if_printed_as_line text_or_null_line l (text_of_line_of_unchecked_form l) ≡ Ok v → Fit text v
 unfolding block_read
 text_fits l v e = read_fit text (l ∷ []) v e
 
-hash_fits : (l : Line) (v : Plain) → value_if_printed_as_line hash_line l (hash_of_line_unchecked l) ≡ Ok v → Fit hash v
+hash_fits : (l : Line) (v : Plain) → value_if_printed_as_line hash_or_null_line l (hash_of_line_of_unchecked_form l) ≡ Ok v → Fit hash v
 unfolding block_read
 hash_fits l v e = read_fit hash (l ∷ []) v e
 
 named_completed : (name : List ℕ) (s : Shape) (fs : Fields) → Completes s → FieldsComplete fs → (l rest : Line) (ls : List Line) (k : ℕ) → NamedHere name l rest → named_read s (fields_read fs) ls rest ≡ no_values k → FieldsCompleted (field name s fs) (l ∷ ls) k
 unfolding named_read named_lines block_read block_lines
-named_completed name number fs h next = on_line_completed name number fs int_line int_of_line_unchecked (λ v. refl) number_fits next
-named_completed name text fs h next = on_line_completed name text fs text_line text_of_line_unchecked (λ v. refl) text_fits next
-named_completed name hash fs h next = on_line_completed name hash fs hash_line hash_of_line_unchecked (λ v. refl) hash_fits next
+named_completed name number fs h next = on_line_completed name number fs int_or_null_line int_of_line_of_unchecked_form (λ v. refl) number_fits next
+named_completed name text fs h next = on_line_completed name text fs text_or_null_line text_of_line_of_unchecked_form (λ v. refl) text_fits next
+named_completed name hash fs h next = on_line_completed name hash fs hash_or_null_line hash_of_line_of_unchecked_form (λ v. refl) hash_fits next
 named_completed name (array s) fs h next = below_completed name (array s) fs (λ v. refl) h next
 named_completed name (object which gs) fs h next = below_completed name (object which gs) fs (λ v. refl) h next
 
@@ -528,7 +528,7 @@ unfolding block_read block_lines
 object_completed which fs p h ls k e =
     elim (obj_bad (fields_read fs ls) k e) [
       | inl bad ↦ by_values (h ls k bad)
-      | inr nothing ↦ at_first (object which fs) p ls k (sym (value_number 0 k (sym (ap (λ (r : ResultOrBadLine Plains). and_then r object_unless_empty) nothing) ∙ e)))
+      | inr nothing ↦ at_first (object which fs) p ls k (sym (value_number 0 k (sym (ap (λ (r : ResultOrBadLine Plains). and_then r object_or_bad_line_if_empty) nothing) ∙ e)))
     ]
   where
     empty_front : (xs ys : List Line) → [] ≡ xs ++ ys → xs ≡ []

@@ -7,7 +7,7 @@ use Rattle.adb_values.specs.Drafts.{DraftState, draft_with, draft_with_all, draf
 use Rattle.base_core.specs.Lists.{and_then}
 use Rattle.adb_dump.specs.Dump.{Line}
 use Rattle.adb_dump.specs.Margin.{margin}
-use Rattle.adb_dump.specs.ReadBack.{ResultOrBadLine, mapped_or_bad_line_shifted_by, strip_prefix, end_block_or_add_line, block_and_lines_after, with_line_before_block, single_line_value, entry_read, entries_from_dash_line, entries_read_with_recursion_bound, array_unless_empty, object_unless_empty, fields_read_with_value_on_line, fields_read_with_value_below, fields_read_by_name_match, block_read, named_read, fields_read}
+use Rattle.adb_dump.specs.ReadBack.{ResultOrBadLine, mapped_or_bad_line_shifted_by, strip_prefix, end_block_or_add_line, block_and_lines_after, with_line_before_block, single_line_value, entry_read, entries_from_dash_line, entries_read_with_recursion_bound, array_or_bad_line_if_empty, object_or_bad_line_if_empty, fields_read_with_value_on_line, fields_read_with_value_below, fields_read_by_name_match, block_read, named_read, fields_read}
 use Rattle.adb_dump.proofs.Booleans.{chosen}
 use Rattle.adb_dump.proofs.ReadOnly.{FieldsOnly, fields_only, some_line as no_line}
 use Rattle.adb_dump.proofs.ValueBack.{strip_prefix-append}
@@ -248,15 +248,15 @@ some_entries f (l ∷ ls) line e = go (strip_prefix (codes "- ") l)
     go None e = absurd cc
     go (Some m) e = more_values (entry_read f m (block_and_lines_after ls).0) (1 + length (block_and_lines_after ls).0) (entries_read_with_recursion_bound f (length ls) (block_and_lines_after ls).1) e
 
-pub array_made : (f : List Line → ResultOrBadLine Plain) (ls : List Line) (line : Line) → Some line ≡ line_of_block ls → (vs : Plains) → entries_read_with_recursion_bound f (length ls) ls ≡ Ok vs → array_unless_empty vs ≡ Ok (array_or_null vs)
+pub array_made : (f : List Line → ResultOrBadLine Plain) (ls : List Line) (line : Line) → Some line ≡ line_of_block ls → (vs : Plains) → entries_read_with_recursion_bound f (length ls) ls ≡ Ok vs → array_or_bad_line_if_empty vs ≡ Ok (array_or_null vs)
 array_made f ls line e none is = absurd (some_entries f ls line e is)
 array_made f ls line e (more v vs) is = refl
 
-pub object_made : (fs : Fields) (ls : List Line) (line : Line) → Some line ≡ line_of_block ls → (vs : Plains) → fields_read fs ls ≡ Ok vs → object_unless_empty vs ≡ Ok (trimmed_object_or_null vs)
+pub object_made : (fs : Fields) (ls : List Line) (line : Line) → Some line ≡ line_of_block ls → (vs : Plains) → fields_read fs ls ≡ Ok vs → object_or_bad_line_if_empty vs ≡ Ok (trimmed_object_or_null vs)
 object_made fs [] line e vs is = absurd cc
 object_made fs (l ∷ ls) line e vs is = go vs (fields_only fs (l ∷ ls) vs is)
   where
-    go : (vs : Plains) → FieldsOnly fs (l ∷ ls) vs → object_unless_empty vs ≡ Ok (trimmed_object_or_null vs)
+    go : (vs : Plains) → FieldsOnly fs (l ∷ ls) vs → object_or_bad_line_if_empty vs ≡ Ok (trimmed_object_or_null vs)
     go none r = absurd (no_line fs l ls r.lines)
     go (more v vs) r = ap (λ (us : Plains). let x : ResultOrBadLine Plain = Ok (object_or_null us) in x) (sym r.trim)
 

@@ -8,13 +8,13 @@ use Rattle.adb_view.specs.Schema.{shape_of}
 use Rattle.adb_view.specs.declared.tables.Kind.TheVariants.{Obj}
 use Rattle.adb_view.specs.declared.tables.Which.{Which}
 use Rattle.adb_view.specs.declared.tables.Which.TheVariants.{Dep, Acl, PkgInfo, File, Dir, Scripts, Package, Index, Idb, Intent}
-use Rattle.adb_dump.specs.adb_schema.Soundness.{schema_word}
+use Rattle.adb_dump.specs.adb_schema.Soundness.{header_schema_if_root_table}
 use Rattle.base_core.specs.Lists.{and_then}
-use Rattle.adb_dump.specs.Dump.{Line, dump_lines, schema_line, value_lines}
-use Rattle.adb_dump.specs.ReadBack.{ResultOrBadLine, value_of_lines_after_first}
+use Rattle.adb_dump.specs.Dump.{Line, dump_lines, schema_line_or_empty_line, object_lines_by_table}
+use Rattle.adb_dump.specs.ReadBack.{ResultOrBadLine, value_of_lines_below_schema_line}
 use Rattle.adb_dump.proofs.ValueLaws.{read_back}
 use Rattle.gen_core.specs.Dumps.{AreDumpLines, BeginsADump, IsFirstBadDumpLine, IsNormalRootValueOfTable}
-use Rattle.gen_core.specs.Generated.{DumpedRoot, dumped_root, root_of_lines, root_of_lines_after_first, dumped_root_of_value_read, table_of_line, whole_lines_and_rest, unless_unfinished_line}
+use Rattle.gen_core.specs.Generated.{DumpedRoot, dumped_root, root_of_lines, root_of_lines_below_schema_line, dumped_root_of_value_read, table_of_line, whole_lines_and_rest, unless_unfinished_line}
 use Rattle.gen_core.proofs.Completed.{Completed, block_completed, has_samples}
 use Rattle.gen_core.proofs.Stable.{Agree, block_stable}
 use Rattle.gen_core.proofs.Texts.{AreLinesOf, NamesRoot, line_of_root, lines_are_read, lines_of_root, root_of_line}
@@ -34,11 +34,11 @@ table_samples Index = refl
 table_samples Idb = refl
 table_samples Intent = refl
 
-value_completed : (w : Which) (ls : List Line) (k : ℕ) → value_of_lines_after_first w ls ≡ Err k → Completed (shape_of (Obj w)) ls k
+value_completed : (w : Which) (ls : List Line) (k : ℕ) → value_of_lines_below_schema_line w ls ≡ Err k → Completed (shape_of (Obj w)) ls k
 value_completed w [] k e = absurd cc
 value_completed w (l ∷ ls) k e = block_completed (shape_of (Obj w)) (table_samples w) (l ∷ ls) k e
 
-value_stable : (w : Which) (xs ys : List Line) (k : ℕ) → value_of_lines_after_first w xs ≡ Err k → Agree (suc k) xs ys → value_of_lines_after_first w ys ≡ Err k
+value_stable : (w : Which) (xs ys : List Line) (k : ℕ) → value_of_lines_below_schema_line w xs ≡ Err k → Agree (suc k) xs ys → value_of_lines_below_schema_line w ys ≡ Err k
 value_stable w [] ys k e a = absurd a
 value_stable w (x ∷ xs) [] k e a = absurd a
 value_stable w (x ∷ xs) (y ∷ ys) k e a = block_stable (shape_of (Obj w)) (x ∷ xs) (y ∷ ys) k e a
@@ -61,7 +61,7 @@ tails x y xs ys e = cc
 
 -- the first line of a dump names its table
 first_line_of_dump : (d l : Line) (ls : List Line) (w : Which) (v : Plain) → IsNormalRootValueOfTable w v → dump_lines w v ≡ l ∷ ls → table_of_line l ≡ Some w
-first_line_of_dump d l ls w v is e = ap table_of_line (sym (heads (schema_line (schema_word w)) l (value_lines w v) ls e)) ∙ line_of_root w is.root
+first_line_of_dump d l ls w v is e = ap table_of_line (sym (heads (schema_line_or_empty_line (header_schema_if_root_table w)) l (object_lines_by_table w v) ls e)) ∙ line_of_root w is.root
 
 -- lines that are all lines of a dump are read
 dump_read : (ls : List Line) (n : ℕ) → AreDumpLines ls → root_of_lines ls ≢ Err n
@@ -74,13 +74,13 @@ no_dump l ls e b =
     absurd (let f = sym e ∙ named in cc)
 
 -- with the bad line no dump begins
-no_dump_with : (l : Line) (ls : List Line) (w : Which) (k : ℕ) → table_of_line l ≡ Some w → value_of_lines_after_first w ls ≡ Err k → suc k ≤ length ls → ¬ BeginsADump (l ∷ take (suc k) ls)
+no_dump_with : (l : Line) (ls : List Line) (w : Which) (k : ℕ) → table_of_line l ≡ Some w → value_of_lines_below_schema_line w ls ≡ Err k → suc k ≤ length ls → ¬ BeginsADump (l ∷ take (suc k) ls)
 no_dump_with l ls w k t e le b =
     let d = b.whole in
     let same : d.which ≡ w = some_same d.which w (sym (first_line_of_dump l l (take (suc k) ls ++ b.others) d.which d.value d.is d.lines_are) ∙ t) in
-    let lines : value_lines d.which d.value ≡ take (suc k) ls ++ b.others = tails (schema_line (schema_word d.which)) l (value_lines d.which d.value) (take (suc k) ls ++ b.others) d.lines_are in
-    let read : value_of_lines_after_first w (take (suc k) ls ++ b.others) ≡ Ok d.value = ap (λ (x : Which). value_of_lines_after_first x (take (suc k) ls ++ b.others)) (sym same) ∙ ap (value_of_lines_after_first d.which) (sym lines) ∙ read_back d.which d.value d.is.normal d.is.bytes in
-    let bad : value_of_lines_after_first w (take (suc k) ls ++ b.others) ≡ Err k = value_stable w ls (take (suc k) ls ++ b.others) k e (agree_front (suc k) ls b.others le) in
+    let lines : object_lines_by_table d.which d.value ≡ take (suc k) ls ++ b.others = tails (schema_line_or_empty_line (header_schema_if_root_table d.which)) l (object_lines_by_table d.which d.value) (take (suc k) ls ++ b.others) d.lines_are in
+    let read : value_of_lines_below_schema_line w (take (suc k) ls ++ b.others) ≡ Ok d.value = ap (λ (x : Which). value_of_lines_below_schema_line x (take (suc k) ls ++ b.others)) (sym same) ∙ ap (value_of_lines_below_schema_line d.which) (sym lines) ∙ read_back d.which d.value d.is.normal d.is.bytes in
+    let bad : value_of_lines_below_schema_line w (take (suc k) ls ++ b.others) ≡ Err k = value_stable w ls (take (suc k) ls ++ b.others) k e (agree_front (suc k) ls b.others le) in
     absurd (let f = sym read ∙ bad in cc)
 
 -- a dump begins with the lines before it
@@ -91,7 +91,7 @@ dump_before l ls w k names c = record {
     which = w;
     value = c.value;
     is = record { root = names.root; normal = (c.fit.normal, c.fit.shape); bytes = c.fit.bytes };
-    lines_are = ap (λ (x : Line). x ∷ value_lines w c.value) names.line ∙ ap (λ (x : List Line). l ∷ x) c.lines;
+    lines_are = ap (λ (x : Line). x ∷ object_lines_by_table w c.value) names.line ∙ ap (λ (x : List Line). l ∷ x) c.lines;
   };
 }
 
@@ -110,7 +110,7 @@ record FirstBad (ls : List Line) (n : ℕ) : Type 0 where
   before : n ≢ 1 → BeginsADump (take (n - 1) ls)
   bad : n ≤ length ls → ¬ BeginsADump (take n ls)
 
-at_value : (l : Line) (ls : List Line) (w : Which) (k : ℕ) → table_of_line l ≡ Some w → value_of_lines_after_first w ls ≡ Err k → FirstBad (l ∷ ls) (k + 2)
+at_value : (l : Line) (ls : List Line) (w : Which) (k : ℕ) → table_of_line l ≡ Some w → value_of_lines_below_schema_line w ls ≡ Err k → FirstBad (l ∷ ls) (k + 2)
 at_value l ls w k t e =
     let c = value_completed w ls k e in
     let one_less : k + 2 - 1 ≡ suc k = omega arith in
@@ -132,13 +132,13 @@ first_bad : (ls : List Line) (n : ℕ) → root_of_lines ls ≡ Err n → FirstB
 first_bad [] n e = subst (FirstBad []) (root_number 1 n e) at_nothing
 first_bad (l ∷ ls) n e = by_table (table_of_line l) refl e
   where
-    by_value : (w : Which) (r : ResultOrBadLine Plain) → table_of_line l ≡ Some w → value_of_lines_after_first w ls ≡ r → dumped_root_of_value_read w r ≡ bad_root n → FirstBad (l ∷ ls) n
+    by_value : (w : Which) (r : ResultOrBadLine Plain) → table_of_line l ≡ Some w → value_of_lines_below_schema_line w ls ≡ r → dumped_root_of_value_read w r ≡ bad_root n → FirstBad (l ∷ ls) n
     by_value w (Ok v) t is e = absurd cc
     by_value w (Err k) t is e = subst (FirstBad (l ∷ ls)) (root_number (k + 2) n e) (at_value l ls w k t is)
 
-    by_table : (o : Option Which) → table_of_line l ≡ o → root_of_lines_after_first o ls ≡ bad_root n → FirstBad (l ∷ ls) n
+    by_table : (o : Option Which) → table_of_line l ≡ o → root_of_lines_below_schema_line o ls ≡ bad_root n → FirstBad (l ∷ ls) n
     by_table None t e = subst (FirstBad (l ∷ ls)) (root_number 1 n e) (at_table l ls t)
-    by_table (Some w) t e = by_value w (value_of_lines_after_first w ls) t refl e
+    by_table (Some w) t e = by_value w (value_of_lines_below_schema_line w ls) t refl e
 
 whole_front : (ls : List Line) → take (length ls) ls ≡ ls
 whole_front [] = refl

@@ -11,7 +11,7 @@ use Rattle.base_core.specs.Lists.{and_then}
 use Rattle.adb_view.specs.declared.tables.Kind.{Kind}
 use Rattle.adb_view.specs.declared.tables.Kind.TheVariants.{Int, Text, Hash, Obj, TextArr, ObjArr}
 use Rattle.adb_dump.specs.Dump.{Line}
-use Rattle.adb_dump.specs.ReadBack.{ResultOrBadLine, array_unless_empty, entries_read_with_recursion_bound, fields_read, object_unless_empty, value_of_lines_after_first, single_line_value, fields_read_with_value_on_line, fields_read_with_value_below, block_read, named_read, block_and_lines_after, strip_prefix}
+use Rattle.adb_dump.specs.ReadBack.{ResultOrBadLine, array_or_bad_line_if_empty, entries_read_with_recursion_bound, fields_read, object_or_bad_line_if_empty, value_of_lines_below_schema_line, single_line_value, fields_read_with_value_on_line, fields_read_with_value_below, block_read, named_read, block_and_lines_after, strip_prefix}
 use Rattle.adb_dump.specs.Words.{has_one_line}
 use Rattle.gen_core.specs.Cursors.{CursorState, block_at, line_of_block}
 use Rattle.gen_core.specs.Reads.{block_taken, line_read}
@@ -23,19 +23,19 @@ number_line : HasOneLine number
 unfolding block_read
 number_line ls = refl
 
-text_line : HasOneLine text
+text_or_null_line : HasOneLine text
 unfolding block_read
-text_line ls = refl
+text_or_null_line ls = refl
 
-hash_line : HasOneLine hash
+hash_or_null_line : HasOneLine hash
 unfolding block_read
-hash_line ls = refl
+hash_or_null_line ls = refl
 
 pub one_line : (kind : Kind) → has_one_line kind ≡ true → HasOneLine (shape_of kind)
 unfolding shape_of
 one_line Int e = number_line
-one_line Text e = text_line
-one_line Hash e = hash_line
+one_line Text e = text_or_null_line
+one_line Hash e = hash_or_null_line
 one_line (Obj which) e = absurd cc
 one_line TextArr e = absurd cc
 one_line (ObjArr which) e = absurd cc
@@ -80,16 +80,16 @@ below_name (ObjArr which) e = array_below _
 
 -- ---- lists
 
-pub array_read : (s : Shape) (ls : List Line) → block_read (array s) ls ≡ and_then (entries_read_with_recursion_bound (block_read s) (length ls) ls) array_unless_empty
+pub array_read : (s : Shape) (ls : List Line) → block_read (array s) ls ≡ and_then (entries_read_with_recursion_bound (block_read s) (length ls) ls) array_or_bad_line_if_empty
 unfolding block_read
 array_read s ls = refl
 
-pub object_read : (which : ℕ) (fs : Fields) (ls : List Line) → block_read (object which fs) ls ≡ and_then (fields_read fs ls) object_unless_empty
+pub object_read : (which : ℕ) (fs : Fields) (ls : List Line) → block_read (object which fs) ls ≡ and_then (fields_read fs ls) object_or_bad_line_if_empty
 unfolding block_read
 object_read which fs ls = refl
 
 -- an object of a table
-pub table_read : (w : Which) (ls : List Line) → block_read (shape_of (Obj w)) ls ≡ and_then (fields_read (shapes_of (table w)) ls) object_unless_empty
+pub table_read : (w : Which) (ls : List Line) → block_read (shape_of (Obj w)) ls ≡ and_then (fields_read (shapes_of (table w)) ls) object_or_bad_line_if_empty
 table_read w ls = ap (λ (s : Shape). block_read s ls) (object_shape w) ∙ object_read (table_number w) (shapes_of (table w)) ls
 
 -- ---- one line by its kind
@@ -106,12 +106,12 @@ blob_read_as s b c l old new read ne same is = (blob b, read, is ∙ ap (λ (x :
 
 -- ---- the root
 
-pub root_block : (w : Which) (ls : List Line) (line : Line) → Some line ≡ line_of_block (block_at 0 ls).0 → value_of_lines_after_first w ls ≡ block_read (shape_of (Obj w)) (block_at 0 ls).0
+pub root_block : (w : Which) (ls : List Line) (line : Line) → Some line ≡ line_of_block (block_at 0 ls).0 → value_of_lines_below_schema_line w ls ≡ block_read (shape_of (Obj w)) (block_at 0 ls).0
 root_block w [] line e = absurd cc
 root_block w (l ∷ ls) line e = ap (λ (b : Split). block_read (shape_of (Obj w)) b.0) (sym (all_lines (l ∷ ls)))
 
 pub root_taken_as : (w : Which) (d : DraftState) (c : CursorState) (line : Line) → Some line ≡ line_of_block (block_at 0 c.lines).0
-    → block_taken (value_of_lines_after_first w c.lines) (c.lines, []) d c ≡ block_taken (block_read (shape_of (Obj w)) (block_at 0 c.lines).0) (block_at 0 c.lines) d c
+    → block_taken (value_of_lines_below_schema_line w c.lines) (c.lines, []) d c ≡ block_taken (block_read (shape_of (Obj w)) (block_at 0 c.lines).0) (block_at 0 c.lines) d c
 root_taken_as w d c line e =
     ap (λ (r : ResultOrBadLine Plain). block_taken r (c.lines, []) d c) (root_block w c.lines line e)
     ∙ ap (λ (b : Split). block_taken (block_read (shape_of (Obj w)) (block_at 0 c.lines).0) b d c) (sym (all_lines c.lines))

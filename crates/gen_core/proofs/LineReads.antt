@@ -8,8 +8,8 @@ use Rattle.std.proofs.lemmas.List.Concat.{flat_map-cons}
 use Rattle.hex.specs.Hex.{encode_with, encode_lower, lower_digits}
 use Rattle.base_core.proofs.AtName.{other_name}
 use Rattle.adb_view.specs.Plain.{Plain, int, blob, number, text, hash}
-use Rattle.adb_dump.specs.Dump.{Line, is_printable, begins_with_byte, needs_no_quotes, quoted_form_of_byte, bare_or_quoted_text, int_line, text_line, hash_line}
-use Rattle.adb_dump.specs.ReadBack.{ResultOrBadLine, hex_digit_value_unchecked, quoted_text_read_with_recursion_bound, bytes_of_hex_digits_unchecked, blob_unless_empty, int_of_line_unchecked, text_of_line_unchecked, hash_of_line_unchecked, value_if_printed_as_line}
+use Rattle.adb_dump.specs.Dump.{Line, is_printable, begins_with_byte, needs_no_quotes, quoted_form_of_byte, bare_or_quoted_text, int_or_null_line, text_or_null_line, hash_or_null_line}
+use Rattle.adb_dump.specs.ReadBack.{ResultOrBadLine, hex_digit_value_unchecked, quoted_text_read_with_recursion_bound, bytes_of_hex_digits_unchecked, blob_unless_empty, int_of_line_of_unchecked_form, text_of_line_of_unchecked_form, hash_of_line_of_unchecked_form, value_if_printed_as_line}
 use Rattle.adb_dump.proofs.Booleans.{chosen}
 use Rattle.adb_dump.proofs.LineBack.{AreBytes, int_back, text_back, hash_back, hex_digit_value_unchecked-digit, unquoted-escaped}
 use Rattle.adb_dump.proofs.ReadOnly.{made_blob_some}
@@ -27,7 +27,7 @@ number_not_read l other = go (ltb (digits_value 10 l) (2 ^ 64)) refl
     n : ℕ
     n = digits_value 10 l
 
-    go : (b : Bool) → ltb n (2 ^ 64) ≡ b → value_if_printed_as_line int_line l (cond b (Some (int n)) None) ≡ Err 0
+    go : (b : Bool) → ltb n (2 ^ 64) ≡ b → value_if_printed_as_line int_or_null_line l (cond b (Some (int n)) None) ≡ Err 0
     go false e = refl
     go true e = let f : bytes_eq (decimal n) l ≡ false = other_name (decimal n) l (other n (ltb-true n (2 ^ 64) e)) in rw f refl
 
@@ -117,14 +117,14 @@ then_some : (o : Option (List ℕ)) (c : List ℕ) → option_and_then blob_unle
 then_some None c e = absurd cc
 then_some (Some b) c e = ap Some (blob_some b c e)
 
-pub text_bytes : (b l : List ℕ) → text_of_line_unchecked l ≡ Some (blob b) → bare_or_quoted_text b ≡ l → AreBytes b
+pub text_bytes : (b l : List ℕ) → text_of_line_of_unchecked_form l ≡ Some (blob b) → bare_or_quoted_text b ≡ l → AreBytes b
 text_bytes b l r e = go (needs_no_quotes b) refl
   where
     go : (t : Bool) → needs_no_quotes b ≡ t → AreBytes b
     go true bare = bare_bytes b (and_parts _ _ (and_parts _ _ (and_parts _ _ (and_parts _ _ bare).0).0).0).0
     go false bare =
         let is : bare_or_quoted_text b ≡ 34 ∷ quoted_rest b = rw bare refl in
-        let read : text_of_line_unchecked (34 ∷ quoted_rest b) ≡ Some (blob b) = ap text_of_line_unchecked (sym is ∙ e) ∙ r in
+        let read : text_of_line_of_unchecked_form (34 ∷ quoted_rest b) ≡ Some (blob b) = ap text_of_line_of_unchecked_form (sym is ∙ e) ∙ r in
         quoted_bytes b (length (34 ∷ quoted_rest b)) (then_some _ b read)
 
 -- ---- texts and hashes
@@ -138,7 +138,7 @@ no_blob form l (Some v) line k h other =
     let f : bytes_eq (line v) l ≡ false = other_name (line v) l differ in
     rw f refl
 
-pub some_text : (l : Line) (v : Plain) → text_of_line_unchecked l ≡ Some v → (b : List ℕ) × (v ≡ blob b) × (b ≢ [])
+pub some_text : (l : Line) (v : Plain) → text_of_line_of_unchecked_form l ≡ Some v → (b : List ℕ) × (v ≡ blob b) × (b ≢ [])
 some_text l v e =
     elim (chosen (begins_with_byte 0x22 l) _ _ _ e) [
       | inl x ↦ quoted (quoted_text_read_with_recursion_bound (length l) (drop 1 l)) x.1
@@ -154,7 +154,7 @@ text_taken b l fits is = subst (λ (x : Line). line_read text x ≡ Ok (blob b))
 
 pub text_not_taken : (b : List ℕ) (l : Line) → IsFormOf bare_or_quoted_text false b l → line_read text l ≡ Err 0
 text_not_taken b l other =
-    no_blob bare_or_quoted_text l (text_of_line_unchecked l) text_line (λ b. refl)
+    no_blob bare_or_quoted_text l (text_of_line_of_unchecked_form l) text_or_null_line (λ b. refl)
     (λ v e. let (b, is, ne) = some_text l v e in (b, is, ne, text_bytes b l (e ∙ ap Some is))) other
 
 pub hash_taken : (b : List ℕ) (l : Line) → AreBytes b → IsFormOf encode_lower true b l → line_read hash l ≡ Ok (blob b)
@@ -162,5 +162,5 @@ hash_taken b l fits is = subst (λ (x : Line). line_read hash x ≡ Ok (blob b))
 
 pub hash_not_taken : (b : List ℕ) (l : Line) → IsFormOf encode_lower false b l → line_read hash l ≡ Err 0
 hash_not_taken b l other =
-    no_blob encode_lower l (hash_of_line_unchecked l) hash_line (λ b. refl)
+    no_blob encode_lower l (hash_of_line_of_unchecked_form l) hash_or_null_line (λ b. refl)
     (λ v e. let m = made_blob_some (bytes_of_hex_digits_unchecked l) v e in (bytes_of_hex_digits_unchecked l, m.0, m.1, λ f. hash_bytes (bytes_of_hex_digits_unchecked l) (ap bytes_of_hex_digits_unchecked f))) other

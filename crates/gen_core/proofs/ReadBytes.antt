@@ -5,9 +5,9 @@ use Rattle.std.specs.Str.Parse.{digits_value}
 use Rattle.adb_view.specs.Plain.{Plain, Plains, null, int, blob, arr, obj, none, more, Shape, number, text, hash, array, object, Fields, no_fields, field}
 use Rattle.base_core.specs.Lists.{and_then}
 use Rattle.base_core.proofs.AtName.{is_name}
-use Rattle.adb_dump.specs.Dump.{Line, int_line, text_line, hash_line}
+use Rattle.adb_dump.specs.Dump.{Line, int_or_null_line, text_or_null_line, hash_or_null_line}
 use Rattle.adb_dump.specs.Values.{IsOfBytes, AreOfBytes}
-use Rattle.adb_dump.specs.ReadBack.{ResultOrBadLine, mapped_or_bad_line_shifted_by, strip_prefix, block_and_lines_after, bytes_of_hex_digits_unchecked, single_line_value, entry_read, entries_from_dash_line, entries_read_with_recursion_bound, array_unless_empty, object_unless_empty, fields_read_with_value_on_line, fields_read_with_value_below, value_if_printed_as_line, fields_read_by_name_match, block_read, named_read, fields_read, int_of_line_unchecked, text_of_line_unchecked, hash_of_line_unchecked}
+use Rattle.adb_dump.specs.ReadBack.{ResultOrBadLine, mapped_or_bad_line_shifted_by, strip_prefix, block_and_lines_after, bytes_of_hex_digits_unchecked, single_line_value, entry_read, entries_from_dash_line, entries_read_with_recursion_bound, array_or_bad_line_if_empty, object_or_bad_line_if_empty, fields_read_with_value_on_line, fields_read_with_value_below, value_if_printed_as_line, fields_read_by_name_match, block_read, named_read, fields_read, int_of_line_of_unchecked_form, text_of_line_of_unchecked_form, hash_of_line_of_unchecked_form}
 use Rattle.adb_dump.proofs.Booleans.{chosen}
 use Rattle.adb_dump.proofs.ReadOnly.{if_form_ok, made_blob_some}
 use Rattle.gen_core.proofs.LineReads.{hash_bytes, some_text, text_bytes}
@@ -29,27 +29,27 @@ only_ok f (l ∷ m ∷ ls) v e = absurd (let (x, a, b) = bound (f l) (λ v. Err 
 
 -- ---- one line
 
-pub int_of_bytes : (l : Line) (v : Plain) → value_if_printed_as_line int_line l (int_of_line_unchecked l) ≡ Ok v → IsOfBytes v
+pub int_of_bytes : (l : Line) (v : Plain) → value_if_printed_as_line int_or_null_line l (int_of_line_of_unchecked_form l) ≡ Ok v → IsOfBytes v
 unfolding IsOfBytes
 int_of_bytes l v e =
-    elim (chosen (ltb (digits_value 10 l) (2 ^ 64)) _ _ _ (if_form_ok int_line l (int_of_line_unchecked l) v e).0) [
+    elim (chosen (ltb (digits_value 10 l) (2 ^ 64)) _ _ _ (if_form_ok int_or_null_line l (int_of_line_of_unchecked_form l) v e).0) [
       | inl x ↦ let is : int (digits_value 10 l) ≡ v = (let f = x.1 in cc) in subst IsOfBytes is tt
       | inr x ↦ absurd (let f = x.1 in cc)
     ]
 
-pub text_of_bytes : (l : Line) (v : Plain) → value_if_printed_as_line text_line l (text_of_line_unchecked l) ≡ Ok v → IsOfBytes v
+pub text_of_bytes : (l : Line) (v : Plain) → value_if_printed_as_line text_or_null_line l (text_of_line_of_unchecked_form l) ≡ Ok v → IsOfBytes v
 unfolding IsOfBytes
 text_of_bytes l v e =
-    let (read, form) = if_form_ok text_line l (text_of_line_unchecked l) v e in
+    let (read, form) = if_form_ok text_or_null_line l (text_of_line_of_unchecked_form l) v e in
     let (b, is, ne) = some_text l v read in
-    subst IsOfBytes (sym is) (text_bytes b l (read ∙ ap Some is) (ap text_line (sym is) ∙ form))
+    subst IsOfBytes (sym is) (text_bytes b l (read ∙ ap Some is) (ap text_or_null_line (sym is) ∙ form))
 
-pub hash_of_bytes : (l : Line) (v : Plain) → value_if_printed_as_line hash_line l (hash_of_line_unchecked l) ≡ Ok v → IsOfBytes v
+pub hash_of_bytes : (l : Line) (v : Plain) → value_if_printed_as_line hash_or_null_line l (hash_of_line_of_unchecked_form l) ≡ Ok v → IsOfBytes v
 unfolding IsOfBytes
 hash_of_bytes l v e =
-    let (read, form) = if_form_ok hash_line l (hash_of_line_unchecked l) v e in
+    let (read, form) = if_form_ok hash_or_null_line l (hash_of_line_of_unchecked_form l) v e in
     let m = made_blob_some (bytes_of_hex_digits_unchecked l) v read in
-    subst IsOfBytes (sym m.0) (hash_bytes (bytes_of_hex_digits_unchecked l) (ap bytes_of_hex_digits_unchecked (ap hash_line (sym m.0) ∙ form)))
+    subst IsOfBytes (sym m.0) (hash_bytes (bytes_of_hex_digits_unchecked l) (ap bytes_of_hex_digits_unchecked (ap hash_or_null_line (sym m.0) ∙ form)))
 
 -- ---- lists
 
@@ -78,12 +78,12 @@ entries_bytes f h (suc n) (l ∷ ls) vs e = go (strip_prefix (codes "- ") l) (en
         let (us, others, is) = read_after (1 + length (block_and_lines_after ls).0) (more v) (entries_read_with_recursion_bound f n (block_and_lines_after ls).1) vs a in
         subst AreOfBytes is (entry_bytes f h m (block_and_lines_after ls).0 v one, k us others)
 
-arr_bytes : (vs : Plains) (v : Plain) → AreOfBytes vs → array_unless_empty vs ≡ Ok v → IsOfBytes v
+arr_bytes : (vs : Plains) (v : Plain) → AreOfBytes vs → array_or_bad_line_if_empty vs ≡ Ok v → IsOfBytes v
 unfolding IsOfBytes
 arr_bytes none v b e = absurd cc
 arr_bytes (more u us) v b e = let same : arr (more u us) ≡ v = cc in subst IsOfBytes same b
 
-obj_bytes : (vs : Plains) (v : Plain) → AreOfBytes vs → object_unless_empty vs ≡ Ok v → IsOfBytes v
+obj_bytes : (vs : Plains) (v : Plain) → AreOfBytes vs → object_or_bad_line_if_empty vs ≡ Ok v → IsOfBytes v
 unfolding IsOfBytes
 obj_bytes none v b e = absurd cc
 obj_bytes (more u us) v b e = let same : obj (more u us) ≡ v = cc in subst IsOfBytes same b
@@ -91,7 +91,7 @@ obj_bytes (more u us) v b e = let same : obj (more u us) ≡ v = cc in subst IsO
 array_bytes : (s : Shape) → ReadsBytes (block_read s) → ReadsBytes (block_read (array s))
 unfolding block_read
 array_bytes s h ls v e =
-    let (vs, some, made) = bound (entries_read_with_recursion_bound (block_read s) (length ls) ls) array_unless_empty v e in
+    let (vs, some, made) = bound (entries_read_with_recursion_bound (block_read s) (length ls) ls) array_or_bad_line_if_empty v e in
     arr_bytes vs v (entries_bytes (block_read s) h (length ls) ls vs some) made
 
 -- fields that are read are of bytes
@@ -101,7 +101,7 @@ ReadsAllBytes f = (ls : List Line) (vs : Plains) → f ls ≡ Ok vs → AreOfByt
 object_bytes : (which : ℕ) (fs : Fields) → ReadsAllBytes (fields_read fs) → ReadsBytes (block_read (object which fs))
 unfolding block_read
 object_bytes which fs h ls v e =
-    let (vs, some, made) = bound (fields_read fs ls) object_unless_empty v e in
+    let (vs, some, made) = bound (fields_read fs ls) object_or_bad_line_if_empty v e in
     obj_bytes vs v (h ls vs some) made
 
 on_line_bytes : (g : Line → ResultOrBadLine Plain) (f : List Line → ResultOrBadLine Plains) → ((l : Line) (v : Plain) → g l ≡ Ok v → IsOfBytes v) → ReadsAllBytes f → (ls : List Line) (o : Option Line) (vs : Plains) → fields_read_with_value_on_line g f ls o ≡ Ok vs → AreOfBytes vs
@@ -123,9 +123,9 @@ below_bytes b f hb hf ls [] vs e =
 
 named_bytes : (s : Shape) (f : List Line → ResultOrBadLine Plains) → ReadsBytes (block_read s) → ReadsAllBytes f → (ls : List Line) (rest : Line) (vs : Plains) → named_read s f ls rest ≡ Ok vs → AreOfBytes vs
 unfolding named_read block_read
-named_bytes number f hb hf ls rest vs e = on_line_bytes (λ l. value_if_printed_as_line int_line l (int_of_line_unchecked l)) f int_of_bytes hf ls (strip_prefix (codes " ") rest) vs e
-named_bytes text f hb hf ls rest vs e = on_line_bytes (λ l. value_if_printed_as_line text_line l (text_of_line_unchecked l)) f text_of_bytes hf ls (strip_prefix (codes " ") rest) vs e
-named_bytes hash f hb hf ls rest vs e = on_line_bytes (λ l. value_if_printed_as_line hash_line l (hash_of_line_unchecked l)) f hash_of_bytes hf ls (strip_prefix (codes " ") rest) vs e
+named_bytes number f hb hf ls rest vs e = on_line_bytes (λ l. value_if_printed_as_line int_or_null_line l (int_of_line_of_unchecked_form l)) f int_of_bytes hf ls (strip_prefix (codes " ") rest) vs e
+named_bytes text f hb hf ls rest vs e = on_line_bytes (λ l. value_if_printed_as_line text_or_null_line l (text_of_line_of_unchecked_form l)) f text_of_bytes hf ls (strip_prefix (codes " ") rest) vs e
+named_bytes hash f hb hf ls rest vs e = on_line_bytes (λ l. value_if_printed_as_line hash_or_null_line l (hash_of_line_of_unchecked_form l)) f hash_of_bytes hf ls (strip_prefix (codes " ") rest) vs e
 named_bytes (array s) f hb hf ls rest vs e = below_bytes (block_read (array s)) f hb hf ls rest vs e
 named_bytes (object which fs) f hb hf ls rest vs e = below_bytes (block_read (object which fs)) f hb hf ls rest vs e
 
@@ -145,15 +145,15 @@ no_fields_bytes (l ∷ ls) vs e = absurd cc
 
 number_bytes : ReadsBytes (block_read number)
 unfolding block_read
-number_bytes ls v e = let (l, one) = only_ok (λ l. value_if_printed_as_line int_line l (int_of_line_unchecked l)) ls v e in int_of_bytes l v one
+number_bytes ls v e = let (l, one) = only_ok (λ l. value_if_printed_as_line int_or_null_line l (int_of_line_of_unchecked_form l)) ls v e in int_of_bytes l v one
 
 text_bytes_read : ReadsBytes (block_read text)
 unfolding block_read
-text_bytes_read ls v e = let (l, one) = only_ok (λ l. value_if_printed_as_line text_line l (text_of_line_unchecked l)) ls v e in text_of_bytes l v one
+text_bytes_read ls v e = let (l, one) = only_ok (λ l. value_if_printed_as_line text_or_null_line l (text_of_line_of_unchecked_form l)) ls v e in text_of_bytes l v one
 
 hash_bytes_read : ReadsBytes (block_read hash)
 unfolding block_read
-hash_bytes_read ls v e = let (l, one) = only_ok (λ l. value_if_printed_as_line hash_line l (hash_of_line_unchecked l)) ls v e in hash_of_bytes l v one
+hash_bytes_read ls v e = let (l, one) = only_ok (λ l. value_if_printed_as_line hash_or_null_line l (hash_of_line_of_unchecked_form l)) ls v e in hash_of_bytes l v one
 
 mutual
   pub block_bytes : (s : Shape) → ReadsBytes (block_read s)

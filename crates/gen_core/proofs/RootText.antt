@@ -4,15 +4,15 @@ use Rattle.adb_view.specs.Plain.{Plain}
 use Rattle.adb_view.specs.declared.tables.Which.{Which}
 use Rattle.base_core.specs.Lists.{and_then}
 use Rattle.adb_values.specs.Drafts.{DraftState, draft_with, empty_draft}
-use Rattle.adb_values.specs.adb_write.Canonical.{ByteAndValueCounts, payload_or_overflow}
+use Rattle.adb_values.specs.adb_write.Canonical.{ByteAndValueCounts, payload_or_counts_at_overflow}
 use Rattle.adb_values.specs.adb_write.File.{file_of}
 use Rattle.adb_values.specs.adb_write.declared.writer.WriteFault.{WriteFault}
 use Rattle.adb_values.specs.adb_write.declared.writer.WriteFault.TheVariants as WriteFaults
 use Rattle.adb_values.specs.Written.{IsWrittenAs}
 use Rattle.adb_dump.specs.Dump.{Line}
-use Rattle.adb_dump.specs.ReadBack.{ResultOrBadLine, value_of_lines_after_first}
+use Rattle.adb_dump.specs.ReadBack.{ResultOrBadLine, value_of_lines_below_schema_line}
 use Rattle.gen_core.specs.Cursors.{CursorState, cursor_after_line, cursor_from_parts}
-use Rattle.gen_core.specs.Generated.{DumpedRoot, IsGenFault, dumped_root, file_of_root, file_of_schema_and_payload_unless_too_large, generated_file, root_of_lines, root_of_lines_after_first, dumped_root_of_value_read, table_of_line, whole_lines_and_rest, unless_unfinished_line, schema_word_or_zero}
+use Rattle.gen_core.specs.Generated.{DumpedRoot, IsGenFault, dumped_root, file_of_root, file_of_schema_and_payload_unless_too_large, generated_file, root_of_lines, root_of_lines_below_schema_line, dumped_root_of_value_read, table_of_line, whole_lines_and_rest, unless_unfinished_line, schema_word_or_zero}
 use Rattle.gen_core.specs.Reads.{DraftOrBadLine, IsTextFault, block_taken, fault_of_writer, has_rest, table_and_draft_of_root, table_read}
 use Rattle.gen_core.specs.declared.generate.GenFault.{GenFault}
 use Rattle.gen_core.specs.declared.generate.GenFault.TheVariants.{Bad, TooLarge, Memory}
@@ -43,14 +43,14 @@ no_table t d e = go (whole_lines_and_rest t).0 refl e
   where
     go : (ls : List Line) → (whole_lines_and_rest t).0 ≡ ls → table_read ls ≡ None → table_and_draft_of_root (dumped_root t) d ≡ bad_root 1
     go [] is e = ap (λ (r : Result DumpedRoot ℕ). table_and_draft_of_root r d) (by_lines t [] (Err 1) is refl)
-    go (l ∷ ls) is e = ap (λ (r : Result DumpedRoot ℕ). table_and_draft_of_root r d) (by_lines t (l ∷ ls) (Err 1) is (ap (λ (o : Option Which). root_of_lines_after_first o ls) e))
+    go (l ∷ ls) is e = ap (λ (r : Result DumpedRoot ℕ). table_and_draft_of_root r d) (by_lines t (l ∷ ls) (Err 1) is (ap (λ (o : Option Which). root_of_lines_below_schema_line o ls) e))
 
 -- a text whose first line names a table
 record Opened (t : List ℕ) (which : Which) : Type 0 where
   first : Line
   lines : List Line
   is : (whole_lines_and_rest t).0 ≡ first ∷ lines
-  root : root_of_lines (first ∷ lines) ≡ dumped_root_of_value_read which (value_of_lines_after_first which lines)
+  root : root_of_lines (first ∷ lines) ≡ dumped_root_of_value_read which (value_of_lines_below_schema_line which lines)
   place : after_first t ≡ cursor_from_parts lines 2 0
 
 opened : (t : List ℕ) (which : Which) → table_read (whole_lines_and_rest t).0 ≡ Some which → Opened t which
@@ -62,21 +62,21 @@ opened t which e = go (whole_lines_and_rest t).0 refl e
       first = l;
       lines = ls;
       is = is;
-      root = ap (λ (o : Option Which). root_of_lines_after_first o ls) e;
+      root = ap (λ (o : Option Which). root_of_lines_below_schema_line o ls) e;
       place = ap (λ (x : List Line). cursor_after_line x (cursor_from_parts x 1 0)) is;
     }
 
 -- what is read after the first line
 abbrev pub rest_taken : List ℕ → Which → DraftState → DraftOrBadLine
-rest_taken t which d = block_taken (value_of_lines_after_first which (after_first t).lines) ((after_first t).lines, []) d (after_first t)
+rest_taken t which d = block_taken (value_of_lines_below_schema_line which (after_first t).lines) ((after_first t).lines, []) d (after_first t)
 
-here : (t : List ℕ) (which : Which) (d : DraftState) (o : Opened t which) → rest_taken t which d ≡ block_taken (value_of_lines_after_first which o.lines) (o.lines, []) d (cursor_from_parts o.lines 2 0)
-here t which d o = ap (λ (p : CursorState). block_taken (value_of_lines_after_first which p.lines) (p.lines, []) d p) o.place
+here : (t : List ℕ) (which : Which) (d : DraftState) (o : Opened t which) → rest_taken t which d ≡ block_taken (value_of_lines_below_schema_line which o.lines) (o.lines, []) d (cursor_from_parts o.lines 2 0)
+here t which d o = ap (λ (p : CursorState). block_taken (value_of_lines_below_schema_line which p.lines) (p.lines, []) d p) o.place
 
 pub bad_value : (t : List ℕ) (which : Which) (d : DraftState) (n : ℕ) → table_read (whole_lines_and_rest t).0 ≡ Some which → rest_taken t which d ≡ bad_at n → table_and_draft_of_root (dumped_root t) d ≡ bad_root n
-bad_value t which d n e bad = let o = opened t which e in go o (value_of_lines_after_first which o.lines) refl (sym (here t which d o) ∙ bad)
+bad_value t which d n e bad = let o = opened t which e in go o (value_of_lines_below_schema_line which o.lines) refl (sym (here t which d o) ∙ bad)
   where
-    go : (o : Opened t which) (r : ResultOrBadLine Plain) → value_of_lines_after_first which o.lines ≡ r → block_taken r (o.lines, []) d (cursor_from_parts o.lines 2 0) ≡ bad_at n → table_and_draft_of_root (dumped_root t) d ≡ bad_root n
+    go : (o : Opened t which) (r : ResultOrBadLine Plain) → value_of_lines_below_schema_line which o.lines ≡ r → block_taken r (o.lines, []) d (cursor_from_parts o.lines 2 0) ≡ bad_at n → table_and_draft_of_root (dumped_root t) d ≡ bad_root n
     go o (Ok v) is bad = absurd cc
     go o (Err k) is bad =
         let number : 2 + k ≡ n = same (2 + k) n bad in
@@ -94,9 +94,9 @@ record ValueRead (t : List ℕ) (which : Which) (d : DraftState) (later : Readin
   root : dumped_root t ≡ unless_unfinished_line (whole_lines_and_rest t).1 (length (whole_lines_and_rest t).0) (record { which = which; value = value })
 
 value_there : (t : List ℕ) (which : Which) (d : DraftState) (later : Reading) → table_read (whole_lines_and_rest t).0 ≡ Some which → rest_taken t which d ≡ Ok later → ValueRead t which d later
-value_there t which d later e ok = let o = opened t which e in go o (value_of_lines_after_first which o.lines) refl (sym (here t which d o) ∙ ok)
+value_there t which d later e ok = let o = opened t which e in go o (value_of_lines_below_schema_line which o.lines) refl (sym (here t which d o) ∙ ok)
   where
-    go : (o : Opened t which) (r : ResultOrBadLine Plain) → value_of_lines_after_first which o.lines ≡ r → block_taken r (o.lines, []) d (cursor_from_parts o.lines 2 0) ≡ Ok later → ValueRead t which d later
+    go : (o : Opened t which) (r : ResultOrBadLine Plain) → value_of_lines_below_schema_line which o.lines ≡ r → block_taken r (o.lines, []) d (cursor_from_parts o.lines 2 0) ≡ Ok later → ValueRead t which d later
     go o (Err k) is ok = absurd cc
     go o (Ok v) is ok =
         let both = one (draft_with v d, cursor_from_parts [] (2 + length o.lines) _) later ok in
@@ -141,7 +141,7 @@ gen_fault t d Memory e = tt
 pub record RootOf (t : List ℕ) (which : Which) (new : DraftState) : Type 0 where
   pub value : Plain
   pub draft : new ≡ draft_with value empty_draft
-  pub file : generated_file t ≡ file_of_schema_and_payload_unless_too_large (schema_word_or_zero which) (payload_or_overflow value)
+  pub file : generated_file t ≡ file_of_schema_and_payload_unless_too_large (schema_word_or_zero which) (payload_or_counts_at_overflow value)
 
 pub root_of_text : (t : List ℕ) (which : Which) (new : DraftState) → table_and_draft_of_root (dumped_root t) empty_draft ≡ Ok (which, new) → RootOf t which new
 unfolding generated_file
@@ -157,10 +157,10 @@ root_of_text t which new e = go (dumped_root t) refl e
         record {
           value = root.value;
           draft = sym (ap (λ (p : Which × DraftState). p.1) both);
-          file = ap file_of_root is ∙ ap (λ (w : Which). file_of_schema_and_payload_unless_too_large (schema_word_or_zero w) (payload_or_overflow root.value)) (ap (λ (p : Which × DraftState). p.0) both);
+          file = ap file_of_root is ∙ ap (λ (w : Which). file_of_schema_and_payload_unless_too_large (schema_word_or_zero w) (payload_or_counts_at_overflow root.value)) (ap (λ (p : Which × DraftState). p.0) both);
         }
 
 -- a payload that is not written
-pub writer_fault : (t : List ℕ) (which : Which) (new : DraftState) (fault : WriteFault) → RootOf t which new → ((v : Plain) → new ≡ draft_with v empty_draft → IsWrittenAs {A = List ℕ} (λ file. file) (Err fault) (payload_or_overflow v)) → IsGenFault (fault_of_writer fault) (generated_file t)
+pub writer_fault : (t : List ℕ) (which : Which) (new : DraftState) (fault : WriteFault) → RootOf t which new → ((v : Plain) → new ≡ draft_with v empty_draft → IsWrittenAs {A = List ℕ} (λ file. file) (Err fault) (payload_or_counts_at_overflow v)) → IsGenFault (fault_of_writer fault) (generated_file t)
 writer_fault t which new (WriteFaults.TooLarge bytes values) r h = r.file ∙ ap (file_of_schema_and_payload_unless_too_large (schema_word_or_zero which)) (h r.value r.draft)
 writer_fault t which new WriteFaults.Memory r h = tt

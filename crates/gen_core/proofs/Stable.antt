@@ -3,8 +3,8 @@ use Rattle.std.proofs.Common.{◌≡◌, ◌≢◌, ℕ, zero, suc, ◌+◌, ◌
 use Rattle.std.specs.Prelude.{codes, bytes_eq}
 use Rattle.adb_view.specs.Plain.{Plain, Plains, null, none, more, Shape, number, text, hash, array, object, Fields, no_fields, field}
 use Rattle.base_core.specs.Lists.{and_then}
-use Rattle.adb_dump.specs.Dump.{Line, fields_lines, int_line, text_line, hash_line}
-use Rattle.adb_dump.specs.ReadBack.{ResultOrBadLine, mapped_or_bad_line_shifted_by, strip_prefix, end_block_or_add_line, block_and_lines_after, single_line_value, entry_read, entries_from_dash_line, entries_read_with_recursion_bound, array_unless_empty, object_unless_empty, fields_read_with_value_on_line, fields_read_with_value_below, value_if_printed_as_line, fields_read_by_name_match, block_read, named_read, fields_read, int_of_line_unchecked, text_of_line_unchecked, hash_of_line_unchecked}
+use Rattle.adb_dump.specs.Dump.{Line, fields_lines, int_or_null_line, text_or_null_line, hash_or_null_line}
+use Rattle.adb_dump.specs.ReadBack.{ResultOrBadLine, mapped_or_bad_line_shifted_by, strip_prefix, end_block_or_add_line, block_and_lines_after, single_line_value, entry_read, entries_from_dash_line, entries_read_with_recursion_bound, array_or_bad_line_if_empty, object_or_bad_line_if_empty, fields_read_with_value_on_line, fields_read_with_value_below, value_if_printed_as_line, fields_read_by_name_match, block_read, named_read, fields_read, int_of_line_of_unchecked_form, text_of_line_of_unchecked_form, hash_of_line_of_unchecked_form}
 use Rattle.adb_dump.proofs.Booleans.{chosen}
 use Rattle.adb_dump.proofs.ReadOnly.{FieldsOnly, fields_only, some_line}
 use Rattle.gen_core.specs.Reads.{entry_block_read}
@@ -138,12 +138,12 @@ entries_stable f s (suc n) (suc m) (x ∷ xs) (y ∷ ys) k a b e agree =
 
 -- ---- whole lists
 
-pub arr_bad : (r : ResultOrBadLine Plains) (k : ℕ) → and_then r array_unless_empty ≡ no_value k → (r ≡ Err k) ⊎ (r ≡ Ok none)
+pub arr_bad : (r : ResultOrBadLine Plains) (k : ℕ) → and_then r array_or_bad_line_if_empty ≡ no_value k → (r ≡ Err k) ⊎ (r ≡ Ok none)
 arr_bad (Err j) k e = inl (ap no_values (value_number j k e))
 arr_bad (Ok none) k e = inr refl
 arr_bad (Ok (more v vs)) k e = absurd cc
 
-pub obj_bad : (r : ResultOrBadLine Plains) (k : ℕ) → and_then r object_unless_empty ≡ no_value k → (r ≡ Err k) ⊎ (r ≡ Ok none)
+pub obj_bad : (r : ResultOrBadLine Plains) (k : ℕ) → and_then r object_or_bad_line_if_empty ≡ no_value k → (r ≡ Err k) ⊎ (r ≡ Ok none)
 obj_bad (Err j) k e = inl (ap no_values (value_number j k e))
 obj_bad (Ok none) k e = inr refl
 obj_bad (Ok (more v vs)) k e = absurd cc
@@ -153,7 +153,7 @@ unfolding block_read
 array_stable s h [] ys k e a = absurd a
 array_stable s h (x ∷ xs) ys k e a =
     elim (arr_bad (entries_read_with_recursion_bound (block_read s) (length (x ∷ xs)) (x ∷ xs)) k e) [
-      | inl bad ↦ ap (λ (r : ResultOrBadLine Plains). and_then r array_unless_empty) (entries_stable (block_read s) h (length (x ∷ xs)) (length ys) (x ∷ xs) ys k (omega arith) (omega arith) bad a)
+      | inl bad ↦ ap (λ (r : ResultOrBadLine Plains). and_then r array_or_bad_line_if_empty) (entries_stable (block_read s) h (length (x ∷ xs)) (length ys) (x ∷ xs) ys k (omega arith) (omega arith) bad a)
       | inr nothing ↦ absurd (some_entries (block_read s) (x ∷ xs) x refl nothing)
     ]
 
@@ -165,7 +165,7 @@ unfolding block_read
 object_stable which fs h [] ys k e a = absurd a
 object_stable which fs h (x ∷ xs) ys k e a =
     elim (obj_bad (fields_read fs (x ∷ xs)) k e) [
-      | inl bad ↦ ap (λ (r : ResultOrBadLine Plains). and_then r object_unless_empty) (h (x ∷ xs) ys k bad a)
+      | inl bad ↦ ap (λ (r : ResultOrBadLine Plains). and_then r object_or_bad_line_if_empty) (h (x ∷ xs) ys k bad a)
       | inr nothing ↦ absurd (some_fields fs x xs nothing)
     ]
 
@@ -223,9 +223,9 @@ below_stable b f sb sf [] xs ys k a e = go (b r.0) refl e
 
 named_stable : (s : Shape) (f : List Line → ResultOrBadLine Plains) → IsStable (block_read s) → IsStable f → StableNamed (named_read s f)
 unfolding named_read block_read
-named_stable number f sb sf = on_line_stable (λ l. value_if_printed_as_line int_line l (int_of_line_unchecked l)) f sf
-named_stable text f sb sf = on_line_stable (λ l. value_if_printed_as_line text_line l (text_of_line_unchecked l)) f sf
-named_stable hash f sb sf = on_line_stable (λ l. value_if_printed_as_line hash_line l (hash_of_line_unchecked l)) f sf
+named_stable number f sb sf = on_line_stable (λ l. value_if_printed_as_line int_or_null_line l (int_of_line_of_unchecked_form l)) f sf
+named_stable text f sb sf = on_line_stable (λ l. value_if_printed_as_line text_or_null_line l (text_of_line_of_unchecked_form l)) f sf
+named_stable hash f sb sf = on_line_stable (λ l. value_if_printed_as_line hash_or_null_line l (hash_of_line_of_unchecked_form l)) f sf
 named_stable (array s) f sb sf = below_stable (block_read (array s)) f sb sf
 named_stable (object which fs) f sb sf = below_stable (block_read (object which fs)) f sb sf
 
@@ -250,15 +250,15 @@ no_fields_stable (x ∷ xs) (y ∷ ys) k e a = e
 
 number_stable : IsStable (block_read number)
 unfolding block_read
-number_stable = only_stable (λ l. value_if_printed_as_line int_line l (int_of_line_unchecked l))
+number_stable = only_stable (λ l. value_if_printed_as_line int_or_null_line l (int_of_line_of_unchecked_form l))
 
 text_stable : IsStable (block_read text)
 unfolding block_read
-text_stable = only_stable (λ l. value_if_printed_as_line text_line l (text_of_line_unchecked l))
+text_stable = only_stable (λ l. value_if_printed_as_line text_or_null_line l (text_of_line_of_unchecked_form l))
 
 hash_stable : IsStable (block_read hash)
 unfolding block_read
-hash_stable = only_stable (λ l. value_if_printed_as_line hash_line l (hash_of_line_unchecked l))
+hash_stable = only_stable (λ l. value_if_printed_as_line hash_or_null_line l (hash_of_line_of_unchecked_form l))
 
 mutual
   pub block_stable : (s : Shape) → IsStable (block_read s)

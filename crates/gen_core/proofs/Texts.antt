@@ -8,11 +8,11 @@ use Rattle.hex.specs.Hex.{encode_with}
 use Rattle.adb_view.specs.Plain.{Plain, null}
 use Rattle.adb_view.specs.declared.tables.Which.{Which}
 use Rattle.adb_view.specs.declared.tables.Which.TheVariants.{Dep, Acl, PkgInfo, File, Dir, Scripts, Package, Index, Idb, Intent}
-use Rattle.adb_dump.specs.adb_schema.Soundness.{schema_word}
+use Rattle.adb_dump.specs.adb_schema.Soundness.{header_schema_if_root_table}
 use Rattle.base_core.specs.Lists.{and_then}
 use Rattle.base_core.proofs.AtName.{is_name}
-use Rattle.adb_dump.specs.Dump.{Line, dump_lines, dump_text, schema_line, dump_text_of_lines, value_lines}
-use Rattle.adb_dump.specs.ReadBack.{ResultOrBadLine, add_char, lines_of_text_if_all_ended, value_of_lines_after_first}
+use Rattle.adb_dump.specs.Dump.{Line, dump_lines, dump_text, schema_line_or_empty_line, dump_text_of_lines, object_lines_by_table}
+use Rattle.adb_dump.specs.ReadBack.{ResultOrBadLine, add_char, lines_of_text_if_all_ended, value_of_lines_below_schema_line}
 use Rattle.adb_dump.specs.Values.{IsOfBytes, IsNormalValueOfTable}
 use Rattle.adb_dump.proofs.Booleans.{chosen}
 use Rattle.adb_dump.proofs.ValueLaws.{only_values, read_back, text_split}
@@ -21,7 +21,7 @@ use Rattle.adb_view.specs.Schema.{shape_of}
 use Rattle.adb_view.specs.declared.tables.Kind.TheVariants.{Obj}
 use Rattle.gen_core.specs.Dumps.{IsNormalRootValueOfTable}
 use Rattle.gen_core.proofs.ReadBytes.{block_bytes}
-use Rattle.gen_core.specs.Generated.{DumpedRoot, TextLines, dumped_root, root_of_lines, root_of_lines_after_first, dumped_root_of_value_read, root_tables, table_of_line, whole_lines_and_rest, unless_unfinished_line, lines_with_byte_in_front, lines_with_nonend_byte_in_front}
+use Rattle.gen_core.specs.Generated.{DumpedRoot, TextLines, dumped_root, root_of_lines, root_of_lines_below_schema_line, dumped_root_of_value_read, root_tables, table_of_line, whole_lines_and_rest, unless_unfinished_line, lines_with_byte_in_front, lines_with_nonend_byte_in_front}
 
 -- ---- lines and texts
 
@@ -68,7 +68,7 @@ whole_lines (c ∷ cs) ls e =
 -- ---- the tables of roots
 
 -- the first line of a root's dump names its table
-pub line_of_root : (w : Which) → IsSome (schema_word w) → table_of_line (schema_line (schema_word w)) ≡ Some w
+pub line_of_root : (w : Which) → IsSome (header_schema_if_root_table w) → table_of_line (schema_line_or_empty_line (header_schema_if_root_table w)) ≡ Some w
 unfolding encode_with
 line_of_root Dep some = absurd cc
 line_of_root Acl some = absurd cc
@@ -82,21 +82,21 @@ line_of_root Idb some = refl
 line_of_root Intent some = refl
 
 pub record NamesRoot (l : Line) (w : Which) : Type 0 where
-  pub root : IsSome (schema_word w)
-  pub line : schema_line (schema_word w) ≡ l
+  pub root : IsSome (header_schema_if_root_table w)
+  pub line : schema_line_or_empty_line (header_schema_if_root_table w) ≡ l
 
 pub root_of_line : (l : Line) (w : Which) → table_of_line l ≡ Some w → NamesRoot l w
 root_of_line l w e =
-    elim (chosen (bytes_eq l (schema_line (schema_word Package))) _ _ _ e) [
+    elim (chosen (bytes_eq l (schema_line_or_empty_line (header_schema_if_root_table Package))) _ _ _ e) [
       | inl x ↦ named Package refl x.0 x.1
       | inr x ↦
-          elim (chosen (bytes_eq l (schema_line (schema_word Index))) _ _ _ x.1) [
+          elim (chosen (bytes_eq l (schema_line_or_empty_line (header_schema_if_root_table Index))) _ _ _ x.1) [
             | inl y ↦ named Index refl y.0 y.1
             | inr y ↦
-                elim (chosen (bytes_eq l (schema_line (schema_word Idb))) _ _ _ y.1) [
+                elim (chosen (bytes_eq l (schema_line_or_empty_line (header_schema_if_root_table Idb))) _ _ _ y.1) [
                   | inl z ↦ named Idb refl z.0 z.1
                   | inr z ↦
-                      elim (chosen (bytes_eq l (schema_line (schema_word Intent))) _ _ _ z.1) [
+                      elim (chosen (bytes_eq l (schema_line_or_empty_line (header_schema_if_root_table Intent))) _ _ _ z.1) [
                         | inl u ↦ named Intent refl u.0 u.1
                         | inr u ↦ absurd (let f = u.1 in cc)
                       ]
@@ -104,10 +104,10 @@ root_of_line l w e =
           ]
     ]
   where
-    named : (r : Which) → IsSome (schema_word r) → bytes_eq l (schema_line (schema_word r)) ≡ true → Some r ≡ Some w → NamesRoot l w
+    named : (r : Which) → IsSome (header_schema_if_root_table r) → bytes_eq l (schema_line_or_empty_line (header_schema_if_root_table r)) ≡ true → Some r ≡ Some w → NamesRoot l w
     named r some t e =
         let same : r ≡ w = cc in
-        subst (λ (x : Which). NamesRoot l x) same (record { root = some; line = sym (is_name l (schema_line (schema_word r)) t) })
+        subst (λ (x : Which). NamesRoot l x) same (record { root = some; line = sym (is_name l (schema_line_or_empty_line (header_schema_if_root_table r)) t) })
 
 -- ---- the root of a text
 
@@ -118,7 +118,7 @@ split_same t ls e = ap (λ (x : TextLines). and_then (root_of_lines x.0) (unless
 -- each dump is read as the root that it is of
 pub lines_are_read : (w : Which) (v : Plain) → IsNormalRootValueOfTable w v → root_of_lines (dump_lines w v) ≡ Ok (record { which = w; value = v })
 lines_are_read w v is =
-    ap (λ (o : Option Which). root_of_lines_after_first o (value_lines w v)) (line_of_root w is.root) ∙ ap (dumped_root_of_value_read w) (read_back w v is.normal is.bytes)
+    ap (λ (o : Option Which). root_of_lines_below_schema_line o (object_lines_by_table w v)) (line_of_root w is.root) ∙ ap (dumped_root_of_value_read w) (read_back w v is.normal is.bytes)
 
 pub dump_is_read : (w : Which) (v : Plain) → IsNormalRootValueOfTable w v → dumped_root (dump_text w v) ≡ Ok (record { which = w; value = v })
 dump_is_read w v is =
@@ -127,7 +127,7 @@ dump_is_read w v is =
     ∙ ap (λ (r : Result DumpedRoot ℕ). and_then r (unless_unfinished_line [] (length (dump_lines w v)))) (lines_are_read w v is)
 
 -- a value that is read is of bytes
-value_bytes : (w : Which) (ls : List Line) (v : Plain) → value_of_lines_after_first w ls ≡ Ok v → IsOfBytes v
+value_bytes : (w : Which) (ls : List Line) (v : Plain) → value_of_lines_below_schema_line w ls ≡ Ok v → IsOfBytes v
 unfolding IsOfBytes
 value_bytes w [] v e = let same : null ≡ v = cc in subst IsOfBytes same tt
 value_bytes w (l ∷ ls) v e = block_bytes (shape_of (Obj w)) (l ∷ ls) v e
@@ -143,19 +143,19 @@ ok_root r = Ok r
 same_root : (p q : DumpedRoot) → ok_root p ≡ ok_root q → p ≡ q
 same_root p q e = cc
 
-value_lines_of : (l : Line) (ls : List Line) (w : Which) (r : ResultOrBadLine Plain) (root : DumpedRoot) → table_of_line l ≡ Some w → value_of_lines_after_first w ls ≡ r → dumped_root_of_value_read w r ≡ Ok root → AreLinesOf (l ∷ ls) root
+value_lines_of : (l : Line) (ls : List Line) (w : Which) (r : ResultOrBadLine Plain) (root : DumpedRoot) → table_of_line l ≡ Some w → value_of_lines_below_schema_line w ls ≡ r → dumped_root_of_value_read w r ≡ Ok root → AreLinesOf (l ∷ ls) root
 value_lines_of l ls w (Err k) root t e ok = absurd cc
 value_lines_of l ls w (Ok v) root t e ok =
     let names = root_of_line l w t in
     let only = only_values w ls v e in
     subst (AreLinesOf (l ∷ ls)) (same_root (record { which = w; value = v }) root ok) (record {
       is = record { root = names.root; normal = only.1; bytes = value_bytes w ls v e };
-      lines = ap (λ (x : Line). x ∷ value_lines w v) names.line ∙ ap (λ (x : List Line). l ∷ x) only.0;
+      lines = ap (λ (x : Line). x ∷ object_lines_by_table w v) names.line ∙ ap (λ (x : List Line). l ∷ x) only.0;
     })
 
-table_lines_of : (l : Line) (ls : List Line) (o : Option Which) (root : DumpedRoot) → table_of_line l ≡ o → root_of_lines_after_first o ls ≡ Ok root → AreLinesOf (l ∷ ls) root
+table_lines_of : (l : Line) (ls : List Line) (o : Option Which) (root : DumpedRoot) → table_of_line l ≡ o → root_of_lines_below_schema_line o ls ≡ Ok root → AreLinesOf (l ∷ ls) root
 table_lines_of l ls None root t ok = absurd cc
-table_lines_of l ls (Some w) root t ok = value_lines_of l ls w (value_of_lines_after_first w ls) root t refl ok
+table_lines_of l ls (Some w) root t ok = value_lines_of l ls w (value_of_lines_below_schema_line w ls) root t refl ok
 
 pub lines_of_root : (ls : List Line) (root : DumpedRoot) → root_of_lines ls ≡ Ok root → AreLinesOf ls root
 lines_of_root [] root ok = absurd cc

@@ -4,7 +4,7 @@
 use Rattle.std.specs.Prelude.{◌≡◌, ◌≢◌, ℕ, ◌+◌, ◌-◌, ◌≤◌, ◌⊎◌, List, [], ◌++◌, length, take, IsSome}
 use Rattle.adb_view.specs.Plain.{Plain}
 use Rattle.adb_view.specs.declared.tables.Which.{Which}
-use Rattle.adb_dump.specs.adb_schema.Soundness.{schema_word}
+use Rattle.adb_dump.specs.adb_schema.Soundness.{header_schema_if_root_table}
 use Rattle.adb_dump.specs.Dump.{Line, dump_lines}
 use Rattle.adb_dump.specs.Values.{IsOfBytes, IsNormalValueOfTable}
 use Rattle.gen_core.specs.Generated.{whole_lines_and_rest}
@@ -12,7 +12,7 @@ use Rattle.gen_core.specs.Generated.{whole_lines_and_rest}
 -- a value of a root: a normal one of bytes, of one of the four tables that a root may have
 pub record IsNormalRootValueOfTable (which : Which) (value : Plain) : Type 0 where
   -- the table is that of a root
-  pub root : IsSome (schema_word which)
+  pub root : IsSome (header_schema_if_root_table which)
   -- the value is a normal one of the table
   pub normal : IsNormalValueOfTable which value
   -- the value is of bytes

@@ -6,11 +6,11 @@ use Rattle.base_core.specs.Lists.{and_then}
 use Rattle.adb_view.specs.Plain.{Plain}
 use Rattle.adb_view.specs.declared.tables.Which.{Which}
 use Rattle.adb_view.specs.declared.tables.Which.TheVariants.{Package, Index, Idb, Intent}
-use Rattle.adb_dump.specs.adb_schema.Soundness.{schema_word}
-use Rattle.adb_values.specs.adb_write.Canonical.{ByteAndValueCounts, payload_or_overflow}
+use Rattle.adb_dump.specs.adb_schema.Soundness.{header_schema_if_root_table}
+use Rattle.adb_values.specs.adb_write.Canonical.{ByteAndValueCounts, payload_or_counts_at_overflow}
 use Rattle.adb_values.specs.adb_write.File.{file_of}
-use Rattle.adb_dump.specs.Dump.{Line, schema_line}
-use Rattle.adb_dump.specs.ReadBack.{ResultOrBadLine, value_of_lines_after_first}
+use Rattle.adb_dump.specs.Dump.{Line, schema_line_or_empty_line}
+use Rattle.adb_dump.specs.ReadBack.{ResultOrBadLine, value_of_lines_below_schema_line}
 use Rattle.gen_core.specs.declared.generate.GenFault.{GenFault}
 use Rattle.gen_core.specs.declared.generate.GenFault.TheVariants.{Bad, TooLarge, Memory}
 
@@ -51,7 +51,7 @@ root_tables = Package ∷ Index ∷ Idb ∷ Intent ∷ []
 
 -- the table of the root whose schema a first line names; None if it names none of the four
 abbrev pub table_of_line : Line → Option Which
-table_of_line l = find (λ which. bytes_eq l (schema_line (schema_word which))) root_tables
+table_of_line l = find (λ which. bytes_eq l (schema_line_or_empty_line (header_schema_if_root_table which))) root_tables
 
 -- the root with the value that was read from the lines after the first; or the number of a bad line.
 -- That number counts from 0 after the first line; the result counts all lines from 1, so it is greater
@@ -62,16 +62,16 @@ dumped_root_of_value_read which (Err k) = Err (k + 2)
 
 -- the root that is read from the lines after the first (`ls`), as an object of the table that the
 -- first line names. Without a table line 1 is bad
-abbrev pub root_of_lines_after_first : Option Which → List Line → Result DumpedRoot ℕ
-root_of_lines_after_first None ls = Err 1
-root_of_lines_after_first (Some which) ls =
-    dumped_root_of_value_read which (value_of_lines_after_first which ls)
+abbrev pub root_of_lines_below_schema_line : Option Which → List Line → Result DumpedRoot ℕ
+root_of_lines_below_schema_line None ls = Err 1
+root_of_lines_below_schema_line (Some which) ls =
+    dumped_root_of_value_read which (value_of_lines_below_schema_line which ls)
 
 -- the root that is read from some lines, or the number of the first bad line, counted from 1; without
 -- any line, line 1 is bad
 abbrev pub root_of_lines : List Line → Result DumpedRoot ℕ
 root_of_lines [] = Err 1
-root_of_lines (l ∷ ls) = root_of_lines_after_first (table_of_line l) ls
+root_of_lines (l ∷ ls) = root_of_lines_below_schema_line (table_of_line l) ls
 
 -- the root, unless bytes follow the last line end. These are a bad line, whose number is one more than
 -- the number of whole lines (`lines`)
@@ -89,7 +89,7 @@ dumped_root text = let lines = whole_lines_and_rest text in
 
 -- the schema in the header of a container with this root; 0 for a table that is no root
 abbrev pub schema_word_or_zero : Which → ℕ
-schema_word_or_zero which = unwrap_or (schema_word which) 0
+schema_word_or_zero which = unwrap_or (header_schema_if_root_table which) 0
 
 -- the container with the schema `word` and this payload, or the counts of a payload that is too large
 abbrev pub file_of_schema_and_payload_unless_too_large :
@@ -101,7 +101,7 @@ file_of_schema_and_payload_unless_too_large word (Err counts) = Err (TooLarge co
 abbrev pub file_of_root : Result DumpedRoot ℕ → Result (List ℕ) GenFault
 file_of_root (Ok root) =
     file_of_schema_and_payload_unless_too_large (schema_word_or_zero root.which)
-    (payload_or_overflow root.value)
+    (payload_or_counts_at_overflow root.value)
 file_of_root (Err line) = Err (Bad line)
 
 -- the container that is generated from a dump text; or what is reported: the first bad line, else the

@@ -7,8 +7,8 @@ use Rattle.adb_view.specs.Plain.{Plain, Plains, Shape, number, text, hash, array
 use Rattle.adb_values.specs.adb_write.declared.writer.WriteFault.{WriteFault}
 use Rattle.adb_values.specs.adb_write.declared.writer.WriteFault.TheVariants as WriteFaults
 use Rattle.adb_values.specs.Drafts.{DraftState, draft_with, draft_with_all}
-use Rattle.adb_dump.specs.Dump.{Line, int_line, text_line, hash_line}
-use Rattle.adb_dump.specs.ReadBack.{ResultOrBadLine, entry_read, value_if_printed_as_line, int_of_line_unchecked, text_of_line_unchecked, hash_of_line_unchecked}
+use Rattle.adb_dump.specs.Dump.{Line, int_or_null_line, text_or_null_line, hash_or_null_line}
+use Rattle.adb_dump.specs.ReadBack.{ResultOrBadLine, entry_read, value_if_printed_as_line, int_of_line_of_unchecked_form, text_of_line_of_unchecked_form, hash_of_line_of_unchecked_form}
 use Rattle.gen_core.specs.Cursors.{CursorState, cursor_after_block, cursor_after_line}
 use Rattle.adb_view.specs.declared.tables.Which.{Which}
 use Rattle.gen_core.specs.Generated.{DumpedRoot, table_of_line}
@@ -26,9 +26,9 @@ IsFormOf form false bytes l =
 
 -- the value of a shape that has this line; for a shape of several lines, the line is bad
 abbrev pub line_read : Shape → Line → ResultOrBadLine Plain
-line_read number l = value_if_printed_as_line int_line l (int_of_line_unchecked l)
-line_read text l = value_if_printed_as_line text_line l (text_of_line_unchecked l)
-line_read hash l = value_if_printed_as_line hash_line l (hash_of_line_unchecked l)
+line_read number l = value_if_printed_as_line int_or_null_line l (int_of_line_of_unchecked_form l)
+line_read text l = value_if_printed_as_line text_or_null_line l (text_of_line_of_unchecked_form l)
+line_read hash l = value_if_printed_as_line hash_or_null_line l (hash_of_line_of_unchecked_form l)
 line_read (array s) l = Err 0
 line_read (object schema fs) l = Err 0
 

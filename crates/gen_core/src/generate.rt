@@ -9,7 +9,7 @@ ghost use Rattle.gen_core.specs.Reads.{IsTextFault, fault_of_writer, has_rest, t
 
 use crate::cursor::Cursor;
 use crate::read::read_root;
-use adb_dump::{Which, schema_word};
+use adb_dump::{Which, header_schema_if_root_table};
 use adb_values::{Draft, WriteFault, file_of};
 use std::alloc::{AllocError, Global};
 use thiserror::Error;
@@ -133,7 +133,7 @@ fn table_of_line(line: &[u8]) -> Option<Which>
 fn schema_word_or_zero(which: Which) -> u32
     ensures { result ≡ schema_word_or_zero which }
 {
-    schema_word(which).unwrap_or(0)
+    header_schema_if_root_table(which).unwrap_or(0)
 }
 
 /// Why no container is generated from a text.

@@ -11,7 +11,7 @@ ghost use Rattle.adb_view.specs.Rank.{rank, rank_of_all};
 ghost use Rattle.adb_view.specs.declared.tables.Kind.TheVariants as Kinds;
 ghost use Rattle.adb_dump.specs.Dump.{Line};
 ghost use Rattle.adb_dump.specs.Margin.{DEPTH_LIMIT};
-ghost use Rattle.adb_dump.specs.ReadBack.{ResultOrBadLine, block_read, entries_read_with_recursion_bound, fields_read, named_read, strip_prefix, value_of_lines_after_first};
+ghost use Rattle.adb_dump.specs.ReadBack.{ResultOrBadLine, block_read, entries_read_with_recursion_bound, fields_read, named_read, strip_prefix, value_of_lines_below_schema_line};
 ghost use Rattle.adb_dump.specs.Words.{has_one_line};
 ghost use Rattle.gen_core.specs.Cursors.{block_at, line_of_block};
 ghost use Rattle.gen_core.specs.Reads.{IsLineRead, IsTextFault, block_taken, end_or_bad_line, entry_block_read, is_null_line, line_read, draft_and_cursor_after_line, values_taken};
@@ -34,12 +34,12 @@ pub(crate) fn read_root(
     // No indentation of the current line was read yet.
     requires { cursor.old.levels ≡ 0 }
     // On Ok, the draft gets the value of the root, and all lines are read.
-    ensures ok { OnOk result (block_taken (value_of_lines_after_first which cursor.old.lines)
+    ensures ok { OnOk result (block_taken (value_of_lines_below_schema_line which cursor.old.lines)
         (cursor.old.lines, [])
         draft.old cursor.old ≡ Ok (draft.new, cursor.new)) }
     // An error is the first bad line, or out of memory.
     ensures err { IfErr result (λ fault. IsTextFault fault (block_taken
-        (value_of_lines_after_first which cursor.old.lines)
+        (value_of_lines_below_schema_line which cursor.old.lines)
         (cursor.old.lines, []) draft.old cursor.old)) }
 {
     let Some(_line) = cursor.at_depth(0) else {

@@ -6,7 +6,7 @@ use Rattle.run_lists.specs.apk_front.Answers.{IsAnswerOfSomeOutcomeOrFailure, Le
 use Rattle.run_lists.specs.apk_front.Moments.{IsOkRefusedOrOutputFault, IsDurableAndLeavesFiles, MustOutcomeBeDurable}
 use Rattle.base_core.specs.Calls.{HoldsNow}
 use Rattle.base_core.specs.Undone.{IsDurable, IsCrashImage}
-use Rattle.base_core.specs.Faults.{IsFaultCountedWithCause}
+use Rattle.base_core.specs.Faults.{CountsNewFaultWithCause}
 use Rattle.base_core.specs.Files.{Files}
 use Rattle.base_core.specs.Tree.{TreeState, files_of}
 use Rattle.command_core.specs.Command.{CommandLine}
@@ -86,7 +86,7 @@ pub record IsAsPromised (ignored : List ℕ → Bool) (v : TreeState) (run : Run
   -- The answer, the printed bytes and the files left are the outcome's; or the run reports a fault of
   -- the tree or of an output stream, with its cause, or that it is out of memory.
   pub answer : IsAnswerOfSomeOutcomeOrFailure (IsOutcomeFrom v run) (LeavesFiles run.now)
-      (IsFaultCountedWithCause run.before run.after) run.answer run.out run.err
+      (CountsNewFaultWithCause run.before run.after) run.answer run.out run.err
   -- A run that changes the installed packages ends in one of the stated ways (*EndsInTrueRefusalOrFirstSelection*).
   pub change : (command : CommandLine) (o : Outcome) → command_of run.words ≡ Ok command
       → effect_of command.applet ≡ Changes → IsOutcomeFrom v run o

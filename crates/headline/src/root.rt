@@ -4,9 +4,9 @@ ghost use Rattle.std.specs.Prelude.{◌≡◌, IsTrue};
 ghost use Rattle.run_lists.specs.apk_front.Answers.{is_applet_help_or_version_named, AnswerTellsWhetherTreeOrSinkFailed, IsAnswerOfSomeOutcomeOrFailure, AnswersOutcomeUnlessMemory, IsFaultless, IsAnsweredInFullUnlessMemory, HasNoPlannedFailureAndCanCountMisuse, LeavesAnyFiles, LeavesFiles};
 ghost use Rattle.run_lists.specs.apk_front.Moments.{EachRecoveryChangesOnlyAcceptedNames, AreRunPathsOfCommandLineFree};
 ghost use Rattle.base_core.specs.Calls.{IfObservable};
-ghost use Rattle.base_core.specs.Faults.{CountsOnlyRise, IsFaultCountedWithCause};
+ghost use Rattle.base_core.specs.Faults.{CountsOnlyRise, CountsNewFaultWithCause};
 ghost use Rattle.base_core.specs.Files.{no_names};
-ghost use Rattle.base_core.specs.Sink.{sink_before_and_after, IsUseWithoutMisuse};
+ghost use Rattle.base_core.specs.Sink.{sink_before_and_after, SinkCountsOnlyRiseWithoutMisuse};
 ghost use Rattle.base_core.specs.Tree.{files_of};
 ghost use Rattle.headline.specs.Sentence.{IsAsPromisedAfterAnyEvents};
 ghost use Rattle.refusal_laws.specs.outcome.Effect.{Changes, effect_of_arguments, do_arguments_neither_recover_nor_write, depends_only_on_arguments};
@@ -58,7 +58,7 @@ pub fn apk_as_promised<T: Tree, O: Sink, E: Sink>(
     // On every tree the answer is that of a possible outcome.
     ensures found { IsAnswerOfSomeOutcomeOrFailure (IsPossibleOutcome
         (command_of words.now)) LeavesAnyFiles
-        (IsFaultCountedWithCause (T.counts tree.old) (T.counts tree.new)) result
+        (CountsNewFaultWithCause (T.counts tree.old) (T.counts tree.new)) result
         (sink_before_and_after O.bytes O.counts out.old out.new)
         (sink_before_and_after E.bytes E.counts err.old err.new) }
     // At each moment of a change, the tree has accepted each name to which recovery would then give
@@ -73,9 +73,9 @@ pub fn apk_as_promised<T: Tree, O: Sink, E: Sink>(
         (sink_before_and_after E.bytes E.counts err.old err.new) }
     // No count falls, and no sink is misused.
     ensures tree_counts { CountsOnlyRise (T.counts tree.old) (T.counts tree.new) }
-    ensures out_counts { IsUseWithoutMisuse
+    ensures out_counts { SinkCountsOnlyRiseWithoutMisuse
         (sink_before_and_after O.bytes O.counts out.old out.new) }
-    ensures err_counts { IsUseWithoutMisuse
+    ensures err_counts { SinkCountsOnlyRiseWithoutMisuse
         (sink_before_and_after E.bytes E.counts err.old err.new) }
     // Out of memory is answered only if the arguments name an applet, or ask for help or the
     // version.

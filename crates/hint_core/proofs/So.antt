@@ -11,9 +11,9 @@ use Rattle.adb_view.specs.declared.tables.Which.{Which}
 use Rattle.adb_view.specs.declared.tables.Which.TheVariants as Tables
 use Rattle.base_core.specs.declared.cause.Cause.{Cause}
 use Rattle.base_core.specs.declared.cause.Cause.TheVariants.{BadText, BlockOrder, CompatVersion, Compressed, DataOrder, DataSize, HashDiffers, NotAdb, Outside, Repeated, TextLine, TooLarge, Truncated, WrongKind, WrongSchema}
-use Rattle.dep_core.specs.Repositories.{Repository, is_blank_or_comment, repositories_from, repositories_of, repositories_on_line, repository_of, singleton, with_repositories_of_line, without_outer_blanks}
+use Rattle.dep_core.specs.Repositories.{Repository, is_trimmed_line_empty_or_comment, repositories_from, repositories_of, repositories_on_line, repository_of, singleton, with_repositories_of_line, without_outer_blanks}
 use Rattle.dep_core.specs.World.{is_line_end, lines_of}
-use Rattle.pkg_core.specs.adb_schema.Soundness.{schema_word}
+use Rattle.pkg_core.specs.adb_schema.Soundness.{header_schema_if_root_table}
 use Rattle.pkg_core.specs.Whole.{table_of_schema}
 use Rattle.pkg_core.specs.adb_schema.declared.read.TheConstants.{IDB_WORD, INDEX_WORD, INTENT_WORD, PACKAGE_WORD}
 use Rattle.report_core.specs.declared.refusal.Refusal.{Refusal}
@@ -63,7 +63,7 @@ data OnLine (line : List ℕ) : Type 0 where
 
 on_line_is : (line : List ℕ) → OnLine line
 on_line_is line =
-    elim (is_blank_or_comment (without_outer_blanks line)) as (λ b. is_blank_or_comment (without_outer_blanks line) ≡ b → OnLine line) [
+    elim (is_trimmed_line_empty_or_comment (without_outer_blanks line)) as (λ b. is_trimmed_line_empty_or_comment (without_outer_blanks line) ≡ b → OnLine line) [
       | true ↦ λ e. skipped (rw e refl)
       | false ↦ λ e. elim (repository_of (without_outer_blanks line)) as (λ o. repository_of (without_outer_blanks line) ≡ o → OnLine line) [
         | None ↦ λ r. bad (rw e (ap (option_map singleton) r))
@@ -264,14 +264,14 @@ table_so words refusal found place (Some which) p h =
 
 -- ---- the schema
 
-with_schema : (n k : ℕ) (t which : Which) (rest : Option Which) → schema_word t ≡ Some k → (rest ≡ Some which → schema_word which ≡ Some n) → cond (eqb n k) (Some t) rest ≡ Some which → schema_word which ≡ Some n
+with_schema : (n k : ℕ) (t which : Which) (rest : Option Which) → header_schema_if_root_table t ≡ Some k → (rest ≡ Some which → header_schema_if_root_table which ≡ Some n) → cond (eqb n k) (Some t) rest ≡ Some which → header_schema_if_root_table which ≡ Some n
 with_schema n k t which rest s later h =
-    elim (eqb n k) as (λ b. eqb n k ≡ b → cond b (Some t) rest ≡ Some which → schema_word which ≡ Some n) [
-      | true ↦ λ e y. ap schema_word (sym (same_Some _ _ y)) ∙ (s ∙ ap Some (sym (eqb-true n k e)))
+    elim (eqb n k) as (λ b. eqb n k ≡ b → cond b (Some t) rest ≡ Some which → header_schema_if_root_table which ≡ Some n) [
+      | true ↦ λ e y. ap header_schema_if_root_table (sym (same_Some _ _ y)) ∙ (s ∙ ap Some (sym (eqb-true n k e)))
       | false ↦ λ e y. later y
     ] refl h
 
-schema_is : (n : ℕ) (which : Which) → table_of_schema n ≡ Some which → schema_word which ≡ Some n
+schema_is : (n : ℕ) (which : Which) → table_of_schema n ≡ Some which → header_schema_if_root_table which ≡ Some n
 schema_is n which h =
     with_schema n PACKAGE_WORD Tables.Package which _ refl
     (with_schema n INDEX_WORD Tables.Index which _ refl
@@ -282,7 +282,7 @@ schema_is n which h =
 not_of : (word n : ℕ) (which : Which) → table_of_schema word ≡ Some which → Some word ≡ Some n → table_of_schema n ≡ None → ⊥
 not_of word n which known same none = none-some which (sym none ∙ (ap table_of_schema (sym (same_Some _ _ same)) ∙ known))
 
-no_schema : (which : Which) (n : ℕ) → schema_word which ≡ Some n → table_of_schema n ≡ None → ⊥
+no_schema : (which : Which) (n : ℕ) → header_schema_if_root_table which ≡ Some n → table_of_schema n ≡ None → ⊥
 no_schema Tables.Dep n is none = none-some n is
 no_schema Tables.Acl n is none = none-some n is
 no_schema Tables.PkgInfo n is none = none-some n is

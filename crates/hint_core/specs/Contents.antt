@@ -5,9 +5,9 @@ use Rattle.std.specs.Prelude.{◌≡◌, ℕ, ◌-◌, ◌==◌, nat_le, ◌&&�
 use Rattle.std.specs.Fmt.{decimal}
 use Rattle.std.specs.List.{slice_get}
 use Rattle.std.specs.Option.{option_map}
-use Rattle.adb_view.specs.FieldIndexes.{DIR_FILES, PACKAGE_PATHS}
+use Rattle.adb_view.specs.FieldIndexes.{DIR_FILES_INDEX, PACKAGE_PATHS_INDEX}
 use Rattle.adb_view.specs.Plain.{Plain}
-use Rattle.adb_view.specs.Values.{count_of, entries_in, entry_in}
+use Rattle.adb_view.specs.Values.{count_of, entries_in, entry_at_index}
 use Rattle.adb_view.specs.declared.tables.Which.TheVariants.{Package}
 use Rattle.base_core.specs.Calls.{IfObservable}
 use Rattle.base_core.specs.Tree.{TreeState, files_of}
@@ -47,19 +47,19 @@ mixed_up_positions refusal = option_and_then mixed_up_positions_of_cause (cause_
 abbrev pub item_at_position : Plain → ℕ → Option Plain
 item_at_position array position =
     if nat_le 1 position && nat_le position (count_of (entries_in array))
-    then Some (entry_in array (position - 1)) else None
+    then Some (entry_at_index array (position - 1)) else None
 
 -- the path of the file at a position in a folder, if there is one
 abbrev pub path_in_folder : Plain → ℕ → Option (List ℕ)
 path_in_folder folder file =
     option_map (λ (f : Plain). path_of (name_of folder) (name_of f))
-    (item_at_position (entry_in folder DIR_FILES) file)
+    (item_at_position (entry_at_index folder DIR_FILES_INDEX) file)
 
 -- the path of the file of a package with these positions, if there is one
 abbrev pub path_at : Plain → ℕ × ℕ → Option (List ℕ)
 path_at pkg position =
     option_and_then (λ folder. path_in_folder folder position.1)
-    (item_at_position (entry_in pkg PACKAGE_PATHS) position.0)
+    (item_at_position (entry_at_index pkg PACKAGE_PATHS_INDEX) position.0)
 
 -- ---- lines
 

@@ -1,7 +1,7 @@
 -- What a call that explains a refusal writes. The rules are in `docs/commands.md`, "Hints".
 use Rattle.std.specs.Prelude.{◌≡◌, ℕ, List, [], if◌then◌else◌, Option, Some, None, Result, OnOk, OnErr}
 use Rattle.base_core.specs.Calls.{IfObservable}
-use Rattle.base_core.specs.Sink.{SinkBeforeAndAfter, SinkGets, SinkGetsPrefix}
+use Rattle.base_core.specs.Sink.{SinkBeforeAndAfter, SinkBytesGrowBy, SinkBytesGrowByPrefixOf}
 use Rattle.base_core.specs.Tree.{TreeState, files_of}
 use Rattle.base_core.specs.declared.tree.TreeFault.{TreeFault}
 use Rattle.base_core.specs.declared.tree.TreeFault.TheVariants as Trees
@@ -44,6 +44,6 @@ hint_lines_after_refusal words refusal found =
 pub record Tells {T E : Type 0} (lines : List ℕ) (sink : SinkBeforeAndAfter)
     (result : Result T E) : Type 0 where
   -- all lines were written
-  pub ok : OnOk result (SinkGets sink lines)
+  pub ok : OnOk result (SinkBytesGrowBy sink lines)
   -- a prefix of the lines was written
-  pub err : OnErr result (SinkGetsPrefix sink lines)
+  pub err : OnErr result (SinkBytesGrowByPrefixOf sink lines)

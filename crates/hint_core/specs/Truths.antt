@@ -10,7 +10,7 @@ use Rattle.base_core.specs.declared.cause.Cause.{Cause}
 use Rattle.base_core.specs.declared.cause.Cause.TheVariants.{Compressed, DataSize, HashDiffers, NotAdb, Truncated, WrongSchema}
 use Rattle.dep_core.specs.Repositories.{Repository, repositories_of}
 use Rattle.dep_core.specs.World.{lines_of}
-use Rattle.pkg_core.specs.adb_schema.Soundness.{schema_word}
+use Rattle.pkg_core.specs.adb_schema.Soundness.{header_schema_if_root_table}
 use Rattle.report_core.specs.declared.refusal.Refusal.{Refusal}
 use Rattle.words_core.specs.Grammar.{command_of}
 use Rattle.hint_core.specs.declared.hint.Hint.{Hint}
@@ -119,10 +119,10 @@ IsHintTrueBySubjectFile words refusal found (Hinted.Field place which name) =
 -- the cause of the refusal is a schema, which is that of this table
 IsHintTrueBySubjectFile words refusal found (Hinted.Schema which) =
     (schema : ℕ) × (cause_of refusal ≡ Some (WrongSchema schema))
-    × (schema_word which ≡ Some schema)
+    × (header_schema_if_root_table which ≡ Some schema)
 -- the cause of the refusal is a schema, which is that of no table
 IsHintTrueBySubjectFile words refusal found Hinted.UnknownSchema =
     (schema : ℕ) × (cause_of refusal ≡ Some (WrongSchema schema))
-    × ((which : Which) → schema_word which ≡ Some schema → ⊥)
+    × ((which : Which) → header_schema_if_root_table which ≡ Some schema → ⊥)
 -- this hint says nothing, and is always true
 IsHintTrueBySubjectFile words refusal found Hinted.Nothing = Unit {0}

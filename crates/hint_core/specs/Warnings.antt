@@ -8,7 +8,7 @@ use Rattle.base_core.specs.Calls.{IfObservable}
 use Rattle.base_core.specs.Files.{IsFolderOf}
 use Rattle.base_core.specs.Tree.{TreeState, files_of}
 use Rattle.command_core.specs.Command.{CommandLine}
-use Rattle.command_core.specs.Files.{without_dot_slash}
+use Rattle.command_core.specs.Files.{without_one_leading_dot_slash}
 use Rattle.command_core.specs.Values.{first_value_with_letter}
 use Rattle.command_core.specs.declared.command.Applet.{Applet}
 use Rattle.command_core.specs.declared.command.Applet.TheVariants.{Add, Mkpkg}
@@ -27,7 +27,7 @@ use Rattle.hint_core.specs.Lines.{printed_text}
 -- the folder whose files a package gets, if the option `-F` of `mkpkg` gives one
 abbrev pub folder_to_pack : List OptionValue → Option (List ℕ)
 folder_to_pack values =
-    option_map (λ (v : OptionValue). without_dot_slash v.text) (first_value_with_letter FILES values)
+    option_map (λ (v : OptionValue). without_one_leading_dot_slash v.text) (first_value_with_letter FILES values)
 
 -- the line that says that no file is below a folder
 abbrev pub empty_folder_line : List ℕ → List ℕ

@@ -16,7 +16,7 @@ use crate::printed::{printed, push_texts};
 use crate::telling::{HintFault, is_explained};
 use crate::warning::write_lines;
 use base_core::{Cause, Name, Sink, Tree, TreeFault, Words};
-use command_core::without_dot_slash;
+use command_core::without_one_leading_dot_slash;
 use itoa::Buffer;
 use pkg_core::{
     Contents, Front, FrontFault, PACKAGE_WORD, PackageFault, PackageView,
@@ -112,7 +112,7 @@ fn file_name_of_word(alloc: Global, words: &Words, place: u32) -> Result<Option<
     ensures { IfOk result (λ name. name ≡ file_name_of_word words.now place) }
 {
     match word_at(words, place) {
-        Some(word) => Name::read(alloc, without_dot_slash(word)),
+        Some(word) => Name::read(alloc, without_one_leading_dot_slash(word)),
         None => Ok(None),
     }
 }

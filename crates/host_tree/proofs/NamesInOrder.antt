@@ -12,7 +12,7 @@ use Rattle.std.proofs.lemmas.List.Sorted.{ranks_by, sorted_far}
 use Rattle.std.proofs.lemmas.Map.Lookups.{exact_bytes}
 use Rattle.std.proofs.lemmas.Option.{slice_get-get_or}
 use Rattle.base_core.specs.Files.{IsFolderOf}
-use Rattle.base_core.specs.Listed.{AreSortedNamesBelowFolder, AreSortedDistinctNames}
+use Rattle.base_core.specs.Listed.{AreSortedNamesBelowFolder, AreSortedDistinctTexts}
 use Rattle.base_core.specs.Name.{IsName}
 
 abbrev order : List ℕ → List ℕ → Ordering
@@ -24,7 +24,7 @@ IsUpTo a b = is_lt (order b a) ≡ false
 
 -- the names of the sorted ones in front of the rest, each once
 pub record IsKept (sorted names rest : List (List ℕ)) : Type 0 where
-  pub rising : AreSortedDistinctNames names
+  pub rising : AreSortedDistinctTexts names
   pub each : All (Contains sorted) names
   pub left : All (Contains sorted) rest
   pub in_order : AllPairs IsUpTo rest
@@ -84,7 +84,7 @@ module _ (sorted names rest : List (List ℕ)) (x : List ℕ) (kept : IsKept sor
     below = All-push (λ q. All (IsUpTo q) rest) names x (kept_same.below) (λ k d within. kept.in_order zero (suc k) d (omega arith) (omega (arith, within)));
   }
 
-pub below_each : (root : List ℕ) (files names : List (List ℕ)) → All (IsFolderOf root) files → AreSortedDistinctNames names → All (Contains files) names → All IsName names → AreSortedNamesBelowFolder root names
+pub below_each : (root : List ℕ) (files names : List (List ℕ)) → All (IsFolderOf root) files → AreSortedDistinctTexts names → All (Contains files) names → All IsName names → AreSortedNamesBelowFolder root names
 below_each root files names below rising each named = record {
   rising = rising;
   each = λ k d within. record { named = named k d within; below = All-contains (IsFolderOf root) files (get_or names k d) below (each k d within) };

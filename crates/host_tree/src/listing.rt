@@ -5,7 +5,7 @@ ghost use Rattle.std.specs.Cmp.Lexicographic.{slice_cmp};
 ghost use Rattle.std.specs.List.Sorted.{IsSorted};
 ghost use Rattle.std.specs.Ordering.{nat_cmp};
 ghost use Rattle.base_core.specs.Files.{IsFolderOf};
-ghost use Rattle.base_core.specs.Listed.{AreSortedNamesBelowFolder, AreSortedDistinctNames};
+ghost use Rattle.base_core.specs.Listed.{AreSortedNamesBelowFolder, AreSortedDistinctTexts};
 
 use base_core::{Name, Names, is_folder_of};
 use host_root::{Found, Host, HostFault, Reason, Root, path_text};
@@ -137,7 +137,7 @@ fn each_once(alloc: Global, sorted: Vec<Name>) -> Result<Names, AllocError>
     // The list is sorted in byte order.
     requires { IsSorted (slice_cmp nat_cmp) sorted.items }
     // The result is in byte order, each name once.
-    ensures rising { IfOk result AreSortedDistinctNames }
+    ensures rising { IfOk result AreSortedDistinctTexts }
     // Each name of the result is one of the list.
     ensures each { IfOk result (All (Contains sorted.items)) }
 {

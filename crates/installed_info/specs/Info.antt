@@ -4,13 +4,13 @@ use Rattle.std.specs.Prelude.{ℕ, List, [], ◌∷◌, map, Option, Some, None,
 use Rattle.std.specs.List.{flat_map}
 use Rattle.std.specs.Option.{option_map_or}
 use Rattle.candidate_core.specs.adb_fields.Repeated.{package_name, paths_of_package_files}
-use Rattle.adb_view.specs.FieldIndexes.{INFO_DEPENDS, INFO_DESCRIPTION, PACKAGE_INFO}
-use Rattle.adb_view.specs.Values.{entry_in, text_in}
+use Rattle.adb_view.specs.FieldIndexes.{INFO_DEPENDS_INDEX, INFO_DESCRIPTION_INDEX, PACKAGE_INFO_INDEX}
+use Rattle.adb_view.specs.Values.{entry_at_index, text_in}
 use Rattle.adb_view.specs.Plain.{Plain}
 use Rattle.command_core.specs.Command.{CommandLine}
 use Rattle.command_core.specs.declared.operands.Operand.{Operand}
 use Rattle.dep_core.specs.DependencyText.{dep_text}
-use Rattle.dep_core.specs.LeadingSlash.{without_slash}
+use Rattle.dep_core.specs.LeadingSlash.{without_leading_slash}
 use Rattle.file_owners.specs.Replaces.{package_version_text}
 use Rattle.base_core.specs.ByteOrder.{bytes_cmp}
 use Rattle.base_core.specs.Sorted.{sorted_by}
@@ -30,7 +30,7 @@ use Rattle.installed_info.specs.declared.telling.Form.TheVariants.{Contents, Dep
 abbrev pub description_section_of : Plain → List ℕ
 description_section_of pkg =
     description_section (package_name pkg) (package_version_text pkg)
-    (text_in (entry_in (entry_in pkg PACKAGE_INFO) INFO_DESCRIPTION))
+    (text_in (entry_at_index (entry_at_index pkg PACKAGE_INFO_INDEX) INFO_DESCRIPTION_INDEX))
 
 -- the section with the paths that a package lists, folder by folder
 abbrev pub contents_section_of : Plain → List ℕ
@@ -41,7 +41,7 @@ contents_section_of pkg =
 abbrev pub depends_section_of : Plain → List ℕ
 depends_section_of pkg =
     depends_section (package_name pkg) (package_version_text pkg)
-    (map dep_text (dependencies_in_list_value (entry_in (entry_in pkg PACKAGE_INFO) INFO_DEPENDS)))
+    (map dep_text (dependencies_in_list_value (entry_at_index (entry_at_index pkg PACKAGE_INFO_INDEX) INFO_DEPENDS_INDEX)))
 
 -- the line that says that a package owns a path
 abbrev pub owner_line : List ℕ → Plain → List ℕ
@@ -54,7 +54,7 @@ package_info_for_operand_text Description name pkg = description_section_of pkg
 package_info_for_operand_text Contents name pkg = contents_section_of pkg
 package_info_for_operand_text Depends name pkg = depends_section_of pkg
 package_info_for_operand_text Installed name pkg = report_line name
-package_info_for_operand_text Owner path pkg = owner_line (without_slash path) pkg
+package_info_for_operand_text Owner path pkg = owner_line (without_leading_slash path) pkg
 
 -- ---- of operands
 

@@ -4,7 +4,7 @@ use Rattle.std.specs.Prelude.{ℕ, List, Option}
 use Rattle.std.specs.List.{find}
 use Rattle.adb_view.specs.Plain.{Plain}
 use Rattle.file_owners.specs.db_core.Packages.{is_package_named, lists_path}
-use Rattle.dep_core.specs.LeadingSlash.{without_slash}
+use Rattle.dep_core.specs.LeadingSlash.{without_leading_slash}
 use Rattle.installed_info.specs.declared.telling.Form.{Form}
 use Rattle.installed_info.specs.declared.telling.Form.TheVariants.{Owner}
 
@@ -19,5 +19,5 @@ path_owner packages path = find (lists_path path) packages
 -- the package that the text of an operand means. In the form *Owner*, the text is a path, with or without one leading
 -- `/`; in the other forms it is the name of a package
 abbrev pub package_meant_by_operand_text : Form → List Plain → List ℕ → Option Plain
-package_meant_by_operand_text Owner packages path = path_owner packages (without_slash path)
+package_meant_by_operand_text Owner packages path = path_owner packages (without_leading_slash path)
 package_meant_by_operand_text form packages name = package_named packages name

@@ -8,13 +8,13 @@ ghost use Rattle.report_core.specs.declared.refusal.Refusal.TheVariants.{NotInst
 ghost use Rattle.std.specs.Option.{option_map_or, option_or, option_and_then};
 ghost use Rattle.std.specs.Prelude.{◌≡◌, ◌++◌, [], None, Some, if◌then◌else◌, is_some, IfOk, ◌<◌, length, slice_get, IfSome};
 ghost use Rattle.file_owners.specs.db_core.Packages.{is_package_named, lists_path};
-ghost use Rattle.dep_core.specs.LeadingSlash.{without_slash};
+ghost use Rattle.dep_core.specs.LeadingSlash.{without_leading_slash};
 
 use crate::package::push_package;
 use crate::telling::{Form, ReportAndRefusal};
 use base_core::{Name, Text};
 use command_core::Operands;
-use dep_core::without_slash;
+use dep_core::without_leading_slash;
 use file_owners::Db;
 use report_core::Refusal;
 use std::alloc::{AllocError, Global};
@@ -130,7 +130,7 @@ pub(crate) fn place_asked(
         (λ place. IfSome place (λ i. i < length (packages_of db.now))) }
 {
     match form {
-        Form::Owner => place_of_owner(alloc, db, without_slash(text)),
+        Form::Owner => place_of_owner(alloc, db, without_leading_slash(text)),
         _ => Ok(place_of_name(db, text)),
     }
 }

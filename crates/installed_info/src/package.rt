@@ -17,7 +17,7 @@ ghost use Rattle.candidate_core.specs.Candidates.{dependencies_in_list_value, de
 use crate::paths::push_paths;
 use crate::telling::Form;
 use candidate_core::{DepView, List, PackageView};
-use dep_core::{Dep, dep_of, dep_text, without_slash};
+use dep_core::{Dep, dep_of, dep_text, without_leading_slash};
 use file_owners::Db;
 use std::alloc::{AllocError, Global};
 use std::marker::PhantomData;
@@ -62,7 +62,7 @@ fn push_info(
         Form::Contents => push_contents(report, pkg),
         Form::Depends => push_depends(alloc, report, pkg),
         Form::Installed => push_line(report, text),
-        Form::Owner => push_owner(report, without_slash(text), pkg),
+        Form::Owner => push_owner(report, without_leading_slash(text), pkg),
     }
 }
 

@@ -4,7 +4,7 @@
 ghost use Rattle.candidate_core.specs.adb_fields.ListValue.{list_value};
 ghost use Rattle.candidate_core.specs.adb_fields.Paths.{path_of};
 ghost use Rattle.candidate_core.specs.adb_fields.Repeated.{list_of, name_of, paths_of_folder_files};
-ghost use Rattle.adb_view.specs.Values.{count_of, entries_in, entry_in};
+ghost use Rattle.adb_view.specs.Values.{count_of, entries_in, entry_at_index};
 ghost use Rattle.report_core.specs.Reports.{report_line, report_lines};
 ghost use Rattle.std.specs.List.{flat_map};
 ghost use Rattle.std.specs.Prelude.{◌≡◌, ◌<◌, ◌++◌, map, OnOk};
@@ -37,7 +37,7 @@ fn push_folder<'a>(
 ) -> Result<(), AllocError>
     requires { i < count_of (entries_in (list_value folders.now)) }
     ensures { OnOk result (report.new.items ≡ report.old.items
-        ++ report_lines (paths_of_folder_files (entry_in (list_value folders.now) i))) }
+        ++ report_lines (paths_of_folder_files (entry_at_index (list_value folders.now) i))) }
 {
     // There is a folder at the place, by the contract.
     if i >= folders.len() {

@@ -6,9 +6,9 @@ ghost use Rattle.installed_info.specs.Info.{form_info, info_of};
 ghost use Rattle.std.specs.Prelude.{◌≡◌, IfOk, ℕ, List, true, Some, Ok, Err};
 ghost use Rattle.installed_info.specs.Form.{info_form_of_flags};
 ghost use Rattle.candidate_core.specs.adb_fields.FirstPair.{IsIn};
-ghost use Rattle.candidate_core.specs.adb_fields.Once.{HasNoRepeatedName};
-ghost use Rattle.candidate_core.specs.adb_fields.Repeated.{entries_at, package_name, paths_of_package_files};
-ghost use Rattle.adb_view.specs.FieldIndexes.{IDB_PACKAGES};
+ghost use Rattle.candidate_core.specs.adb_fields.Once.{HasNoForbiddenRepeatedName};
+ghost use Rattle.candidate_core.specs.adb_fields.Repeated.{entries_of_field_at_index, package_name, paths_of_package_files};
+ghost use Rattle.adb_view.specs.FieldIndexes.{IDB_PACKAGES_INDEX};
 ghost use Rattle.adb_view.specs.declared.tables.Which.TheVariants.{Idb};
 ghost use Rattle.adb_view.specs.Plain.{Plain};
 ghost use Rattle.command_core.specs.Command.{CommandLine};
@@ -134,9 +134,9 @@ pub fn owners_are_those_that_list_a_path()
         → path_owner packages path ≡ Some pkg
         → IsIn pkg packages × IsIn path (paths_of_package_files pkg) }
     // In a database, each package that lists a path is its owner.
-    ensures lister { (database pkg : Plain) (path : List ℕ) → HasNoRepeatedName Idb database
-        → IsIn pkg (entries_at IDB_PACKAGES database) → IsIn path (paths_of_package_files pkg)
-        → path_owner (entries_at IDB_PACKAGES database) path ≡ Some pkg }
+    ensures lister { (database pkg : Plain) (path : List ℕ) → HasNoForbiddenRepeatedName Idb database
+        → IsIn pkg (entries_of_field_at_index IDB_PACKAGES_INDEX database) → IsIn path (paths_of_package_files pkg)
+        → path_owner (entries_of_field_at_index IDB_PACKAGES_INDEX database) path ≡ Some pkg }
 {}
 
 /// The package that a name means is installed and has this name. If no name is repeated, as in a
@@ -147,7 +147,7 @@ pub fn packages_have_the_names_that_ask_for_them()
         → package_named packages name ≡ Some pkg
         → IsIn pkg packages × (package_name pkg ≡ name) }
     // In a database, each package is the one that its name means.
-    ensures named { (database pkg : Plain) → HasNoRepeatedName Idb database
-        → IsIn pkg (entries_at IDB_PACKAGES database)
-        → package_named (entries_at IDB_PACKAGES database) (package_name pkg) ≡ Some pkg }
+    ensures named { (database pkg : Plain) → HasNoForbiddenRepeatedName Idb database
+        → IsIn pkg (entries_of_field_at_index IDB_PACKAGES_INDEX database)
+        → package_named (entries_of_field_at_index IDB_PACKAGES_INDEX database) (package_name pkg) ≡ Some pkg }
 {}

@@ -4,7 +4,7 @@ use Rattle.base_core.specs.Calls.{HoldsNow, IfObservable}
 use Rattle.base_core.specs.Crash.{Since}
 use Rattle.base_core.specs.Undone.{IsDurable}
 use Rattle.base_core.specs.Files.{Files}
-use Rattle.base_core.specs.Restart.{EachMoment, SinceGivenEarlier}
+use Rattle.base_core.specs.Restart.{EachMoment, SinceGivenEarlierAddedMoments}
 use Rattle.base_core.specs.Tree.{TreeState, File, bytes_of_file_number, files_of}
 use Rattle.journal_core.specs.Kept.{ReadsOldOrNewBytesOutsideJournal, IsAbsentAfterEachCrash, KeepsFilesExcept, KeepsCrashMapsExcept, KeepsOldOrNewBytes, RecoversTo, NamesOutsideJournalAreDurable}
 use Rattle.journal_core.specs.Quiet.{StateIsUnchanged}
@@ -16,7 +16,7 @@ use Rattle.journal_core.proofs.History.{History, now_map, now_since, observable_
 use Rattle.journal_core.proofs.Lasting.{some_none}
 use Rattle.journal_core.proofs.OnTheWay.{way_after}
 use Rattle.journal_core.specs.journal_intent.FreeNames.{HasFreeNamesAndUnrepeatedWrites}
-use Rattle.journal_commit.specs.StageRun.{IsStateDuringChangeToNewFromOld, IsRunOfStagedChange, IsStagedChangeComplete, IsRunThatStagedContents, NamesOutsideJournalAreDurableIfNoIntent}
+use Rattle.journal_commit.specs.StageRun.{IsStateDuringChangeToNewFromOld, IsRunOfStagedChange, IsStagedChangeComplete, IsRunThatStagedAndBeganFiles, NamesOutsideJournalAreDurableIfNoIntent}
 use Rattle.journal_commit.proofs.Empty.{change_empties}
 use Rattle.journal_commit.proofs.Joins.{now_of, since_and}
 use Rattle.journal_commit.proofs.Waits.{none_entering, shown_last}
@@ -30,7 +30,7 @@ names_some : (files : ℕ → File) (o : Option ℕ) (intent : Intent) → inten
 names_some files None intent is = absurd (cc (is))
 names_some files (Some n) intent is = refl
 
-module _ (stage : Staging) (contents : List (List ℕ)) (v : TreeState) (first mid : History) (s : IsRunThatStagedContents stage contents None v first mid) (all : stage.staged ≡ length stage.intent.writes) (free : HasFreeNamesAndUnrepeatedWrites stage.intent) where
+module _ (stage : Staging) (contents : List (List ℕ)) (v : TreeState) (first mid : History) (s : IsRunThatStagedAndBeganFiles stage contents None v first mid) (all : stage.staged ≡ length stage.intent.writes) (free : HasFreeNamesAndUnrepeatedWrites stage.intent) where
   abbrev pub H : Files
   H = G stage contents v first mid s
 
@@ -47,11 +47,11 @@ module _ (stage : Staging) (contents : List (List ℕ)) (v : TreeState) (first m
 
   module _ (now : History) where
     abbrev pub IsCommittedFor : Type 0
-    IsCommittedFor = IfObservable mid (λ u. (ignored : List ℕ → Bool) (cs : List (List ℕ)) (base : Files) → IsDurable (StateDependsOn ignored) u → HasStagedContents stage cs None base u → SinceGivenEarlier (IsOldUntilCommit ignored (files_after_actions stage.intent (files_of u)) u) mid now)
+    IsCommittedFor = IfObservable mid (λ u. (ignored : List ℕ → Bool) (cs : List (List ℕ)) (base : Files) → IsDurable (StateDependsOn ignored) u → HasStagedContents stage cs None base u → SinceGivenEarlierAddedMoments (IsOldUntilCommit ignored (files_after_actions stage.intent (files_of u)) u) mid now)
 
     publish_way : IsCommittedFor → Way stage contents v first mid s now
-    publish_way moments = observable_map mid _ (λ u. (ignored : List ℕ → Bool) → IsDurable (StateDependsOn ignored) u → W u → SinceGivenEarlier (IsOldUntilCommit ignored H u) mid now) moments (λ u t ignored is_durable waits.
-        subst (λ (F : Files). SinceGivenEarlier (IsOldUntilCommit ignored F u) mid now) (same u waits) (t ignored contents (files_of v) is_durable waits))
+    publish_way moments = observable_map mid _ (λ u. (ignored : List ℕ → Bool) → IsDurable (StateDependsOn ignored) u → W u → SinceGivenEarlierAddedMoments (IsOldUntilCommit ignored H u) mid now) moments (λ u t ignored is_durable waits.
+        subst (λ (F : Files). SinceGivenEarlierAddedMoments (IsOldUntilCommit ignored F u) mid now) (same u waits) (t ignored contents (files_of v) is_durable waits))
 
     abbrev pub PublishReads : Type 0
     PublishReads = IfObservable mid (λ u. (cs : List (List ℕ)) (base : Files) → HasStagedContents stage cs None base u → Since (λ w. IsSome (w.names intent_name) → RecoversTo (files_after_actions stage.intent (files_of u)) w) mid now)
@@ -110,9 +110,9 @@ module _ (stage : Staging) (contents : List (List ℕ)) (v : TreeState) (first m
             (subst (λ (l : History). HoldsNow l (λ x. IsDurable (StateDependsOn ignored) x × (u.made ≤ x.made))) (sym by_publish.is) (way_now ignored H u by_publish.added mid by_publish.published by_publish.each))
             (now_both now (EachCrashLeavesStateOf ignored H) Acts here acts_now)
 
-        enact_way_at : EnactMoments → SinceGivenEarlier (IsOldUntilCommit ignored H u) mid new
-        enact_way_at moments = by_now now Here (SinceGivenEarlier (IsOldUntilCommit ignored H u) mid new) all_here
-            (observable_map now _ (λ x. Here x → SinceGivenEarlier (IsOldUntilCommit ignored H u) mid new) moments (λ x t at. way_after ignored H u x at.1.0 at.0.1 mid now new by_publish (t ignored H at.0.0 at.1.1)))
+        enact_way_at : EnactMoments → SinceGivenEarlierAddedMoments (IsOldUntilCommit ignored H u) mid new
+        enact_way_at moments = by_now now Here (SinceGivenEarlierAddedMoments (IsOldUntilCommit ignored H u) mid new) all_here
+            (observable_map now _ (λ x. Here x → SinceGivenEarlierAddedMoments (IsOldUntilCommit ignored H u) mid new) moments (λ x t at. way_after ignored H u x at.1.0 at.0.1 mid now new by_publish (t ignored H at.0.0 at.1.1)))
 
         durable_at : HoldsNow now (IsDurable (StateDependsOn ignored))
         durable_at = now_map now Here (IsDurable (StateDependsOn ignored)) all_here (λ x at. at.0.0)
@@ -124,7 +124,7 @@ module _ (stage : Staging) (contents : List (List ℕ)) (v : TreeState) (first m
       settled_at ignored u waits here = subst (λ (F : Files). HoldsNow now (EachCrashLeavesStateOf ignored F)) (same u waits) here
 
       enact_way : EnactMoments → Way stage contents v first mid s new
-      enact_way moments = both mid _ _ (λ u. (ignored : List ℕ → Bool) → IsDurable (StateDependsOn ignored) u → W u → SinceGivenEarlier (IsOldUntilCommit ignored H u) mid new) published settled (λ u p h ignored is_durable waits.
+      enact_way moments = both mid _ _ (λ u. (ignored : List ℕ → Bool) → IsDurable (StateDependsOn ignored) u → W u → SinceGivenEarlierAddedMoments (IsOldUntilCommit ignored H u) mid new) published settled (λ u p h ignored is_durable waits.
           enact_way_at ignored u waits (published_at ignored u waits (p ignored contents (files_of v) is_durable waits)) (settled_at ignored u waits (h ignored contents (files_of v) is_durable waits)) moments)
 
       abbrev pub EnactReads : Type 0

@@ -14,11 +14,11 @@ use Rattle.journal_core.proofs.Chain.{by_now}
 use Rattle.journal_core.proofs.History.{History, observable_map, since_weaker}
 use Rattle.journal_core.proofs.Waiting.{still_self}
 use Rattle.journal_core.specs.journal_intent.FreeNames.{IsNoneOf}
-use Rattle.journal_commit.specs.StageRun.{HasSameFilesExceptStaged, IsRunThatStagedContents, IsStagingRun}
+use Rattle.journal_commit.specs.StageRun.{HasSameFilesExceptStaged, IsRunThatStagedAndBeganFiles, IsStagingRun}
 use Rattle.journal_commit.proofs.Joins.{since_more}
 use Rattle.journal_commit.proofs.Waits.{none_waiting, shown_files, shown_last}
 
-module _ (stage : Staging) (contents : List (List ℕ)) (begun : Option (List ℕ)) (v : TreeState) (first mid new : History) (s : IsRunThatStagedContents stage contents begun v first mid) where
+module _ (stage : Staging) (contents : List (List ℕ)) (begun : Option (List ℕ)) (v : TreeState) (first mid new : History) (s : IsRunThatStagedAndBeganFiles stage contents begun v first mid) where
   abbrev pub Waits : TreeState → Type 0
   Waits = HasStagedContents stage contents begun (files_of v)
 
@@ -48,10 +48,10 @@ module _ (stage : Staging) (contents : List (List ℕ)) (begun : Option (List �
   }
 
   pub staging_more : {T E : Type 0} (r : Result T E) (next : Staging) (more : List (List ℕ)) (open_file : Option (List ℕ)) → IsStagingRun v first new
-      → IfObservable mid (λ u. Waits u → OnOk r (HoldsNow new (HasStagedContents next more open_file (files_of v)))) → OnOk r (IsRunThatStagedContents next more open_file v first new)
+      → IfObservable mid (λ u. Waits u → OnOk r (HoldsNow new (HasStagedContents next more open_file (files_of v)))) → OnOk r (IsRunThatStagedAndBeganFiles next more open_file v first new)
   staging_more {T = T} {E = E} r next more open_file run staged = by r (by_now mid Waits (OnOk r (HoldsNow new (HasStagedContents next more open_file (files_of v)))) s.waiting staged)
     where
-      by : (x : Result T E) → OnOk x (HoldsNow new (HasStagedContents next more open_file (files_of v))) → OnOk x (IsRunThatStagedContents next more open_file v first new)
+      by : (x : Result T E) → OnOk x (HoldsNow new (HasStagedContents next more open_file (files_of v))) → OnOk x (IsRunThatStagedAndBeganFiles next more open_file v first new)
       by (Ok x) now = record { start = s.start; empty = s.empty; run = run; waiting = now }
       by (Err e) now = tt
 
@@ -80,7 +80,7 @@ module _ (stage : Staging) (contents : List (List ℕ)) (begun : Option (List �
       (lasts_by [] (λ q off shown. refl) maps)
 
 -- a file that is begun stands alone
-module _ (stage : Staging) (contents : List (List ℕ)) (so_far : List ℕ) (v : TreeState) (first mid new : History) (s : IsRunThatStagedContents stage contents (Some so_far) v first mid) where
+module _ (stage : Staging) (contents : List (List ℕ)) (so_far : List ℕ) (v : TreeState) (first mid new : History) (s : IsRunThatStagedAndBeganFiles stage contents (Some so_far) v first mid) where
   alone_at : (u : TreeState) → HasStagedContents stage contents (Some so_far) (files_of v) u → IsOnlyNameOfFile (stage_name (stage.staged + 1)) u
   alone_at u waits = let count = waits.count in subst (λ k. IsOnlyNameOfFile (stage_name k) u) (omega (arith, count)) waits.alone
 
@@ -114,7 +114,7 @@ module _ (stage : Staging) (contents : List (List ℕ)) (v : TreeState) (mid new
         → IfObservable mid (λ u. HasStagedContents stage contents (Some so_far) (files_of v) u → OnOk r (HoldsNow new (HasStagedContents next (more contents so_far) (open_file so_far) (files_of v))))
     open_staged r more open_file next told = observable_map mid _ _ told (λ u t waits. t contents so_far (files_of v) waits)
 
-    pub open_proper : (first : History) (a b : ℕ) → IsRunThatStagedContents stage contents (Some so_far) v first mid
+    pub open_proper : (first : History) (a b : ℕ) → IsRunThatStagedAndBeganFiles stage contents (Some so_far) v first mid
         → IfObservable mid (λ u. (cs : List (List ℕ)) (bytes : List ℕ) (base : Files) → HasStagedContents stage cs (Some bytes) base u → b ≡ a) → b ≡ a
     open_proper first a b s told =
         by_now mid (HasStagedContents stage contents (Some so_far) (files_of v)) (b ≡ a) s.waiting

@@ -5,7 +5,7 @@ use Rattle.base_core.specs.Calls.{HoldsNow, IfObservable}
 use Rattle.base_core.specs.Crash.{Since}
 use Rattle.base_core.specs.Undone.{IsDurable}
 use Rattle.base_core.specs.Files.{Files}
-use Rattle.base_core.specs.Restart.{EachMoment, SinceGivenEarlier}
+use Rattle.base_core.specs.Restart.{EachMoment, SinceGivenEarlierAddedMoments}
 use Rattle.base_core.specs.Tree.{TreeState, bytes_of_file_number, files_of}
 use Rattle.base_core.proofs.AtName.{name_cases, off_name}
 use Rattle.journal_core.specs.Kept.{ReadsOldOrNewBytesOutsideJournal, IsJournalName, KeepsFilesExcept, RecoversTo, NamesOutsideJournalAreDurable}
@@ -19,7 +19,7 @@ use Rattle.journal_core.proofs.Published.{since_by, still_on_the_way}
 use Rattle.journal_core.proofs.Waiting.{still_self}
 use Rattle.journal_core.proofs.Cleaned.{none_recovered}
 use Rattle.journal_core.proofs.journal_intent.StageNames.{stage_name_staged}
-use Rattle.journal_commit.specs.StageRun.{HasSameFilesExceptStaged, IsStateDuringChangeToNewFromOld, IsRunOfStagedChange, IsRunThatStagedContents, IsStagingRun, NamesOutsideJournalAreDurableIfNoIntent}
+use Rattle.journal_commit.specs.StageRun.{HasSameFilesExceptStaged, IsStateDuringChangeToNewFromOld, IsRunOfStagedChange, IsRunThatStagedAndBeganFiles, IsStagingRun, NamesOutsideJournalAreDurableIfNoIntent}
 use Rattle.journal_commit.proofs.Joins.{so_far_now}
 use Rattle.journal_commit.proofs.Waits.{shown_off}
 
@@ -30,14 +30,14 @@ module _ (ignored : List ℕ → Bool) (G : Files) (v u : TreeState) (is_unchang
   each_before [] first each so_far = so_far
   each_before (w ∷ added) first each so_far = (way_before ignored G v u w added first is_unchanged each.0, each_before added first each.1 so_far)
 
-  pub way_from : (first mid new : History) → SinceGivenEarlier (IsOldUntilCommit ignored G v) first mid → SinceGivenEarlier (IsOldUntilCommit ignored G u) mid new → SinceGivenEarlier (IsOldUntilCommit ignored G v) first new
+  pub way_from : (first mid new : History) → SinceGivenEarlierAddedMoments (IsOldUntilCommit ignored G v) first mid → SinceGivenEarlierAddedMoments (IsOldUntilCommit ignored G u) mid new → SinceGivenEarlierAddedMoments (IsOldUntilCommit ignored G v) first new
   way_from first mid new before then = record {
     added = then.added ++ before.added;
     is = then.is ∙ ap (λ (l : History). then.added ++ l) before.is ∙ sym (append_assoc then.added before.added first);
     each = each_before then.added before.added then.each before.each;
   }
 
-pub still_way : (ignored : List ℕ → Bool) (G : Files) (v : TreeState) (old new : History) → Since (StateIsUnchanged ignored v) old new → SinceGivenEarlier (IsOldUntilCommit ignored G v) old new
+pub still_way : (ignored : List ℕ → Bool) (G : Files) (v : TreeState) (old new : History) → Since (StateIsUnchanged ignored v) old new → SinceGivenEarlierAddedMoments (IsOldUntilCommit ignored G v) old new
 still_way ignored G v old new since = since_by (IsOldUntilCommit ignored G v) old new (since_weaker (StateIsUnchanged ignored v) (λ w. (earlier : History) → IsOldUntilCommit ignored G v earlier w) old new (still_on_the_way ignored G v) since)
 
 -- what only stages leads to any files
@@ -98,7 +98,7 @@ read_from G old u w before (inr (inr reads)) = inr (inr reads)
 
 -- ---- a run
 
-module _ (stage : Staging) (contents : List (List ℕ)) (v : TreeState) (first mid : History) (s : IsRunThatStagedContents stage contents None v first mid) where
+module _ (stage : Staging) (contents : List (List ℕ)) (v : TreeState) (first mid : History) (s : IsRunThatStagedAndBeganFiles stage contents None v first mid) where
   abbrev pub G : Files
   G = files_after_actions stage.intent (files_with_staged 1 contents (files_of v))
 
@@ -111,7 +111,7 @@ module _ (stage : Staging) (contents : List (List ℕ)) (v : TreeState) (first m
   module _ (new : History) where
     -- what calls behind the staging say of the state u before them
     abbrev pub Way : Type 0
-    Way = IfObservable mid (λ u. (ignored : List ℕ → Bool) → IsDurable (StateDependsOn ignored) u → Waits u → SinceGivenEarlier (IsOldUntilCommit ignored G u) mid new)
+    Way = IfObservable mid (λ u. (ignored : List ℕ → Bool) → IsDurable (StateDependsOn ignored) u → Waits u → SinceGivenEarlierAddedMoments (IsOldUntilCommit ignored G u) mid new)
 
     abbrev pub Reads : Type 0
     Reads = IfObservable mid (λ u. Waits u → Since (IsStateDuringChangeToNewFromOld G (files_of u)) mid new)
@@ -125,8 +125,8 @@ module _ (stage : Staging) (contents : List (List ℕ)) (v : TreeState) (first m
     pub run_led : Way → Reads → Lasts → IsRunOfStagedChange G v first new
     run_led way reads lasts = record {
       moments = λ ignored is_durable.
-          by_now mid (λ u. StateIsUnchanged ignored v u × Waits u) (SinceGivenEarlier (IsOldUntilCommit ignored G v) first new) (now_both mid (StateIsUnchanged ignored v) Waits (still_now ignored is_durable) s.waiting)
-          (observable_map mid _ (λ u. StateIsUnchanged ignored v u × Waits u → SinceGivenEarlier (IsOldUntilCommit ignored G v) first new) way (λ u t q.
+          by_now mid (λ u. StateIsUnchanged ignored v u × Waits u) (SinceGivenEarlierAddedMoments (IsOldUntilCommit ignored G v) first new) (now_both mid (StateIsUnchanged ignored v) Waits (still_now ignored is_durable) s.waiting)
+          (observable_map mid _ (λ u. StateIsUnchanged ignored v u × Waits u → SinceGivenEarlierAddedMoments (IsOldUntilCommit ignored G v) first new) way (λ u t q.
           way_from ignored G v u q.0 first mid new (still_way ignored G v first mid (s.run.moments ignored is_durable)) (t ignored q.0.is_durable q.1)));
       reads =
           since_on (IsStateDuringChangeToNewFromOld G (files_of v)) first mid new

@@ -6,7 +6,7 @@ use Rattle.base_core.specs.Calls.{HoldsNow}
 use Rattle.base_core.specs.Crash.{Since}
 use Rattle.base_core.specs.Undone.{IsDurable}
 use Rattle.base_core.specs.Files.{Files}
-use Rattle.base_core.specs.Restart.{SinceGivenEarlier}
+use Rattle.base_core.specs.Restart.{SinceGivenEarlierAddedMoments}
 use Rattle.base_core.specs.Tree.{TreeState, files_of}
 use Rattle.journal_core.specs.Kept.{ReadsOldOrNewBytesOutsideJournal, IsAbsentAfterEachCrash, NamesOutsideJournalAreDurable}
 use Rattle.journal_core.specs.Quiet.{StateIsUnchanged}
@@ -48,7 +48,7 @@ pub record IsRunOfStagedChange (files : Files) (v : TreeState) (old now : List T
   -- the files.
   -- Until an intent of this change has been under its name, a crash leaves a state from before.
   pub moments : (ignored : List ℕ → Bool) → IsDurable (StateDependsOn ignored) v
-      → SinceGivenEarlier (IsOldUntilCommit ignored files v) old now
+      → SinceGivenEarlierAddedMoments (IsOldUntilCommit ignored files v) old now
   -- at each moment the files as read are the old ones, except for staged files; or recovery by an intent leaves the
   -- new ones; or they are the new ones
   pub reads : Since (IsStateDuringChangeToNewFromOld files (files_of v)) old now
@@ -84,7 +84,7 @@ pub record IsStagingRun (v : TreeState) (old now : List TreeState) : Type 0 wher
 
 -- A staging run that began at the tree `v` with an empty staging area. Now there is a staged file for each element of
 -- `contents`, with these bytes, and, if `begun` has bytes, a further one with these, which is not yet ended.
-pub record IsRunThatStagedContents (stage : Staging) (contents : List (List ℕ)) (begun : Option (List ℕ))
+pub record IsRunThatStagedAndBeganFiles (stage : Staging) (contents : List (List ℕ)) (begun : Option (List ℕ))
     (v : TreeState) (old now : List TreeState) : Type 0 where
   -- `v` is the newest state at the start of staging
   pub start : HoldsNow old (λ w. w ≡ v)

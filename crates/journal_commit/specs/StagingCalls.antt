@@ -8,19 +8,19 @@ use Rattle.base_core.specs.Faults.{Counts}
 use Rattle.base_core.specs.Tree.{TreeState, files_of}
 use Rattle.journal_core.specs.CallCounts.{IsResultExplainedByCounts}
 use Rattle.journal_core.specs.Staged.{Staging, AreIntentAndStagedPathsFree}
-use Rattle.journal_commit.specs.StageRun.{IsRunThatStagedContents, IsStagingRun}
+use Rattle.journal_commit.specs.StageRun.{IsRunThatStagedAndBeganFiles, IsStagingRun}
 
 -- how a call changes the tree and its counts, if before it no staged file is begun and not yet ended
 pub record ChangesOnlyStagedFiles {T E : Type 0} (stage : Staging) (old now : List TreeState)
     (before after : Counts) (result : Result T E) : Type 0 where
   -- whatever is returned, only staged files have changed at each moment
   pub run : (contents : List (List ℕ)) (v : TreeState) (first : List TreeState)
-      → IsRunThatStagedContents stage contents None v first old → IsStagingRun v first now
+      → IsRunThatStagedAndBeganFiles stage contents None v first old → IsStagingRun v first now
   -- how the tree's counts explain the result
   pub counts : IsResultExplainedByCounts before after result
   -- no call on the tree is a misuse, if the paths of the intent and of the staged files were free at the start
   pub proper : (contents : List (List ℕ)) (v : TreeState) (first : List TreeState)
-      → IsRunThatStagedContents stage contents None v first old → AreIntentAndStagedPathsFree (files_of v)
+      → IsRunThatStagedAndBeganFiles stage contents None v first old → AreIntentAndStagedPathsFree (files_of v)
       → after.misuses ≡ before.misuses
 
 -- how a call changes the tree and its counts, if before it a staged file is begun and has the bytes `so_far`; no
@@ -29,12 +29,12 @@ pub record ChangesOnlyBegunFile {T E : Type 0} (stage : Staging) (old now : List
     (before after : Counts) (result : Result T E) : Type 0 where
   -- whatever is returned, only staged files have changed at each moment
   pub run : (contents : List (List ℕ)) (so_far : List ℕ) (v : TreeState) (first : List TreeState)
-      → IsRunThatStagedContents stage contents (Some so_far) v first old → IsStagingRun v first now
+      → IsRunThatStagedAndBeganFiles stage contents (Some so_far) v first old → IsStagingRun v first now
   -- how the tree's counts explain the result
   pub counts : IsResultExplainedByCounts before after result
   -- no call on the tree is a misuse
   pub proper : (contents : List (List ℕ)) (so_far : List ℕ) (v : TreeState) (first : List TreeState)
-      → IsRunThatStagedContents stage contents (Some so_far) v first old → after.misuses ≡ before.misuses
+      → IsRunThatStagedAndBeganFiles stage contents (Some so_far) v first old → after.misuses ≡ before.misuses
 
 -- a call that stages one whole file with these bytes, and changes the stage from `stage` to `next`
 pub record StagesFile {T E : Type 0} (stage next : Staging) (bytes : List ℕ) (old now : List TreeState)
@@ -43,7 +43,7 @@ pub record StagesFile {T E : Type 0} (stage next : Staging) (bytes : List ℕ) (
   pub only : ChangesOnlyStagedFiles stage old now before after result
   -- once Ok is returned, the bytes are staged after the files staged before
   pub staging : (contents : List (List ℕ)) (v : TreeState) (first : List TreeState)
-      → IsRunThatStagedContents stage contents None v first old
-      → OnOk result (IsRunThatStagedContents next (contents ++ bytes ∷ []) None v first now)
+      → IsRunThatStagedAndBeganFiles stage contents None v first old
+      → OnOk result (IsRunThatStagedAndBeganFiles next (contents ++ bytes ∷ []) None v first now)
   -- on Ok, one more write of the stage has its staged file
   pub view : OnOk result (next ≡ record stage { staged = stage.staged + 1 })

@@ -5,7 +5,7 @@ ghost use Rattle.std.specs.Prelude.{◌≡◌, ◌≤◌, ℕ, Bool, true, false
 ghost use Rattle.base_core.specs.Calls.{HoldsNow, IfObservable};
 ghost use Rattle.base_core.specs.Crash.{Since};
 ghost use Rattle.base_core.specs.Undone.{IsDurable};
-ghost use Rattle.base_core.specs.Faults.{CountsOnlyRise, IsFaultCountedWithCause, CountsNoNewFault};
+ghost use Rattle.base_core.specs.Faults.{CountsOnlyRise, CountsNewFaultWithCause, CountsNoNewFaultOrLackOfMemory};
 ghost use Rattle.base_core.specs.Files.{Files};
 ghost use Rattle.base_core.specs.Tree.{TreeState, files_of};
 ghost use Rattle.journal_core.specs.Acting.{CarriesOutActions};
@@ -13,7 +13,7 @@ ghost use Rattle.journal_core.specs.CallCounts.{IsResultExplainedByCounts};
 ghost use Rattle.journal_core.specs.Kept.{IsAbsentAfterEachCrash};
 ghost use Rattle.journal_core.specs.Recovery.{EachCrashLeavesStateOf, StateDependsOn, files_after_actions, intent_name};
 ghost use Rattle.journal_core.specs.Staged.{AreIntentAndStagedPathsFree, IsCarryingOutActions, action_count, files_with_staged};
-ghost use Rattle.journal_commit.specs.StageRun.{IsRunOfStagedChange, IsStagedChangeComplete, IsRunThatStagedContents, NamesOutsideJournalAreDurableIfNoIntent};
+ghost use Rattle.journal_commit.specs.StageRun.{IsRunOfStagedChange, IsStagedChangeComplete, IsRunThatStagedAndBeganFiles, NamesOutsideJournalAreDurableIfNoIntent};
 
 use base_core::{Disk, Tree};
 use journal_core::{Stage, apply_all};
@@ -29,27 +29,27 @@ pub fn carry_through<T: Tree>(stage: &mut Stage, tree: &mut T) -> Result<(), Dis
     // If the files with the bytes `contents` are staged, the moments from the start of staging on
     // are, whatever is returned, those of one change, which leads to the files after all actions.
     ensures run { (contents : List (List ℕ)) (v : TreeState) (first : List TreeState)
-        → IsRunThatStagedContents stage.old contents None v first (T.history tree.old)
+        → IsRunThatStagedAndBeganFiles stage.old contents None v first (T.history tree.old)
         → IsRunOfStagedChange (files_after_actions stage.old.intent (files_with_staged 1 contents
         (files_of v)))
         v first (T.history tree.new) }
     // Once Ok is returned, the change is complete.
     ensures done { (contents : List (List ℕ)) (v : TreeState) (first : List TreeState)
-        → IsRunThatStagedContents stage.old contents None v first (T.history tree.old)
+        → IsRunThatStagedAndBeganFiles stage.old contents None v first (T.history tree.old)
         → OnOk result (IsStagedChangeComplete
         (files_after_actions stage.old.intent (files_with_staged 1 contents (files_of v)))
         v (T.history tree.new)) }
     // No count of the tree's faults falls.
     ensures goes_on { CountsOnlyRise (T.counts tree.old) (T.counts tree.new) }
     // An error is a counted fault of the tree.
-    ensures cause { OnErr result (IsFaultCountedWithCause (T.counts tree.old) (T.counts tree.new)) }
+    ensures cause { OnErr result (CountsNewFaultWithCause (T.counts tree.old) (T.counts tree.new)) }
     // Ok is returned only if no fault was counted.
-    ensures kept { OnOk result (CountsNoNewFault (T.counts tree.old) (T.counts tree.new)) }
+    ensures kept { OnOk result (CountsNoNewFaultOrLackOfMemory (T.counts tree.old) (T.counts tree.new)) }
 
     // No call is a misuse, if the paths of the intent and of the staged files are free among the
     // files before the staging, and among the files after all actions.
     ensures proper { (contents : List (List ℕ)) (v : TreeState) (first : List TreeState)
-        → IsRunThatStagedContents stage.old contents None v first (T.history tree.old)
+        → IsRunThatStagedAndBeganFiles stage.old contents None v first (T.history tree.old)
         → AreIntentAndStagedPathsFree (files_of v)
         → AreIntentAndStagedPathsFree (files_after_actions stage.old.intent
         (files_with_staged 1 contents

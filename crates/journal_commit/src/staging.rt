@@ -7,7 +7,7 @@ ghost use Rattle.base_core.specs.Tree.{TreeState, files_of};
 ghost use Rattle.journal_core.specs.Staged.{HasNoStagedNames, new_stage_of_removals_and_writes, files_with_staged};
 ghost use Rattle.journal_commit.specs.Asked.{TargetsAreAccepted};
 ghost use Rattle.journal_commit.specs.StagingCalls.{ChangesOnlyBegunFile, ChangesOnlyStagedFiles, StagesFile};
-ghost use Rattle.journal_commit.specs.StageRun.{IsRunThatStagedContents, IsStagingRun, IsRunOfStagedChange};
+ghost use Rattle.journal_commit.specs.StageRun.{IsRunThatStagedAndBeganFiles, IsStagingRun, IsRunOfStagedChange};
 ghost use Rattle.base_core.specs.Calls.{IfObservable};
 ghost use Rattle.base_core.specs.Files.{Files};
 ghost use Rattle.journal_core.specs.Recovery.{Intent, files_after_actions, intent_name};
@@ -29,8 +29,8 @@ pub fn begin_file<T: Tree>(stage: &mut Stage, tree: &mut T) -> Result<(), Disk>
         (T.counts tree.old) (T.counts tree.new) result }
     // Once Ok is returned, the next staged file is begun, and is empty.
     ensures staging { (contents : List (List ℕ)) (v : TreeState) (first : List TreeState)
-        → IsRunThatStagedContents stage.old contents None v first (T.history tree.old)
-        → OnOk result (IsRunThatStagedContents stage.new contents (Some []) v first
+        → IsRunThatStagedAndBeganFiles stage.old contents None v first (T.history tree.old)
+        → OnOk result (IsRunThatStagedAndBeganFiles stage.new contents (Some []) v first
         (T.history tree.new)) }
     // On Ok, the stage has a staged file that is begun and not yet ended.
     ensures view { OnOk result (stage.new ≡ record stage.old { is_open = true }) }
@@ -51,8 +51,8 @@ pub fn append_piece<T: Tree>(stage: &mut Stage, tree: &mut T, piece: &[u8]) -> R
     // On Ok, the begun file has its bytes so far, followed by the piece.
     ensures staging { (contents : List (List ℕ)) (so_far : List ℕ) (v : TreeState)
         (first : List TreeState)
-        → IsRunThatStagedContents stage.old contents (Some so_far) v first (T.history tree.old)
-        → OnOk result (IsRunThatStagedContents stage.new contents (Some (so_far
+        → IsRunThatStagedAndBeganFiles stage.old contents (Some so_far) v first (T.history tree.old)
+        → OnOk result (IsRunThatStagedAndBeganFiles stage.new contents (Some (so_far
         ++ piece.now)) v first
         (T.history tree.new)) }
     // The stage is unchanged, whatever is returned.
@@ -72,8 +72,8 @@ pub fn end_file<T: Tree>(stage: &mut Stage, tree: &mut T) -> Result<(), Disk>
     // On Ok, the begun file is ended: it is the last of the staged files.
     ensures staging { (contents : List (List ℕ)) (so_far : List ℕ) (v : TreeState)
         (first : List TreeState)
-        → IsRunThatStagedContents stage.old contents (Some so_far) v first (T.history tree.old)
-        → OnOk result (IsRunThatStagedContents stage.new (contents ++ so_far ∷ []) None v first
+        → IsRunThatStagedAndBeganFiles stage.old contents (Some so_far) v first (T.history tree.old)
+        → OnOk result (IsRunThatStagedAndBeganFiles stage.new (contents ++ so_far ∷ []) None v first
         (T.history tree.new)) }
     // On Ok, one more file is staged, and none is begun.
     ensures view { OnOk result
@@ -139,7 +139,7 @@ pub fn runs_with_accepted_targets_begin_with_reads<T: Tree>()
 pub fn a_new_stage_is_staging()
     ensures { (removals writes : List (List ℕ)) (now : List TreeState) → IfObservable now (λ v.
         v.names intent_name ≡ None → HasNoStagedNames (files_of v)
-        → IsRunThatStagedContents
+        → IsRunThatStagedAndBeganFiles
         (new_stage_of_removals_and_writes removals writes) [] None v now now) }
 {}
 

@@ -5,7 +5,7 @@ use Rattle.std.proofs.lemmas.List.Elements.{All-head, All-tail}
 use Rattle.base_core.specs.Files.{Files}
 use Rattle.base_core.specs.Tree.{TreeState, files_of}
 use Rattle.base_core.specs.Crash.{Since}
-use Rattle.base_core.specs.Restart.{EachMoment, SinceGivenEarlier}
+use Rattle.base_core.specs.Restart.{EachMoment, SinceGivenEarlierAddedMoments}
 use Rattle.journal_core.specs.Quiet.{StateIsUnchanged}
 use Rattle.journal_core.specs.Recovery.{EachCrashLeavesStateOf, intent_name}
 use Rattle.journal_core.specs.Staged.{HasMomentOfIntentFileNumberedAtLeastForFiles, IsOldUntilCommit, HasStagedContents, IsHistoryThatPublishesIntentForFiles, new_stage_of_removals_and_writes}
@@ -48,7 +48,7 @@ module _ (ignored : List ℕ → Bool) (files : Files) (start v : TreeState) (se
   each_behind [] first led all so_far = so_far
   each_behind (w ∷ added) first led all so_far = (behind (added ++ first) w (published_more ignored files start.made added first led) (All-head (StateIsUnchanged ignored v) w added all), each_behind added first led (All-tail (StateIsUnchanged ignored v) w added all) so_far)
 
-  pub way_after : (old mid new : List TreeState) → IsHistoryThatPublishesIntentForFiles ignored files start old mid → Since (StateIsUnchanged ignored v) mid new → SinceGivenEarlier (IsOldUntilCommit ignored files start) old new
+  pub way_after : (old mid new : List TreeState) → IsHistoryThatPublishesIntentForFiles ignored files start old mid → Since (StateIsUnchanged ignored v) mid new → SinceGivenEarlierAddedMoments (IsOldUntilCommit ignored files start) old new
   way_after old mid new published is_unchanged = record {
     added = is_unchanged.added ++ published.added;
     is = is_unchanged.is ∙ ap (λ (l : List TreeState). is_unchanged.added ++ l) published.is ∙ sym (append_assoc is_unchanged.added published.added old);

@@ -8,7 +8,7 @@ use Rattle.base_core.specs.Tree.{TreeState, File, bytes_of_file_number, files_of
 use Rattle.base_core.specs.Calls.{IfObservable, HoldsNow}
 use Rattle.base_core.specs.Crash.{Since}
 use Rattle.base_core.specs.Undone.{IsDurable}
-use Rattle.base_core.specs.Restart.{EachMoment, SinceGivenEarlier}
+use Rattle.base_core.specs.Restart.{EachMoment, SinceGivenEarlierAddedMoments}
 use Rattle.base_core.proofs.AtName.{name_cases, off_name}
 use Rattle.journal_core.specs.Committing.{HasCommittedIntent, IsCommitting, IsReadyToPublish, HasOnlyAddedFile}
 use Rattle.journal_core.specs.Filling.{synced_file}
@@ -36,7 +36,7 @@ each_by : (P : List TreeState → TreeState → Type 0) (added : List TreeState)
 each_by P [] all = tt
 each_by P (w ∷ added) all = (All-head (λ v. (earlier : List TreeState) → P earlier v) w added all added, each_by P added (All-tail (λ v. (earlier : List TreeState) → P earlier v) w added all))
 
-pub since_by : (P : List TreeState → TreeState → Type 0) (old new : History) → Since (λ w. (earlier : List TreeState) → P earlier w) old new → SinceGivenEarlier P old new
+pub since_by : (P : List TreeState → TreeState → Type 0) (old new : History) → Since (λ w. (earlier : List TreeState) → P earlier w) old new → SinceGivenEarlierAddedMoments P old new
 since_by P old new since = record { added = since.added; is = since.is; each = each_by P since.added since.each }
 
 pub still_on_the_way : (ignored : List ℕ → Bool) (G : Files) (v w : TreeState) → StateIsUnchanged ignored v w → (earlier : List TreeState) → IsOldUntilCommit ignored G v earlier w
@@ -109,7 +109,7 @@ module _ (stage : Staging) (contents : List (List ℕ)) (base : Files) (v : Tree
       still_way : Since (λ w. (earlier : List TreeState) → IsOldUntilCommit ignored G v earlier w) old mid
       still_way = since_weaker (StateIsUnchanged ignored v) (λ w. (earlier : List TreeState) → IsOldUntilCommit ignored G v earlier w) old mid (still_on_the_way ignored G v) still_since
 
-      pub write_moments : SinceGivenEarlier (IsOldUntilCommit ignored G v) old mid
+      pub write_moments : SinceGivenEarlierAddedMoments (IsOldUntilCommit ignored G v) old mid
       write_moments = since_by (IsOldUntilCommit ignored G v) old mid still_way
 
       abbrev Waits : TreeState → Type 0
@@ -128,7 +128,7 @@ module _ (stage : Staging) (contents : List (List ℕ)) (base : Files) (v : Tree
           (observable_map mid _ (λ u. Waits u → Since (λ w. (earlier : List TreeState) → IsOldUntilCommit ignored G v earlier w) mid new) enters (λ u t waits.
           since_weaker (IsCommitting ignored G v.made u) (λ w. (earlier : List TreeState) → IsOldUntilCommit ignored G v earlier w) mid new (λ w entering. entering_on_the_way ignored G v u w waits.0 entering) (t ignored stage.intent (files_of v) v.made waits.0.is_durable waits.1))))
 
-      pub enter_moments : Written → Enters → SinceGivenEarlier (IsOldUntilCommit ignored G v) old new
+      pub enter_moments : Written → Enters → SinceGivenEarlierAddedMoments (IsOldUntilCommit ignored G v) old new
       enter_moments written enters = since_by (IsOldUntilCommit ignored G v) old new (enter_way written enters)
 
       abbrev Entered : {T E : Type 0} → Result T E → Type 0

@@ -4,7 +4,7 @@
 ghost use Rattle.std.specs.Prelude.{◌≡◌, ◌≤◌, ◌<◌, ◌+◌, ◌++◌, ◌∷◌, [], ◌^◌, ℕ, Bool, true, false, List, Some, None, length, IfOk, OnOk, OnErr, IsErrOf, IsSome, nat_lt};
 ghost use Rattle.journal_intent.specs.adb_schema.Soundness.{container_fault_except_contents};
 ghost use Rattle.adb_view.specs.declared.tables.Which.TheVariants.{Intent as IntentTable};
-ghost use Rattle.journal_intent.specs.adb_write.Canonical.{overflow_of};
+ghost use Rattle.journal_intent.specs.adb_write.Canonical.{counts_at_first_overflow};
 ghost use Rattle.base_core.specs.Calls.{HoldsNow, IfObservable};
 ghost use Rattle.base_core.specs.Crash.{Since};
 ghost use Rattle.base_core.specs.Undone.{IsDurable};
@@ -84,11 +84,11 @@ impl Stage {
             ≡ new_stage_of_removals_and_writes removals.now writes.now) }
         // The error for a payload that is too large has the counts at which a limit is exceeded.
         ensures large { (bytes values : ℕ) → IsErrOf result (WriteFault.TooLarge bytes values)
-            → overflow_of (value_of_intent (intent_of_lists removals.now writes.now))
+            → counts_at_first_overflow (value_of_intent (intent_of_lists removals.now writes.now))
             ≡ Some (bytes, values) }
         // Ok is returned only if the payload exceeds no limit.
         ensures fits { OnOk result
-            (overflow_of (value_of_intent (intent_of_lists removals.now writes.now)) ≡ None) }
+            (counts_at_first_overflow (value_of_intent (intent_of_lists removals.now writes.now)) ≡ None) }
     {
         let removals = copy_of_names(alloc, removals)?;
         let writes = copy_of_names(alloc, writes)?;
@@ -110,11 +110,11 @@ impl Stage {
             ≡ new_stage_of_removals_and_writes removals writes) }
         // The error for a payload that is too large has the counts at which a limit is exceeded.
         ensures large { (bytes values : ℕ) → IsErrOf result (WriteFault.TooLarge bytes values)
-            → overflow_of (value_of_intent (intent_of_lists removals writes))
+            → counts_at_first_overflow (value_of_intent (intent_of_lists removals writes))
             ≡ Some (bytes, values) }
         // Ok is returned only if the payload exceeds no limit.
         ensures fits { OnOk result
-            (overflow_of (value_of_intent (intent_of_lists removals writes)) ≡ None) }
+            (counts_at_first_overflow (value_of_intent (intent_of_lists removals writes)) ≡ None) }
     {
         let intent = PreparedIntent::of_names(alloc, removals, writes)?;
         Ok(Stage {

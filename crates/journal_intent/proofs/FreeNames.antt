@@ -9,13 +9,13 @@ use Rattle.base_core.specs.declared.cause.Cause.{Cause}
 use Rattle.base_core.proofs.AtName.{other_name, name_cases}
 use Rattle.adb_sound.specs.adb_fields.FirstPair.{IsIn}
 use Rattle.adb_sound.specs.adb_fields.Once.{AreDistinctNames}
-use Rattle.adb_sound.specs.adb_fields.Repeated.{entries_at, list_of}
+use Rattle.adb_sound.specs.adb_fields.Repeated.{entries_of_field_at_index, list_of}
 use Rattle.adb_sound.specs.adb_schema.Rules.{is_name_allowed_in_intent}
 use Rattle.adb_sound.specs.adb_schema.Reserved.{is_at_or_below, is_intent_or_stage_name}
 use Rattle.adb_sound.specs.adb_schema.SoundValues.{IsNameAllowedInIntent}
-use Rattle.adb_sound.specs.adb_schema.SoundContainers.{IsSoundContainer, IsSoundValue}
+use Rattle.adb_sound.specs.adb_schema.SoundContainers.{IsSoundContainerExceptContents, IsSoundValue}
 use Rattle.adb_sound.specs.adb_schema.Soundness.{container_fault_except_contents, payload_in, root_value_of_payload}
-use Rattle.adb_view.specs.Values.{entries_in, entry_in, text_in}
+use Rattle.adb_view.specs.Values.{entries_in, entry_at_index, text_in}
 use Rattle.adb_view.specs.declared.tables.Which.{Which}
 use Rattle.adb_view.specs.declared.tables.Which.TheVariants as Tables
 use Rattle.adb_view.specs.Plain.{Plain, Plains, none, more}
@@ -113,17 +113,17 @@ change_names_free removals writes names =
 
 free_value : (v : Plain) → IsSoundValue Tables.Intent v → HasFreeNamesAndUnrepeatedWrites (intent_of_value v)
 free_value v sound =
-    let removals : List (List ℕ) = map text_in (entries_at 0 v) in
-    let writes : List (List ℕ) = map text_in (entries_at 1 v) in
+    let removals : List (List ℕ) = map text_in (entries_of_field_at_index 0 v) in
+    let writes : List (List ℕ) = map text_in (entries_of_field_at_index 1 v) in
     record {
-      removals = frees (entries_in (entry_in v 0)) sound.rules.removals;
-      writes = frees (entries_in (entry_in v 1)) sound.rules.writes;
+      removals = frees (entries_in (entry_at_index v 0)) sound.rules.removals;
+      writes = frees (entries_in (entry_at_index v 1)) sound.rules.writes;
       once = once_of writes (once_right removals writes sound.once);
       apart = λ name at. apart_left removals writes name sound.once (one_of name writes at);
     }
 
 abbrev pub SoundValues : Type 0
-SoundValues = (which : Which) (file : List ℕ) → IsSoundContainer which file → IsSoundValue which (root_value_of_payload which (payload_in file))
+SoundValues = (which : Which) (file : List ℕ) → IsSoundContainerExceptContents which file → IsSoundValue which (root_value_of_payload which (payload_in file))
 
 free_by : (fault : Option Cause) (v : Plain) (intent : Intent) → (fault ≡ None → IsSoundValue Tables.Intent v) → intent_unless_fault fault v ≡ Some intent → HasFreeNamesAndUnrepeatedWrites intent
 free_by None v intent sound is = let same : intent_of_value v ≡ intent = cc in subst HasFreeNamesAndUnrepeatedWrites same (free_value v (sound refl))
@@ -143,20 +143,20 @@ module _ (values : SoundValues) (file : List ℕ) (sound : container_fault_excep
   abbrev held : Plain
   held = root_value_of_payload Tables.Intent (payload_in file)
 
-  pub removals_named : (list v : Plain) → list ≡ entry_in v 0 → v ≡ held → AllAreNames (entries_in list)
-  removals_named list v is same = subst (λ (u : Plain). AllAreNames (entries_in u)) (sym (is ∙ ap (λ u. entry_in u 0) same)) (all_named (entries_in (entry_in held 0)) (values Tables.Intent file sound).rules.removals)
+  pub removals_named : (list v : Plain) → list ≡ entry_at_index v 0 → v ≡ held → AllAreNames (entries_in list)
+  removals_named list v is same = subst (λ (u : Plain). AllAreNames (entries_in u)) (sym (is ∙ ap (λ u. entry_at_index u 0) same)) (all_named (entries_in (entry_at_index held 0)) (values Tables.Intent file sound).rules.removals)
 
-  pub writes_named : (list v : Plain) → list ≡ entry_in v 1 → v ≡ held → AllAreNames (entries_in list)
-  writes_named list v is same = subst (λ (u : Plain). AllAreNames (entries_in u)) (sym (is ∙ ap (λ u. entry_in u 1) same)) (all_named (entries_in (entry_in held 1)) (values Tables.Intent file sound).rules.writes)
+  pub writes_named : (list v : Plain) → list ≡ entry_at_index v 1 → v ≡ held → AllAreNames (entries_in list)
+  writes_named list v is same = subst (λ (u : Plain). AllAreNames (entries_in u)) (sym (is ∙ ap (λ u. entry_at_index u 1) same)) (all_named (entries_in (entry_at_index held 1)) (values Tables.Intent file sound).rules.writes)
 
 module _ (file : List ℕ) (sound : container_fault_except_contents Tables.Intent file ≡ None) where
-  pub lists_spelled : (removals writes : List (List ℕ)) (a b v : Plain) → removals ≡ map text_in (list_of (entries_in a)) → writes ≡ map text_in (list_of (entries_in b)) → a ≡ entry_in v 0 → b ≡ entry_in v 1 → v ≡ root_value_of_payload Tables.Intent (payload_in file)
+  pub lists_spelled : (removals writes : List (List ℕ)) (a b v : Plain) → removals ≡ map text_in (list_of (entries_in a)) → writes ≡ map text_in (list_of (entries_in b)) → a ≡ entry_at_index v 0 → b ≡ entry_at_index v 1 → v ≡ root_value_of_payload Tables.Intent (payload_in file)
       → read_intent file ≡ Some (record { removals = removals; writes = writes })
   lists_spelled removals writes a b v r w ra wb same =
       spelled file sound
       ∙ ap Some (λ i. record {
-        removals = sym (r ∙ ap (λ u. map text_in (list_of (entries_in u))) (ra ∙ ap (λ u. entry_in u 0) same)) i;
-        writes = sym (w ∙ ap (λ u. map text_in (list_of (entries_in u))) (wb ∙ ap (λ u. entry_in u 1) same)) i;
+        removals = sym (r ∙ ap (λ u. map text_in (list_of (entries_in u))) (ra ∙ ap (λ u. entry_at_index u 0) same)) i;
+        writes = sym (w ∙ ap (λ u. map text_in (list_of (entries_in u))) (wb ∙ ap (λ u. entry_at_index u 1) same)) i;
       })
 
 pub few_lists : (removals writes : List (List ℕ)) → length removals < 2 ^ 32 → length writes < 2 ^ 32 → length removals + length writes < 2 ^ 63

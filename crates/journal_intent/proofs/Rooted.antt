@@ -4,7 +4,7 @@ use Rattle.adb_view.specs.Plain.{Plain, none, more, array_or_null, trimmed_objec
 use Rattle.adb_values.specs.Drafts.{DraftState, empty_draft, draft_with_open_list, draft_with}
 use Rattle.adb_values.specs.Written.{IsWrittenAs}
 use Rattle.adb_values.proofs.Lists.{Closes}
-use Rattle.adb_sound.specs.adb_write.Canonical.{ByteAndValueCounts, canonical, overflow_of, payload_unless_overflow, payload_or_overflow}
+use Rattle.adb_sound.specs.adb_write.Canonical.{ByteAndValueCounts, canonical, counts_at_first_overflow, payload_unless_overflow, payload_or_counts_at_overflow}
 use Rattle.adb_sound.specs.adb_write.declared.writer.WriteFault.{WriteFault}
 use Rattle.adb_sound.specs.adb_write.declared.writer.WriteFault.TheVariants.{TooLarge}
 use Rattle.journal_intent.specs.Intent.{Intent}
@@ -17,19 +17,19 @@ intent_given intent a b c d e start opened first second last =
     let chain : d ≡ draft_with (array_or_null (plains_of_texts intent.writes)) (draft_with (array_or_null (plains_of_texts intent.removals)) (draft_with_open_list a)) = cc in
     last (more (array_or_null (plains_of_texts intent.removals)) (more (array_or_null (plains_of_texts intent.writes)) none)) a chain ∙ ap (λ (x : DraftState). draft_with (value_of_intent intent) x) start
 
-pub payload_fits : (v : Plain) (payload : List ℕ) → payload_or_overflow v ≡ Ok payload → (overflow_of v ≡ None) × (payload ≡ canonical v)
-unfolding payload_or_overflow
-payload_fits v payload is = by (overflow_of v) refl
+pub payload_fits : (v : Plain) (payload : List ℕ) → payload_or_counts_at_overflow v ≡ Ok payload → (counts_at_first_overflow v ≡ None) × (payload ≡ canonical v)
+unfolding payload_or_counts_at_overflow
+payload_fits v payload is = by (counts_at_first_overflow v) refl
   where
-    by : (o : Option ByteAndValueCounts) → overflow_of v ≡ o → (overflow_of v ≡ None) × (payload ≡ canonical v)
+    by : (o : Option ByteAndValueCounts) → counts_at_first_overflow v ≡ o → (counts_at_first_overflow v ≡ None) × (payload ≡ canonical v)
     by None e = (e, let same = sym is ∙ ap (payload_unless_overflow (canonical v)) e in cc)
     by (Some counts) e = absurd (let other = sym is ∙ ap (payload_unless_overflow (canonical v)) e in cc)
 
-pub payload_large : (v : Plain) (counts : ByteAndValueCounts) → payload_or_overflow v ≡ Err counts → overflow_of v ≡ Some counts
-unfolding payload_or_overflow
-payload_large v counts is = by (overflow_of v) refl
+pub payload_large : (v : Plain) (counts : ByteAndValueCounts) → payload_or_counts_at_overflow v ≡ Err counts → counts_at_first_overflow v ≡ Some counts
+unfolding payload_or_counts_at_overflow
+payload_large v counts is = by (counts_at_first_overflow v) refl
   where
-    by : (o : Option ByteAndValueCounts) → overflow_of v ≡ o → overflow_of v ≡ Some counts
+    by : (o : Option ByteAndValueCounts) → counts_at_first_overflow v ≡ o → counts_at_first_overflow v ≡ Some counts
     by None e = absurd (let other = sym is ∙ ap (payload_unless_overflow (canonical v)) e in cc)
     by (Some found) e = e ∙ (let same = sym is ∙ ap (payload_unless_overflow (canonical v)) e in cc)
 

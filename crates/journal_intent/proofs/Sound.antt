@@ -4,12 +4,12 @@ use Rattle.adb_sound.proofs.Payloads.{payload_long}
 use Rattle.adb_block.specs.AllBlocks.{blocks_of}
 use Rattle.adb_block.specs.Container.{IsContainerWithBlocks}
 use Rattle.adb_block.specs.Header.{schema_of_header}
-use Rattle.adb_block.specs.Piece.{Piece}
+use Rattle.adb_block.specs.BlockWithoutOffset.{BlockWithoutOffset}
 use Rattle.adb_view.specs.Plain.{Plain}
 use Rattle.adb_sound.specs.adb_schema.Soundness.{container_fault_except_contents, payload_in, root_value_of_payload}
 use Rattle.adb_sound.specs.adb_schema.declared.read.TheConstants.{INTENT_WORD}
 use Rattle.adb_view.specs.declared.tables.Which.TheVariants.{Intent as Table, Package}
-use Rattle.adb_sound.specs.adb_write.Canonical.{canonical, empty_layout, write, MOST_BYTES}
+use Rattle.adb_sound.specs.adb_write.Canonical.{canonical, empty_layout_counting_root, write, MOST_BYTES}
 use Rattle.adb_sound.specs.adb_write.File.{adb_block_of_payload, file_of}
 use Rattle.adb_sound.specs.adb_write.Size.{payload_size_of}
 use Rattle.adb_sound.specs.pkg_core.Whole.{container_fault, container_fault_after_header, container_fault_of_table}
@@ -24,11 +24,11 @@ unfolding container_fault container_fault_of_table container_fault_except_conten
 whole_is_first file header sound = sym (ap (container_fault_after_header file) header) ∙ sound
 
 pub header_is : ((schema : ℕ) (payload : List ℕ) → schema < 2 ^ 32 → 8 ≤ length payload → length payload ≤ MOST_BYTES → IsContainerWithBlocks (file_of schema payload) schema (adb_block_of_payload payload ∷ []))
-    → ((file : List ℕ) (schema : ℕ) (pieces : List Piece) → IsContainerWithBlocks file schema pieces → (schema_of_header file ≡ Ok schema) × (blocks_of file ≡ Ok pieces))
+    → ((file : List ℕ) (schema : ℕ) (pieces : List BlockWithoutOffset) → IsContainerWithBlocks file schema pieces → (schema_of_header file ≡ Ok schema) × (blocks_of file ≡ Ok pieces))
     → (v : Plain) → payload_size_of v ≤ MOST_BYTES → schema_of_header (file_of INTENT_WORD (canonical v)) ≡ Ok INTENT_WORD
 header_is spelled read v fits =
     (read (file_of INTENT_WORD (canonical v)) INTENT_WORD (adb_block_of_payload (canonical v) ∷ [])
-    (spelled INTENT_WORD (canonical v) (lit< tt) (payload_long (write v empty_layout).0 (write v empty_layout).1) fits)).0
+    (spelled INTENT_WORD (canonical v) (lit< tt) (payload_long (write v empty_layout_counting_root).0 (write v empty_layout_counting_root).1) fits)).0
 
 pub intent_read : (v : Plain) → schema_of_header (file_of INTENT_WORD (canonical v)) ≡ Ok INTENT_WORD → container_fault (file_of INTENT_WORD (canonical v)) ≡ None
     → root_value_of_payload Table (payload_in (file_of INTENT_WORD (canonical v))) ≡ v → read_intent (file_of INTENT_WORD (canonical v)) ≡ Some (intent_of_value v)

@@ -8,10 +8,10 @@ use Rattle.base_core.proofs.AtName.{same_name}
 use Rattle.adb_view.specs.Plain.{Plain, Plains, none, more, text, blob_or_null, IsNormal, AreNormal, count_of, plains_of_texts}
 use Rattle.adb_view.specs.Shaped.{Each, IsBlobOrNull, HasShape}
 use Rattle.adb_sound.specs.adb_fields.FirstPair.{IsIn}
-use Rattle.adb_sound.specs.adb_fields.Once.{AreDistinctNames, HasNoRepeatedName}
+use Rattle.adb_sound.specs.adb_fields.Once.{AreDistinctNames, HasNoForbiddenRepeatedName}
 use Rattle.adb_sound.specs.adb_fields.Repeated.{list_of}
 use Rattle.adb_sound.specs.adb_schema.Rules.{is_name_allowed_in_intent}
-use Rattle.adb_sound.specs.adb_schema.SoundValues.{IsNameAllowedInIntent, ObeysFieldRulesOfTable}
+use Rattle.adb_sound.specs.adb_schema.SoundValues.{IsNameAllowedInIntent, ObeysTextAndNumberRulesOfTable}
 use Rattle.adb_view.specs.Schema.{shape_of}
 use Rattle.adb_view.specs.Values.{text_in}
 use Rattle.adb_view.specs.declared.tables.Which.TheVariants as Tables
@@ -87,7 +87,7 @@ each_right : (xs ys : List (List ℕ)) → All (λ name. is_name_allowed_in_inte
 each_right [] ys all = each_change ys all
 each_right (x ∷ xs) ys all = each_right xs ys (All-tail (λ name. is_name_allowed_in_intent name ≡ true) x (xs ++ ys) all)
 
-pub value_rules : (removals writes : List (List ℕ)) → AreDistinctNamesAllowedInIntent (removals ++ writes) → ObeysFieldRulesOfTable Tables.Intent (value_of_intent (intent_of_lists removals writes))
+pub value_rules : (removals writes : List (List ℕ)) → AreDistinctNamesAllowedInIntent (removals ++ writes) → ObeysTextAndNumberRulesOfTable Tables.Intent (value_of_intent (intent_of_lists removals writes))
 value_rules [] [] names = record { removals = tt; writes = tt }
 value_rules (r ∷ rs) [] names = record { removals = each_left (r ∷ rs) [] names.each; writes = tt }
 value_rules [] (w ∷ ws) names = record { removals = tt; writes = each_right [] (w ∷ ws) names.each }
@@ -107,7 +107,7 @@ pub distinct : (names : List (List ℕ)) → AllPairs (λ a b. bytes_eq a b ≡ 
 distinct [] once = tt
 distinct (x ∷ xs) once = (λ at. let found = place_in x xs at in true_false (sym (same_name x (get_or xs found.0 []) (sym found.2)) ∙ once 0 (suc found.0) [] (omega arith) (omega (arith, found.1))), distinct xs (λ i j d less within. once (suc i) (suc j) d (omega (arith, less)) (omega (arith, within))))
 
-pub value_once : (removals writes : List (List ℕ)) → AllPairs (λ a b. bytes_eq a b ≡ false) (removals ++ writes) → HasNoRepeatedName Tables.Intent (value_of_intent (intent_of_lists removals writes))
+pub value_once : (removals writes : List (List ℕ)) → AllPairs (λ a b. bytes_eq a b ≡ false) (removals ++ writes) → HasNoForbiddenRepeatedName Tables.Intent (value_of_intent (intent_of_lists removals writes))
 value_once removals writes once =
     subst (λ (i : Intent). AreDistinctNames (i.removals ++ i.writes)) (sym (value_back removals writes)) (distinct (removals ++ writes) once)
 

@@ -7,10 +7,10 @@ use Rattle.std.specs.Str.{bytes_eq}
 use Rattle.std.specs.List.{starts_with, All}
 use Rattle.base_core.specs.declared.cause.Cause.{Cause}
 use Rattle.adb_view.specs.Plain.{Plain}
-use Rattle.adb_sound.specs.adb_fields.Repeated.{entries_at}
+use Rattle.adb_sound.specs.adb_fields.Repeated.{entries_of_field_at_index}
 use Rattle.adb_sound.specs.adb_schema.Rules.{is_name_allowed_in_intent}
 use Rattle.adb_sound.specs.adb_schema.Soundness.{container_fault_except_contents, payload_in, root_value_of_payload}
-use Rattle.adb_view.specs.FieldIndexes.{INTENT_REMOVALS, INTENT_WRITES}
+use Rattle.adb_view.specs.FieldIndexes.{INTENT_REMOVALS_INDEX, INTENT_WRITES_INDEX}
 use Rattle.adb_view.specs.Values.{text_in}
 use Rattle.adb_view.specs.declared.tables.Which.TheVariants.{Intent as IntentTable}
 
@@ -44,8 +44,8 @@ pub record Intent : Type 0 where
 -- the intent whose two lists are in this plain value of an intent container
 abbrev pub intent_of_value : Plain → Intent
 intent_of_value v = record {
-  removals = map text_in (entries_at INTENT_REMOVALS v);
-  writes = map text_in (entries_at INTENT_WRITES v);
+  removals = map text_in (entries_of_field_at_index INTENT_REMOVALS_INDEX v);
+  writes = map text_in (entries_of_field_at_index INTENT_WRITES_INDEX v);
 }
 
 -- the intent of a plain value, unless a test of the value's container failed; the option has the cause of a failure

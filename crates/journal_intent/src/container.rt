@@ -4,7 +4,7 @@ ghost use Rattle.std.specs.Prelude.{◌≡◌, ◌++◌, ◌<◌, ◌+◌, ◌^�
 ghost use Rattle.adb_sound.specs.adb_schema.declared.read.TheConstants.{INTENT_WORD};
 ghost use Rattle.adb_values.specs.Drafts.{draft_with};
 ghost use Rattle.adb_view.specs.Plain.{array_or_null, plains_of_texts};
-ghost use Rattle.adb_sound.specs.adb_write.Canonical.{canonical, overflow_of};
+ghost use Rattle.adb_sound.specs.adb_write.Canonical.{canonical, counts_at_first_overflow};
 ghost use Rattle.adb_sound.specs.adb_write.File.{file_of};
 ghost use Rattle.journal_intent.specs.Intent.{AreDistinctNamesAllowedInIntent, read_intent};
 ghost use Rattle.journal_intent.specs.IntentValue.{intent_of_lists, value_of_intent};
@@ -37,11 +37,11 @@ pub(crate) fn intent_file(
         (λ file. read_intent file.items ≡ Some (intent_of_lists removals.now writes.now)) }
     // The error for a payload that is too large has the counts at which a limit is exceeded.
     ensures large { (bytes values : ℕ) → IsErrOf result (WriteFault.TooLarge bytes values)
-        → overflow_of (value_of_intent (intent_of_lists removals.now writes.now))
+        → counts_at_first_overflow (value_of_intent (intent_of_lists removals.now writes.now))
         ≡ Some (bytes, values) }
     // Ok is returned only if the payload exceeds no limit.
     ensures fits { OnOk result
-        (overflow_of (value_of_intent (intent_of_lists removals.now writes.now)) ≡ None) }
+        (counts_at_first_overflow (value_of_intent (intent_of_lists removals.now writes.now)) ≡ None) }
     // The intent has fewer than 2^63 names, so that they can be counted in 64 bits.
     ensures few { OnOk result (length removals.now + length writes.now < 2 ^ 63) }
 {
@@ -65,13 +65,13 @@ fn an_intent_is_read_back()
     // intent of these lists.
     ensures read { (removals writes : List (List ℕ))
         → AreDistinctNamesAllowedInIntent (removals ++ writes)
-        → overflow_of (value_of_intent (intent_of_lists removals writes)) ≡ None
+        → counts_at_first_overflow (value_of_intent (intent_of_lists removals writes)) ≡ None
         → read_intent
         (file_of INTENT_WORD (canonical (value_of_intent (intent_of_lists removals writes))))
         ≡ Some (intent_of_lists removals writes) }
     // If the payload exceeds no limit, the intent has fewer than 2^63 names.
     ensures few { (removals writes : List (List ℕ))
-        → overflow_of (value_of_intent (intent_of_lists removals writes)) ≡ None
+        → counts_at_first_overflow (value_of_intent (intent_of_lists removals writes)) ≡ None
         → length removals + length writes < 2 ^ 63 }
 {
     // Laws that the proof needs; they compute nothing.

@@ -5,7 +5,7 @@ ghost use Rattle.std.specs.Prelude.{◌≡◌, ◌++◌, ◌≤◌, ◌<◌, ◌
 ghost use Rattle.adb_sound.specs.adb_schema.ReadFaults.{IsReadFault};
 ghost use Rattle.adb_sound.specs.adb_schema.Soundness.{container_fault_except_contents};
 ghost use Rattle.adb_view.specs.declared.tables.Which.TheVariants.{Intent as IntentTable};
-ghost use Rattle.adb_sound.specs.adb_write.Canonical.{overflow_of};
+ghost use Rattle.adb_sound.specs.adb_write.Canonical.{counts_at_first_overflow};
 ghost use Rattle.journal_intent.specs.FreeNames.{HasFreeNamesAndUnrepeatedWrites, stage_names_from};
 ghost use Rattle.journal_intent.specs.Intent.{AreDistinctNamesAllowedInIntent, intent_name, read_intent, stage_name};
 ghost use Rattle.journal_intent.specs.IntentValue.{intent_of_lists, value_of_intent};
@@ -72,11 +72,11 @@ impl PreparedIntent {
         ensures intent { IfOk result (λ intent. intent ≡ intent_of_lists removals writes) }
         // The error for a payload that is too large has the counts at which a limit is exceeded.
         ensures large { (bytes values : ℕ) → IsErrOf result (WriteFault.TooLarge bytes values)
-            → overflow_of (value_of_intent (intent_of_lists removals writes))
+            → counts_at_first_overflow (value_of_intent (intent_of_lists removals writes))
             ≡ Some (bytes, values) }
         // Ok is returned only if the payload exceeds no limit.
         ensures fits { OnOk result
-            (overflow_of (value_of_intent (intent_of_lists removals writes)) ≡ None) }
+            (counts_at_first_overflow (value_of_intent (intent_of_lists removals writes)) ≡ None) }
     {
         let file = intent_file(alloc, &removals, &writes)?;
         let lists = IntentLists { removals, writes };

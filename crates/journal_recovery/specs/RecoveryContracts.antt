@@ -5,7 +5,7 @@ use Rattle.std.specs.Prelude.{◌≡◌, ℕ, true, List, [], Some, None, IsSome
 use Rattle.adb_view.specs.declared.tables.Which.TheVariants.{Intent as IntentTable}
 use Rattle.base_core.specs.Calls.{HoldsNow, IfObservable}
 use Rattle.base_core.specs.Crash.{Since}
-use Rattle.base_core.specs.Faults.{Counts, CountsOnlyRise, IsFaultCountedWithCause, CountsNoNewFault}
+use Rattle.base_core.specs.Faults.{Counts, CountsOnlyRise, CountsNewFaultWithCause, CountsNoNewFaultOrLackOfMemory}
 use Rattle.base_core.specs.Tree.{TreeState, files_of}
 use Rattle.base_core.specs.declared.cause.Cause.{Cause}
 use Rattle.journal_core.specs.adb_schema.Soundness.{container_fault_except_contents}
@@ -46,13 +46,13 @@ pub record IsRecoveryExplainedByCounts {T : Type 0} (before now : Counts)
   -- no count of faults falls
   pub goes_on : CountsOnlyRise before now
   -- an I/O error is returned only if the count of faults rose, and the counts give it a cause
-  pub disk : IsErrOf result Disk → IsFaultCountedWithCause before now
+  pub disk : IsErrOf result Disk → CountsNewFaultWithCause before now
   -- Ok is returned only if no fault was counted
-  pub kept : OnOk result (CountsNoNewFault before now)
+  pub kept : OnOk result (CountsNoNewFaultOrLackOfMemory before now)
   -- `Memory` is returned only if no fault was counted
-  pub memory : IsErrOf result Memory → CountsNoNewFault before now
+  pub memory : IsErrOf result Memory → CountsNoNewFaultOrLackOfMemory before now
   -- the intent is refused only if no fault was counted
-  pub refused : (cause : Cause) → IsErrOf result (IntentBad cause) → CountsNoNewFault before now
+  pub refused : (cause : Cause) → IsErrOf result (IntentBad cause) → CountsNoNewFaultOrLackOfMemory before now
 
 -- what a call ensures that removes these names; they should all be in the staging area
 pub record RemovesStagedNames {T E : Type 0} (names : List (List ℕ)) (old now : List TreeState)

@@ -7,7 +7,7 @@ ghost use Rattle.adb_view.specs.declared.tables.Which.TheVariants.{Intent as Int
 ghost use Rattle.base_core.specs.Calls.{HoldsNow, IfObservable};
 ghost use Rattle.base_core.specs.Crash.{Since};
 ghost use Rattle.base_core.specs.Undone.{IsDurable};
-ghost use Rattle.base_core.specs.Faults.{CountsOnlyRise, IsFaultCountedWithCause, CountsNoNewFault};
+ghost use Rattle.base_core.specs.Faults.{CountsOnlyRise, CountsNewFaultWithCause, CountsNoNewFaultOrLackOfMemory};
 ghost use Rattle.base_core.specs.Tree.{files_of};
 ghost use Rattle.base_core.specs.declared.cause.Cause.{Cause};
 ghost use Rattle.journal_core.specs.CallCounts.{IsResultExplainedByCounts};
@@ -232,13 +232,13 @@ fn empty_stage<T: Tree>(alloc: Global, tree: &mut T) -> Result<(), TreeFault>
     ensures goes_on { CountsOnlyRise (T.counts tree.old) (T.counts tree.new) }
     // An I/O error is returned only if a fault was counted.
     ensures disk { IsErrOf result TreeFault.Disk
-        → IsFaultCountedWithCause (T.counts tree.old) (T.counts tree.new) }
+        → CountsNewFaultWithCause (T.counts tree.old) (T.counts tree.new) }
     // Ok is returned only if no fault was counted.
-    ensures kept { OnOk result (CountsNoNewFault (T.counts tree.old) (T.counts tree.new)) }
+    ensures kept { OnOk result (CountsNoNewFaultOrLackOfMemory (T.counts tree.old) (T.counts tree.new)) }
     // If the program is out of memory, nothing has changed, and no fault was counted.
     ensures memory { IsErrOf result TreeFault.Memory
         → (T.history tree.new ≡ T.history tree.old)
-        × CountsNoNewFault (T.counts tree.old) (T.counts tree.new) }
+        × CountsNoNewFaultOrLackOfMemory (T.counts tree.old) (T.counts tree.new) }
 
     // No call is a misuse.
     ensures proper { IfObservable (T.history tree.old) (λ v. (T.counts tree.new).misuses

@@ -17,13 +17,13 @@ use Rattle.package_verifier.specs.package_reader.declared.piece.PieceFault.TheVa
 use Rattle.package_verifier.specs.package_reader.declared.one_file.FilePieces.{FilePieces}
 use Rattle.file_guard.specs.pkg_core.Contents.{ExpectedFile}
 use Rattle.file_guard.specs.pkg_core.Seen.{IsFileOfLength}
-use Rattle.journal_commit.specs.StageRun.{HasSameFilesExceptStaged, IsRunThatStagedContents, IsStagingRun}
+use Rattle.journal_commit.specs.StageRun.{HasSameFilesExceptStaged, IsRunThatStagedAndBeganFiles, IsStagingRun}
 use Rattle.journal_commit.proofs.Joins.{start_is}
 use Rattle.journal_staging.specs.Reading.{IsReadingIn}
 
 -- ---- what is read while files come to wait
 
-pub shown_now : (stage : Staging) (contents : List (List ℕ)) (begun : Option (List ℕ)) (v : TreeState) (first now : History) → IsRunThatStagedContents stage contents begun v first now → HoldsNow now (HasSameFilesExceptStaged (files_of v))
+pub shown_now : (stage : Staging) (contents : List (List ℕ)) (begun : Option (List ℕ)) (v : TreeState) (first now : History) → IsRunThatStagedAndBeganFiles stage contents begun v first now → HoldsNow now (HasSameFilesExceptStaged (files_of v))
 shown_now stage contents begun v first now staging =
     let (rest, is) = start_is first v staging.start in
     now_since (HasSameFilesExceptStaged (files_of v)) first now v rest is (λ q off. refl) staging.run.reads
@@ -36,7 +36,7 @@ no_waiting files name pkg empty there = by (is_staged name) refl
     by true is = cc (empty name is)
     by false is = refl
 
-pub package_now : (stage : Staging) (contents : List (List ℕ)) (begun : Option (List ℕ)) (v : TreeState) (first now : History) (name pkg : List ℕ) → IsRunThatStagedContents stage contents begun v first now → files_of v name ≡ Some pkg
+pub package_now : (stage : Staging) (contents : List (List ℕ)) (begun : Option (List ℕ)) (v : TreeState) (first now : History) (name pkg : List ℕ) → IsRunThatStagedAndBeganFiles stage contents begun v first now → files_of v name ≡ Some pkg
     → HoldsNow now (λ w. files_of w name ≡ Some pkg)
 package_now stage contents begun v first now name pkg staging there =
     now_map now (HasSameFilesExceptStaged (files_of v)) (λ w. files_of w name ≡ Some pkg) (shown_now stage contents begun v first now staging)
@@ -47,24 +47,24 @@ package_now stage contents begun v first now name pkg staging there =
 -- a file that is begun waits, with whatever bytes came
 abbrev pub IsBegunOn : Staging → Staging → History → History → Type 0
 IsBegunOn start stage old now =
-    (contents : List (List ℕ)) (v : TreeState) (first : List TreeState) → IsRunThatStagedContents start contents None v first old
-    → (so_far : List ℕ) × IsRunThatStagedContents stage contents (Some so_far) v first now
+    (contents : List (List ℕ)) (v : TreeState) (first : List TreeState) → IsRunThatStagedAndBeganFiles start contents None v first old
+    → (so_far : List ℕ) × IsRunThatStagedAndBeganFiles stage contents (Some so_far) v first now
 
 pub begun_first : (start stage : Staging) (old now : History)
-    → ((contents : List (List ℕ)) (v : TreeState) (first : List TreeState) → IsRunThatStagedContents start contents None v first old → IsRunThatStagedContents stage contents (Some []) v first now)
+    → ((contents : List (List ℕ)) (v : TreeState) (first : List TreeState) → IsRunThatStagedAndBeganFiles start contents None v first old → IsRunThatStagedAndBeganFiles stage contents (Some []) v first now)
     → IsBegunOn start stage old now
 begun_first start stage old now begun contents v first staging = ([], begun contents v first staging)
 
 module _ (start stage : Staging) (old now later : History) (begun : IsBegunOn start stage old now) where
   pub begun_more : (grown : Staging) (piece : List ℕ)
-      → ((contents : List (List ℕ)) (so_far : List ℕ) (v : TreeState) (first : List TreeState) → IsRunThatStagedContents stage contents (Some so_far) v first now → IsRunThatStagedContents grown contents (Some (so_far ++ piece)) v first later)
+      → ((contents : List (List ℕ)) (so_far : List ℕ) (v : TreeState) (first : List TreeState) → IsRunThatStagedAndBeganFiles stage contents (Some so_far) v first now → IsRunThatStagedAndBeganFiles grown contents (Some (so_far ++ piece)) v first later)
       → IsBegunOn start grown old later
   begun_more grown piece appended contents v first staging =
       let (so_far, half) = begun contents v first staging in
       (so_far ++ piece, appended contents so_far v first half)
 
-  pub begun_run : ((contents : List (List ℕ)) (so_far : List ℕ) (v : TreeState) (first : List TreeState) → IsRunThatStagedContents stage contents (Some so_far) v first now → IsStagingRun v first later)
-      → (contents : List (List ℕ)) (v : TreeState) (first : List TreeState) → IsRunThatStagedContents start contents None v first old → IsStagingRun v first later
+  pub begun_run : ((contents : List (List ℕ)) (so_far : List ℕ) (v : TreeState) (first : List TreeState) → IsRunThatStagedAndBeganFiles stage contents (Some so_far) v first now → IsStagingRun v first later)
+      → (contents : List (List ℕ)) (v : TreeState) (first : List TreeState) → IsRunThatStagedAndBeganFiles start contents None v first old → IsStagingRun v first later
   begun_run run contents v first staging =
       let (so_far, half) = begun contents v first staging in
       run contents so_far v first half
@@ -77,17 +77,17 @@ pub record IsHalfway (stage : Staging) (file : FilePieces) (contents : List (Lis
   pub left : List ℕ
   pub parts : bytes ≡ so_far ++ left
   pub reading : IsReadingIn (files_of v) file left
-  pub staging : IsRunThatStagedContents stage contents (Some so_far) v first now
+  pub staging : IsRunThatStagedAndBeganFiles stage contents (Some so_far) v first now
 
 abbrev pub IsReadOn : Staging → Staging → FilePieces → FilePieces → History → History → Type 0
 IsReadOn start stage whole file old now =
-    (contents : List (List ℕ)) (v : TreeState) (first : List TreeState) (bytes : List ℕ) → IsRunThatStagedContents start contents None v first old
+    (contents : List (List ℕ)) (v : TreeState) (first : List TreeState) (bytes : List ℕ) → IsRunThatStagedAndBeganFiles start contents None v first old
     → IsReadingIn (files_of v) whole bytes → IsHalfway stage file contents bytes v first now
 
 -- where there is room, no call is a misuse
 abbrev pub IsProperOn : Staging → FilePieces → History → ℕ → ℕ → Type 0
 IsProperOn start whole old before now =
-    (contents : List (List ℕ)) (v : TreeState) (first : List TreeState) (bytes : List ℕ) → IsRunThatStagedContents start contents None v first old
+    (contents : List (List ℕ)) (v : TreeState) (first : List TreeState) (bytes : List ℕ) → IsRunThatStagedAndBeganFiles start contents None v first old
     → IsReadingIn (files_of v) whole bytes → AreIntentAndStagedPathsFree (files_of v) → now ≡ before
 
 -- ---- a piece is read
@@ -114,7 +114,7 @@ module _ (start stage : Staging) (whole file next : FilePieces) (piece : List �
       observed (w ∷ earlier) g = λ there. g half.reading.pkg half.left there half.reading.reading
 
   -- where the package stands, only the tree fails
-  pub read_fails : (contents : List (List ℕ)) (v : TreeState) (first : List TreeState) (bytes : List ℕ) → IsRunThatStagedContents start contents None v first old → IsReadingIn (files_of v) whole bytes
+  pub read_fails : (contents : List (List ℕ)) (v : TreeState) (first : List TreeState) (bytes : List ℕ) → IsRunThatStagedAndBeganFiles start contents None v first old → IsReadingIn (files_of v) whole bytes
       → (fault : PieceFault) → result ≡ Err fault → fault ≡ Disk
   read_fails contents v first bytes staging reading fault is =
       let half = read contents v first bytes staging reading in
@@ -131,7 +131,7 @@ module _ (start stage : Staging) (whole file next : FilePieces) (piece : List �
 
     -- a piece came, and was appended
     pub read_more : (grown : Staging) → result ≡ Ok true
-        → ((contents : List (List ℕ)) (so_far : List ℕ) (v : TreeState) (first : List TreeState) → IsRunThatStagedContents stage contents (Some so_far) v first now → IsRunThatStagedContents grown contents (Some (so_far ++ piece)) v first later)
+        → ((contents : List (List ℕ)) (so_far : List ℕ) (v : TreeState) (first : List TreeState) → IsRunThatStagedAndBeganFiles stage contents (Some so_far) v first now → IsRunThatStagedAndBeganFiles grown contents (Some (so_far ++ piece)) v first later)
         → IsReadOn start grown whole next old later
     read_more grown is appended contents v first bytes staging reading =
         let half = read contents v first bytes staging reading in
@@ -145,39 +145,39 @@ module _ (start stage : Staging) (whole file next : FilePieces) (piece : List �
         }
 
     -- the file has ended
-    pub read_whole : result ≡ Ok false → (contents : List (List ℕ)) (v : TreeState) (first : List TreeState) (bytes : List ℕ) → IsRunThatStagedContents start contents None v first old → IsReadingIn (files_of v) whole bytes
-        → IsRunThatStagedContents stage contents (Some bytes) v first now
+    pub read_whole : result ≡ Ok false → (contents : List (List ℕ)) (v : TreeState) (first : List TreeState) (bytes : List ℕ) → IsRunThatStagedAndBeganFiles start contents None v first old → IsReadingIn (files_of v) whole bytes
+        → IsRunThatStagedAndBeganFiles stage contents (Some bytes) v first now
     read_whole is contents v first bytes staging reading =
         let half = read contents v first bytes staging reading in
         let ended = subst (ReturnsNextBytes (HasUnreadBytes next half.reading.pkg) half.left piece) is (given contents v first bytes half) in
         let all : bytes ≡ half.so_far = half.parts ∙ ap (λ l. half.so_far ++ l) ended.0 ∙ append-nil half.so_far in
-        subst (λ (b : List ℕ). IsRunThatStagedContents stage contents (Some b) v first now) (sym all) half.staging
+        subst (λ (b : List ℕ). IsRunThatStagedAndBeganFiles stage contents (Some b) v first now) (sym all) half.staging
 
 -- ---- whatever the package holds
 
 -- just the bytes wait that came
 abbrev pub IsListedOn : Staging → Staging → FilePieces → FilePieces → History → History → Type 0
 IsListedOn start stage whole file old now =
-    HaveBeenReturned whole [] → (contents : List (List ℕ)) (v : TreeState) (first : List TreeState) → IsRunThatStagedContents start contents None v first old
-    → (so_far : List ℕ) × HaveBeenReturned file so_far × IsRunThatStagedContents stage contents (Some so_far) v first now
+    HaveBeenReturned whole [] → (contents : List (List ℕ)) (v : TreeState) (first : List TreeState) → IsRunThatStagedAndBeganFiles start contents None v first old
+    → (so_far : List ℕ) × HaveBeenReturned file so_far × IsRunThatStagedAndBeganFiles stage contents (Some so_far) v first now
 
 pub begun_listed : (start stage : Staging) (whole : FilePieces) (old now : History)
-    → ((contents : List (List ℕ)) (v : TreeState) (first : List TreeState) → IsRunThatStagedContents start contents None v first old → IsRunThatStagedContents stage contents (Some []) v first now)
+    → ((contents : List (List ℕ)) (v : TreeState) (first : List TreeState) → IsRunThatStagedAndBeganFiles start contents None v first old → IsRunThatStagedAndBeganFiles stage contents (Some []) v first now)
     → IsListedOn start stage whole whole old now
 begun_listed start stage whole old now begun come contents v first staging = ([], come, begun contents v first staging)
 
 module _ (start stage : Staging) (whole file next : FilePieces) (piece : List ℕ) (old now later : History) (result : Result Bool PieceFault)
     (listed : IsListedOn start stage whole file old now) (tested : (so_far : List ℕ) → HaveBeenReturned file so_far → IsTestedReturn file so_far piece result next) where
   pub listed_more : (grown : Staging) → result ≡ Ok true
-      → ((contents : List (List ℕ)) (so_far : List ℕ) (v : TreeState) (first : List TreeState) → IsRunThatStagedContents stage contents (Some so_far) v first now → IsRunThatStagedContents grown contents (Some (so_far ++ piece)) v first later)
+      → ((contents : List (List ℕ)) (so_far : List ℕ) (v : TreeState) (first : List TreeState) → IsRunThatStagedAndBeganFiles stage contents (Some so_far) v first now → IsRunThatStagedAndBeganFiles grown contents (Some (so_far ++ piece)) v first later)
       → IsListedOn start grown whole next old later
   listed_more grown is appended come contents v first staging =
       let (so_far, came, half) = listed come contents v first staging in
       let behind = subst (λ (r : Result Bool PieceFault). IsTestedReturn file so_far piece r next) is (tested so_far came) in
       (so_far ++ piece, behind.1, appended contents so_far v first half)
 
-  pub listed_whole : expected_file_of file ≡ expected_file_of whole → result ≡ Ok false → HaveBeenReturned whole [] → (contents : List (List ℕ)) (v : TreeState) (first : List TreeState) → IsRunThatStagedContents start contents None v first old
-      → (bytes : List ℕ) × AreAsExpected (expected_file_of whole) bytes × IsRunThatStagedContents stage contents (Some bytes) v first now
+  pub listed_whole : expected_file_of file ≡ expected_file_of whole → result ≡ Ok false → HaveBeenReturned whole [] → (contents : List (List ℕ)) (v : TreeState) (first : List TreeState) → IsRunThatStagedAndBeganFiles start contents None v first old
+      → (bytes : List ℕ) × AreAsExpected (expected_file_of whole) bytes × IsRunThatStagedAndBeganFiles stage contents (Some bytes) v first now
   listed_whole due is come contents v first staging =
       let (so_far, came, half) = listed come contents v first staging in
       let behind = subst (λ (r : Result Bool PieceFault). IsTestedReturn file so_far piece r next) is (tested so_far came) in
@@ -211,7 +211,7 @@ module _ (whole file next : FilePieces) (piece : List ℕ) (result : Result Bool
 -- ---- the first and the last call
 
 pub begun_read : (start stage : Staging) (whole : FilePieces) (old now : History)
-    → ((contents : List (List ℕ)) (v : TreeState) (first : List TreeState) → IsRunThatStagedContents start contents None v first old → IsRunThatStagedContents stage contents (Some []) v first now)
+    → ((contents : List (List ℕ)) (v : TreeState) (first : List TreeState) → IsRunThatStagedAndBeganFiles start contents None v first old → IsRunThatStagedAndBeganFiles stage contents (Some []) v first now)
     → IsReadOn start stage whole whole old now
 begun_read start stage whole old now begun contents v first bytes staging reading = record {
   so_far = [];
@@ -224,7 +224,7 @@ begun_read start stage whole old now begun contents v first bytes staging readin
 -- what a call makes of the file that is begun
 module _ (start stage : Staging) (whole file : FilePieces) (old now later : History) (read : IsReadOn start stage whole file old now) where
   pub half_proper : (before between after : ℕ) → IsProperOn start whole old before between
-      → ((contents : List (List ℕ)) (so_far : List ℕ) (v : TreeState) (first : List TreeState) → IsRunThatStagedContents stage contents (Some so_far) v first now → after ≡ between)
+      → ((contents : List (List ℕ)) (so_far : List ℕ) (v : TreeState) (first : List TreeState) → IsRunThatStagedAndBeganFiles stage contents (Some so_far) v first now → after ≡ between)
       → IsProperOn start whole old before after
   half_proper before between after proper one contents v first bytes staging reading room =
       let half = read contents v first bytes staging reading in
@@ -244,12 +244,12 @@ module _ (start stage : Staging) (whole file : FilePieces) (old now later : Hist
       long [] p half = tt
       long (w ∷ earlier) p half = λ there. p (record { file = half.reading.pkg; present = there; long = half.reading.long })
 
-pub same_history : (stage : Staging) (contents : List (List ℕ)) (begun : Option (List ℕ)) (v : TreeState) (first now later : History) → later ≡ now → IsRunThatStagedContents stage contents begun v first now → IsRunThatStagedContents stage contents begun v first later
-same_history stage contents begun v first now later same staging = subst (λ (h : History). IsRunThatStagedContents stage contents begun v first h) (sym same) staging
+pub same_history : (stage : Staging) (contents : List (List ℕ)) (begun : Option (List ℕ)) (v : TreeState) (first now later : History) → later ≡ now → IsRunThatStagedAndBeganFiles stage contents begun v first now → IsRunThatStagedAndBeganFiles stage contents begun v first later
+same_history stage contents begun v first now later same staging = subst (λ (h : History). IsRunThatStagedAndBeganFiles stage contents begun v first h) (sym same) staging
 
-pub same_bytes : (stage : Staging) (contents : List (List ℕ)) (so_far one other : List ℕ) (v : TreeState) (first now : History) → other ≡ one → IsRunThatStagedContents stage contents (Some (so_far ++ one)) v first now
-    → IsRunThatStagedContents stage contents (Some (so_far ++ other)) v first now
-same_bytes stage contents so_far one other v first now same staging = subst (λ (b : List ℕ). IsRunThatStagedContents stage contents (Some (so_far ++ b)) v first now) (sym same) staging
+pub same_bytes : (stage : Staging) (contents : List (List ℕ)) (so_far one other : List ℕ) (v : TreeState) (first now : History) → other ≡ one → IsRunThatStagedAndBeganFiles stage contents (Some (so_far ++ one)) v first now
+    → IsRunThatStagedAndBeganFiles stage contents (Some (so_far ++ other)) v first now
+same_bytes stage contents so_far one other v first now same staging = subst (λ (b : List ℕ). IsRunThatStagedAndBeganFiles stage contents (Some (so_far ++ b)) v first now) (sym same) staging
 
 pub if_disk : {A E : Type 0} {disk : E} (r : Result A E) (fault : E) → IsErrAnd r (λ e. e ≡ fault) → fault ≡ disk → IfErr r (λ e. e ≡ disk)
 if_disk (Ok a) fault is disk = tt

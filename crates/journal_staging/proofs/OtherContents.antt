@@ -11,13 +11,13 @@ use Rattle.sha2.specs.Sha512.{sha512}
 use Rattle.adb_block.specs.AllBlocks.{blocks_of, blocks_of_stream, blocks_from_position, with_block}
 use Rattle.adb_block.specs.Container.{IsHead, IsPadding, IsContainerWithBlocks, SpellsBlocks}
 use Rattle.adb_block.specs.Header.{schema_of_header}
-use Rattle.adb_block.specs.Piece.{Piece, least_payload_len}
+use Rattle.adb_block.specs.BlockWithoutOffset.{BlockWithoutOffset, least_payload_len}
 use Rattle.adb_block.specs.Reading.{Reading, done, fault, more, block_stream_from}
-use Rattle.adb_block.specs.ReaderPosition.{first_block_position_of_schema_and_file}
+use Rattle.adb_block.specs.PositionBetweenBlocks.{first_block_position_of_schema_and_file}
 use Rattle.adb_block.specs.declared.block.BlockKind.{BlockKind}
 use Rattle.adb_block.specs.declared.block.BlockKind.TheVariants as Kinds
 use Rattle.adb_block.proofs.WholeFiles.{read_is_spelled, spelled_is_read, whole_from}
-use Rattle.file_guard.specs.adb_schema.Soundness.{blocks_fault, file_fault_after_header, contents_positions, first_block_payload, payload_after_header, payload_fault, payload_in, root_value_of_payload, schema_fault}
+use Rattle.file_guard.specs.adb_schema.Soundness.{blocks_fault, file_fault_by_header_schema_or_fault, folder_and_file_positions_from_payload, first_block_payload, payload_by_header_schema_or_fault, payload_fault, payload_in, root_value_of_payload, schema_fault}
 use Rattle.std.specs.Option.{option_or}
 use Rattle.adb_view.specs.declared.tables.Which.TheVariants.{Package}
 use Rattle.base_core.specs.declared.cause.Cause.{Cause}
@@ -26,18 +26,18 @@ use Rattle.base_core.specs.declared.cause.Digest.{Digest}
 use Rattle.base_core.specs.declared.cause.Digest.TheVariants.{Sha1, Sha256, Sha512}
 use Rattle.base_core.proofs.Causes.{both_none}
 use Rattle.file_guard.proofs.pkg_core.Opened.{pair_alike}
-use Rattle.file_guard.specs.pkg_core.Contents.{ExpectedFile, FilesRead, contents_block_fault, contents_bytes, contents_of_expected, contents_fault, fault_if_digests_differ, expected_files_of_package, fault_of_files_read, files_read_from_block_and_further, files_read_from_blocks, given, has_positions_of, hash_fault, next_contents_fault, no_more, files_unless_fault}
+use Rattle.file_guard.specs.pkg_core.Contents.{ExpectedFile, FilesRead, contents_block_fault_at_offset, contents_from_block_payload, contents_of_expected, contents_fault, fault_if_wanted_and_found_digests_differ, expected_files_of_package, fault_of_files_read, files_from_block_at_offset_if_contents, files_read_from_blocks, given, has_positions_of, fault_if_digest_is_not_of_bytes, next_contents_fault, no_more, files_or_fault_alone}
 use Rattle.file_guard.specs.pkg_core.Opened.{expected_file_at, is_expected_at}
-use Rattle.file_guard.specs.pkg_core.Whole.{fault_of_further_blocks, package_fault, container_fault_of_table}
+use Rattle.file_guard.specs.pkg_core.Whole.{fault_of_contents_blocks_by_root_table, package_fault, container_fault_of_table}
 use Rattle.file_guard.proofs.pkg_core.Given.{nothing_expected, size_right}
 use Rattle.journal_staging.specs.Spoiled.{IsFileWithOnlyContentsSpoiled}
 
 -- ---- one block gets another payload of the same length
 
-abbrev with_payload : Piece → List ℕ → Piece
+abbrev with_payload : BlockWithoutOffset → List ℕ → BlockWithoutOffset
 with_payload b payload = record { kind = b.kind; payload = payload }
 
-record AreSpelledIn (last : Option BlockKind) (bytes : List ℕ) (bs : List Piece) : Type 0 where
+record AreSpelledIn (last : Option BlockKind) (bytes : List ℕ) (bs : List BlockWithoutOffset) : Type 0 where
   other : List ℕ
   long : length other ≡ length bytes
   spells : SpellsBlocks last other bs
@@ -54,7 +54,7 @@ four_parts head payload pad rest =
     let c = length-append pad rest in
     omega (arith, a, b, c)
 
-replaced : (before behind : List Piece) (b : Piece) (payload : List ℕ) → length payload ≡ length b.payload → (last : Option BlockKind) (bytes : List ℕ) → SpellsBlocks last bytes (before ++ b ∷ behind) → AreSpelledIn last bytes (before ++ with_payload b payload ∷ behind)
+replaced : (before behind : List BlockWithoutOffset) (b : BlockWithoutOffset) (payload : List ℕ) → length payload ≡ length b.payload → (last : Option BlockKind) (bytes : List ℕ) → SpellsBlocks last bytes (before ++ b ∷ behind) → AreSpelledIn last bytes (before ++ with_payload b payload ∷ behind)
 replaced [] behind b payload same last bytes (rest, may, is, further) =
     let old = ap length is.parts ∙ four_parts is.head b.payload is.pad rest in
     let new = four_parts is.head payload is.pad rest in
@@ -97,12 +97,12 @@ replaced (a ∷ before) behind b payload same last bytes (rest, may, is, further
     }
 
 -- the whole file
-record IsSpelledAs (file : List ℕ) (schema : ℕ) (bs : List Piece) : Type 0 where
+record IsSpelledAs (file : List ℕ) (schema : ℕ) (bs : List BlockWithoutOffset) : Type 0 where
   other : List ℕ
   long : length other ≡ length file
   spells : IsContainerWithBlocks other schema bs
 
-replaced_in_file : (file : List ℕ) (schema : ℕ) (before behind : List Piece) (b : Piece) (payload : List ℕ) → length payload ≡ length b.payload → IsContainerWithBlocks file schema (before ++ b ∷ behind) → IsSpelledAs file schema (before ++ with_payload b payload ∷ behind)
+replaced_in_file : (file : List ℕ) (schema : ℕ) (before behind : List BlockWithoutOffset) (b : BlockWithoutOffset) (payload : List ℕ) → length payload ≡ length b.payload → IsContainerWithBlocks file schema (before ++ b ∷ behind) → IsSpelledAs file schema (before ++ with_payload b payload ∷ behind)
 replaced_in_file file schema before behind b payload same s =
     let there = replaced before behind b payload same None s.body s.blocks in
     let old = ap length s.parts ∙ (length-append (codes "ADB.") (s.word ++ s.body) ∙ ap (λ (n : ℕ). length (codes "ADB.") + n) (length-append s.word s.body)) in
@@ -122,29 +122,29 @@ replaced_in_file file schema before behind b payload same s =
 
 -- ---- what is read of blocks
 
-record BeginsWith (b : Piece) (bs : List Piece) (r : Reading) : Type 0 where
+record BeginsWith (b : BlockWithoutOffset) (bs : List BlockWithoutOffset) (r : Reading) : Type 0 where
   at : ℕ
   further : Reading
   is : r ≡ more b at further
   behind : blocks_of_stream further ≡ Ok bs
 
-begins_with : (b : Piece) (bs : List Piece) (r : Reading) → blocks_of_stream r ≡ Ok (b ∷ bs) → BeginsWith b bs r
+begins_with : (b : BlockWithoutOffset) (bs : List BlockWithoutOffset) (r : Reading) → blocks_of_stream r ≡ Ok (b ∷ bs) → BeginsWith b bs r
 begins_with b bs done e = absurd (cc (e))
 begins_with b bs (fault c) e = absurd (cc (e))
 begins_with b bs (more a at r) e = by (blocks_of_stream r) refl e
   where
-    by : (o : Result (List Piece) Cause) → blocks_of_stream r ≡ o → with_block a o ≡ Ok (b ∷ bs) → BeginsWith b bs (more a at r)
+    by : (o : Result (List BlockWithoutOffset) Cause) → blocks_of_stream r ≡ o → with_block a o ≡ Ok (b ∷ bs) → BeginsWith b bs (more a at r)
     by (Ok others) is e = record {
       at = at;
       further = r;
-      is = (let same : a ≡ b = cc in ap (λ (x : Piece). more x at r) same);
-      behind = is ∙ (let same : others ≡ bs = cc in ap (λ (x : List Piece). Ok x) same);
+      is = (let same : a ≡ b = cc in ap (λ (x : BlockWithoutOffset). more x at r) same);
+      behind = is ∙ (let same : others ≡ bs = cc in ap (λ (x : List BlockWithoutOffset). Ok x) same);
     }
     by (Err c) is e = absurd (cc (e))
 
 -- ---- tests that pass
 
-second_passes : (o : Option Cause) (files : FilesRead) → fault_of_files_read (files_unless_fault o files) ≡ None → (o ≡ None) × (fault_of_files_read files ≡ None)
+second_passes : (o : Option Cause) (files : FilesRead) → fault_of_files_read (files_or_fault_alone o files) ≡ None → (o ≡ None) × (fault_of_files_read files ≡ None)
 second_passes None files h = (refl, h)
 second_passes (Some c) files h = absurd (cc (h))
 
@@ -156,36 +156,36 @@ is_enough false c o h = (refl, h)
 record PassesBlock (payload : List ℕ) (e : ExpectedFile) : Type 0 where
   enough : nat_lt (length payload) 8 ≡ false
   positions : has_positions_of payload e ≡ true
-  size : length (contents_bytes payload) ≡ e.size
-  digest : hash_fault e.hash (contents_bytes payload) ≡ None
+  size : length (contents_from_block_payload payload) ≡ e.size
+  digest : fault_if_digest_is_not_of_bytes e.hash (contents_from_block_payload payload) ≡ None
 
-passes_block : (payload : List ℕ) (at : ℕ) (e : ExpectedFile) (es : List ExpectedFile) → contents_block_fault payload at (e ∷ es) ≡ None → PassesBlock payload e
+passes_block : (payload : List ℕ) (at : ℕ) (e : ExpectedFile) (es : List ExpectedFile) → contents_block_fault_at_offset payload at (e ∷ es) ≡ None → PassesBlock payload e
 passes_block payload at e es h =
     let (enough, first) = is_enough (nat_lt (length payload) 8) (Truncated at) _ h in
-    let (positions, second) = size_right (has_positions_of payload e) (DataOrder (e.folder, e.file) (contents_positions payload)) _ first in
-    let (size, digest) = size_right (length (contents_bytes payload) == e.size) (DataSize e.size (length (contents_bytes payload))) _ second in
-    record { enough = enough; positions = positions; size = eqb-true (length (contents_bytes payload)) e.size size; digest = digest }
+    let (positions, second) = size_right (has_positions_of payload e) (DataOrder (e.folder, e.file) (folder_and_file_positions_from_payload payload)) _ first in
+    let (size, digest) = size_right (length (contents_from_block_payload payload) == e.size) (DataSize e.size (length (contents_from_block_payload payload))) _ second in
+    record { enough = enough; positions = positions; size = eqb-true (length (contents_from_block_payload payload)) e.size size; digest = digest }
 
 -- and what such a block comes to, wherever it stands
-block_comes_to : (payload : List ℕ) (at : ℕ) (e : ExpectedFile) (es : List ExpectedFile) → nat_lt (length payload) 8 ≡ false → has_positions_of payload e ≡ true → length (contents_bytes payload) ≡ e.size → contents_block_fault payload at (e ∷ es) ≡ hash_fault e.hash (contents_bytes payload)
+block_comes_to : (payload : List ℕ) (at : ℕ) (e : ExpectedFile) (es : List ExpectedFile) → nat_lt (length payload) 8 ≡ false → has_positions_of payload e ≡ true → length (contents_from_block_payload payload) ≡ e.size → contents_block_fault_at_offset payload at (e ∷ es) ≡ fault_if_digest_is_not_of_bytes e.hash (contents_from_block_payload payload)
 block_comes_to payload at e es enough positions size =
     ap (λ (few : Bool). if few then Some (Truncated at) else next_contents_fault payload (e ∷ es)) enough
-    ∙ (ap (λ (b : Bool). if not b then Some (DataOrder (e.folder, e.file) (contents_positions payload)) else if not (length (contents_bytes payload) == e.size) then Some (DataSize e.size (length (contents_bytes payload))) else hash_fault e.hash (contents_bytes payload)) positions
-    ∙ ap (λ (b : Bool). if not b then Some (DataSize e.size (length (contents_bytes payload))) else hash_fault e.hash (contents_bytes payload)) (eq-eqb (length (contents_bytes payload)) e.size size))
+    ∙ (ap (λ (b : Bool). if not b then Some (DataOrder (e.folder, e.file) (folder_and_file_positions_from_payload payload)) else if not (length (contents_from_block_payload payload) == e.size) then Some (DataSize e.size (length (contents_from_block_payload payload))) else fault_if_digest_is_not_of_bytes e.hash (contents_from_block_payload payload)) positions
+    ∙ ap (λ (b : Bool). if not b then Some (DataSize e.size (length (contents_from_block_payload payload))) else fault_if_digest_is_not_of_bytes e.hash (contents_from_block_payload payload)) (eq-eqb (length (contents_from_block_payload payload)) e.size size))
 
 -- ---- the block with the contents of a file
 
 -- other contents for it are refused for their digest, whatever stands behind
 record HasContents (e : ExpectedFile) (es : List ExpectedFile) (r : Reading) : Type 0 where
-  before : List Piece
-  block : Piece
-  behind : List Piece
+  before : List BlockWithoutOffset
+  block : BlockWithoutOffset
+  behind : List BlockWithoutOffset
   are : blocks_of_stream r ≡ Ok (before ++ block ∷ behind)
   long : length block.payload ≡ 8 + e.size
-  fails : (bytes : List ℕ) (c : Cause) → length bytes ≡ e.size → hash_fault e.hash bytes ≡ Some c
+  fails : (bytes : List ℕ) (c : Cause) → length bytes ≡ e.size → fault_if_digest_is_not_of_bytes e.hash bytes ≡ Some c
       → (other : Reading) → blocks_of_stream other ≡ Ok (before ++ with_payload block (take 8 block.payload ++ bytes) ∷ behind) → contents_fault es other ≡ Some c
 
-one_before : (e : ExpectedFile) (es left : List ExpectedFile) (b : Piece) (at : ℕ) (r : Reading) → ((at : ℕ) (r : Reading) → contents_fault es (more b at r) ≡ contents_fault left r) → HasContents e left r → HasContents e es (more b at r)
+one_before : (e : ExpectedFile) (es left : List ExpectedFile) (b : BlockWithoutOffset) (at : ℕ) (r : Reading) → ((at : ℕ) (r : Reading) → contents_fault es (more b at r) ≡ contents_fault left r) → HasContents e left r → HasContents e es (more b at r)
 one_before e es left b at r same h = record {
   before = b ∷ h.before;
   block = h.block;
@@ -199,17 +199,17 @@ one_before e es left b at r same h = record {
 
 -- of blocks that pass all tests
 abbrev HasPieces : Reading → Type 0
-HasPieces r = (bs : List Piece) × (blocks_of_stream r ≡ Ok bs)
+HasPieces r = (bs : List BlockWithoutOffset) × (blocks_of_stream r ≡ Ok bs)
 
-pieces_after : (b : Piece) (at : ℕ) (r : Reading) → HasPieces r → HasPieces (more b at r)
+pieces_after : (b : BlockWithoutOffset) (at : ℕ) (r : Reading) → HasPieces r → HasPieces (more b at r)
 pieces_after b at r (bs, is) = (b ∷ bs, ap (with_block b) is)
 
-pieces_at_kind : (kind : BlockKind) (payload : List ℕ) (at : ℕ) (r : Reading) → ((left : List ExpectedFile) → contents_fault left r ≡ None → HasPieces r) → (es : List ExpectedFile) → fault_of_files_read (files_read_from_block_and_further kind payload at (λ left. files_read_from_blocks left r) es) ≡ None → HasPieces r
+pieces_at_kind : (kind : BlockKind) (payload : List ℕ) (at : ℕ) (r : Reading) → ((left : List ExpectedFile) → contents_fault left r ≡ None → HasPieces r) → (es : List ExpectedFile) → fault_of_files_read (files_from_block_at_offset_if_contents kind payload at (λ left. files_read_from_blocks left r) es) ≡ None → HasPieces r
 pieces_at_kind Kinds.Adb payload at r ih es h = ih es h
 pieces_at_kind Kinds.Signature payload at r ih es h = ih es h
 pieces_at_kind Kinds.Contents payload at r ih [] h =
-    absurd (let first = (is_enough (nat_lt (length payload) 8) (Truncated at) _ (second_passes (contents_block_fault payload at []) no_more h).0).1 in cc (first))
-pieces_at_kind Kinds.Contents payload at r ih (e ∷ es) h = ih es (second_passes (contents_block_fault payload at (e ∷ es)) (given (contents_of_expected payload e) (files_read_from_blocks es r)) h).1
+    absurd (let first = (is_enough (nat_lt (length payload) 8) (Truncated at) _ (second_passes (contents_block_fault_at_offset payload at []) no_more h).0).1 in cc (first))
+pieces_at_kind Kinds.Contents payload at r ih (e ∷ es) h = ih es (second_passes (contents_block_fault_at_offset payload at (e ∷ es)) (given (contents_of_expected payload e) (files_read_from_blocks es r)) h).1
 
 has_pieces : (es : List ExpectedFile) (r : Reading) → contents_fault es r ≡ None → HasPieces r
 unfolding files_read_from_blocks
@@ -221,7 +221,7 @@ has_pieces es (more b at r) h = pieces_after b at r (pieces_at_kind b.kind b.pay
 this_block : (e : ExpectedFile) (es : List ExpectedFile) (payload : List ℕ) (at : ℕ) (r : Reading) → PassesBlock payload e → HasPieces r → HasContents e (e ∷ es) (more (record { kind = Kinds.Contents; payload = payload }) at r)
 unfolding files_read_from_blocks
 this_block e es payload at r passes (behind, are) =
-    let b : Piece = record { kind = Kinds.Contents; payload = payload } in
+    let b : BlockWithoutOffset = record { kind = Kinds.Contents; payload = payload } in
     let enough = ltb-false (length payload) 8 passes.enough in
     let size = passes.size in
     let rest = length-drop 8 payload in
@@ -236,21 +236,21 @@ this_block e es payload at r passes (behind, are) =
           let eight : length (take 8 payload) ≡ 8 = omega (arith, length-take 8 payload, enough) in
           let own : List ℕ = take 8 payload ++ bytes in
           let all = length-append (take 8 payload) bytes in
-          let bytes_are : contents_bytes own ≡ bytes = drop_at (take 8 payload) bytes 8 eight in
+          let bytes_are : contents_from_block_payload own ≡ bytes = drop_at (take 8 payload) bytes 8 eight in
           let front : take 8 own ≡ take 8 payload = take_at (take 8 payload) bytes 8 eight in
           let begins = begins_with (record { kind = Kinds.Contents; payload = own }) behind other is in
           let positions : has_positions_of own e ≡ true = ap (λ (p : ℕ × ℕ). ((p.0 == e.folder) && (p.1 == e.file))) (pair_alike own (take 8 payload) front ∙ sym (pair_alike payload (take 8 payload) refl)) ∙ passes.positions in
-          let told : contents_block_fault own begins.at (e ∷ es) ≡ Some c =
-          block_comes_to own begins.at e es (le-ltb _ _ (omega (arith, all, eight))) positions (ap length bytes_are ∙ same) ∙ (ap (hash_fault e.hash) bytes_are ∙ bad) in
+          let told : contents_block_fault_at_offset own begins.at (e ∷ es) ≡ Some c =
+          block_comes_to own begins.at e es (le-ltb _ _ (omega (arith, all, eight))) positions (ap length bytes_are ∙ same) ∙ (ap (fault_if_digest_is_not_of_bytes e.hash) bytes_are ∙ bad) in
           ap (contents_fault (e ∷ es)) begins.is
-          ∙ ap (λ (o : Option Cause). fault_of_files_read (files_unless_fault o (given (contents_of_expected own e) (files_read_from_blocks es begins.further)))) told;
+          ∙ ap (λ (o : Option Cause). fault_of_files_read (files_or_fault_alone o (given (contents_of_expected own e) (files_read_from_blocks es begins.further)))) told;
     }
 
 -- a block of contents of another file
 passed_block : (x : ExpectedFile) (xs : List ExpectedFile) (payload : List ℕ) → PassesBlock payload x → (at : ℕ) (r : Reading) → contents_fault (x ∷ xs) (more (record { kind = Kinds.Contents; payload = payload }) at r) ≡ contents_fault xs r
 unfolding files_read_from_blocks
 passed_block x xs payload passes at r =
-    ap (λ (o : Option Cause). fault_of_files_read (files_unless_fault o (given (contents_of_expected payload x) (files_read_from_blocks xs r)))) (block_comes_to payload at x xs passes.enough passes.positions passes.size ∙ passes.digest)
+    ap (λ (o : Option Cause). fault_of_files_read (files_or_fault_alone o (given (contents_of_expected payload x) (files_read_from_blocks xs r)))) (block_comes_to payload at x xs passes.enough passes.positions passes.size ∙ passes.digest)
 
 abbrev Finds : ℕ → ℕ → ExpectedFile → Reading → Type 0
 Finds folder file e r = (left : List ExpectedFile) → contents_fault left r ≡ None → expected_file_at folder file left ≡ Some e → HasContents e left r
@@ -267,7 +267,7 @@ at_contents : (folder file : ℕ) (e : ExpectedFile) (payload : List ℕ) (at : 
 unfolding files_read_from_blocks
 at_contents folder file e payload at r ih [] h found = absurd (cc (found))
 at_contents folder file e payload at r ih (x ∷ xs) h found =
-    let (first, further) = second_passes (contents_block_fault payload at (x ∷ xs)) (given (contents_of_expected payload x) (files_read_from_blocks xs r)) h in
+    let (first, further) = second_passes (contents_block_fault_at_offset payload at (x ∷ xs)) (given (contents_of_expected payload x) (files_read_from_blocks xs r)) h in
     by_test (is_expected_at folder file x) (passes_block payload at x xs first) further found
   where
     by_test : (b : Bool) → PassesBlock payload x → contents_fault xs r ≡ None → cond b (Some x) (find (is_expected_at folder file) xs) ≡ Some e → HasContents e (x ∷ xs) (more (record { kind = Kinds.Contents; payload = payload }) at r)
@@ -301,11 +301,11 @@ differs_by : (as_digest : List ℕ → Digest) (equal : Bool) (wanted found : Li
 differs_by as_digest true wanted found c e = absurd (cc (e))
 differs_by as_digest false wanted found c e = (as_digest wanted, as_digest found, sym (same_Some (HashDiffers (as_digest wanted) (as_digest found)) c e))
 
-differs : (hash bytes : List ℕ) (c : Cause) → hash_fault hash bytes ≡ Some c → (x : Digest) × (y : Digest) × (c ≡ HashDiffers x y)
-unfolding hash_fault
+differs : (hash bytes : List ℕ) (c : Cause) → fault_if_digest_is_not_of_bytes hash bytes ≡ Some c → (x : Digest) × (y : Digest) × (c ≡ HashDiffers x y)
+unfolding fault_if_digest_is_not_of_bytes
 differs hash bytes c e = by_first (length hash == 20) (length hash == 32) (length hash == 64) e
   where
-    by_first : (a b d : Bool) → (if a then fault_if_digests_differ Sha1 hash (sha1 bytes) else if b then fault_if_digests_differ Sha256 hash (sha256 bytes) else if d then fault_if_digests_differ Sha512 hash (sha512 bytes) else None) ≡ Some c → (x : Digest) × (y : Digest) × (c ≡ HashDiffers x y)
+    by_first : (a b d : Bool) → (if a then fault_if_wanted_and_found_digests_differ Sha1 hash (sha1 bytes) else if b then fault_if_wanted_and_found_digests_differ Sha256 hash (sha256 bytes) else if d then fault_if_wanted_and_found_digests_differ Sha512 hash (sha512 bytes) else None) ≡ Some c → (x : Digest) × (y : Digest) × (c ≡ HashDiffers x y)
     by_first true b d e = differs_by Sha1 _ hash (sha1 bytes) c e
     by_first false true d e = differs_by Sha256 _ hash (sha256 bytes) c e
     by_first false false true e = differs_by Sha512 _ hash (sha512 bytes) c e
@@ -321,7 +321,7 @@ record IsGoodPackage (file : List ℕ) : Type 0 where
   schema : ℕ
   header : schema_of_header file ≡ Ok schema
   wanted : schema_fault Package schema ≡ None
-  block : Piece
+  block : BlockWithoutOffset
   at : ℕ
   further : Reading
   reading : block_stream_from (first_block_position_of_schema_and_file schema file) ≡ more block at further
@@ -334,9 +334,9 @@ IsGood file = IsGoodPackage file ⊎ (expected_files_of_package (root_value_of_p
 
 payload_by : (file : List ℕ) (schema : ℕ) (r : Reading) → schema_of_header file ≡ Ok schema → block_stream_from (first_block_position_of_schema_and_file schema file) ≡ r → payload_in file ≡ first_block_payload r
 unfolding payload_in
-payload_by file schema r header reading = ap (payload_after_header file) header ∙ ap first_block_payload reading
+payload_by file schema r header reading = ap (payload_by_header_schema_or_fault file) header ∙ ap first_block_payload reading
 
-good_by_reading : (file : List ℕ) (schema : ℕ) (r : Reading) → schema_of_header file ≡ Ok schema → schema_fault Package schema ≡ None → block_stream_from (first_block_position_of_schema_and_file schema file) ≡ r → blocks_fault (fault_of_further_blocks Package) Package r ≡ None → IsGood file
+good_by_reading : (file : List ℕ) (schema : ℕ) (r : Reading) → schema_of_header file ≡ Ok schema → schema_fault Package schema ≡ None → block_stream_from (first_block_position_of_schema_and_file schema file) ≡ r → blocks_fault (fault_of_contents_blocks_by_root_table Package) Package r ≡ None → IsGood file
 good_by_reading file schema done header wanted reading h =
     inr (ap (λ (p : List ℕ). expected_files_of_package (root_value_of_payload Package p)) (payload_by file schema done header reading) ∙ nothing_expected)
 good_by_reading file schema (fault c) header wanted reading h = absurd (cc (h))
@@ -344,7 +344,7 @@ good_by_reading file schema (more b at r) header wanted reading h =
     let (values, contents) = both_none (payload_fault Package b.payload) _ h in
     inl (record { schema = schema; header = header; wanted = wanted; block = b; at = at; further = r; reading = reading; values = values; contents = contents })
 
-good_by_header : (file : List ℕ) (header : Result ℕ Cause) → schema_of_header file ≡ header → file_fault_after_header (fault_of_further_blocks Package) Package file header ≡ None → IsGood file
+good_by_header : (file : List ℕ) (header : Result ℕ Cause) → schema_of_header file ≡ header → file_fault_by_header_schema_or_fault (fault_of_contents_blocks_by_root_table Package) Package file header ≡ None → IsGood file
 good_by_header file (Err c) is h = absurd (cc (h))
 good_by_header file (Ok schema) is h =
     let (wanted, blocks) = both_none (schema_fault Package schema) _ h in
@@ -355,23 +355,23 @@ unfolding container_fault_of_table
 good file h = good_by_header file (schema_of_header file) refl h
 
 -- a package is refused for its contents where its header and its first block are good
-refused_for : (file : List ℕ) (schema : ℕ) (b : Piece) (at : ℕ) (r : Reading) (c : Cause) → schema_of_header file ≡ Ok schema → schema_fault Package schema ≡ None → block_stream_from (first_block_position_of_schema_and_file schema file) ≡ more b at r → payload_fault Package b.payload ≡ None
+refused_for : (file : List ℕ) (schema : ℕ) (b : BlockWithoutOffset) (at : ℕ) (r : Reading) (c : Cause) → schema_of_header file ≡ Ok schema → schema_fault Package schema ≡ None → block_stream_from (first_block_position_of_schema_and_file schema file) ≡ more b at r → payload_fault Package b.payload ≡ None
     → contents_fault (expected_files_of_package (root_value_of_payload Package b.payload)) r ≡ Some c → package_fault file ≡ Some c
 unfolding container_fault_of_table
 refused_for file schema b at r c header wanted reading values bad =
-    ap (file_fault_after_header (fault_of_further_blocks Package) Package file) header
+    ap (file_fault_by_header_schema_or_fault (fault_of_contents_blocks_by_root_table Package) Package file) header
     ∙ first_then (schema_fault Package schema) _ c wanted
-    (ap (blocks_fault (fault_of_further_blocks Package) Package) reading ∙ first_then (payload_fault Package b.payload) _ c values bad)
+    (ap (blocks_fault (fault_of_contents_blocks_by_root_table Package) Package) reading ∙ first_then (payload_fault Package b.payload) _ c values bad)
 
-pieces_from_start : (file : List ℕ) (schema : ℕ) (bs : List Piece) → schema_of_header file ≡ Ok schema → blocks_of file ≡ Ok bs → blocks_of_stream (block_stream_from (first_block_position_of_schema_and_file schema file)) ≡ Ok bs
+pieces_from_start : (file : List ℕ) (schema : ℕ) (bs : List BlockWithoutOffset) → schema_of_header file ≡ Ok schema → blocks_of file ≡ Ok bs → blocks_of_stream (block_stream_from (first_block_position_of_schema_and_file schema file)) ≡ Ok bs
 unfolding blocks_from_position
 pieces_from_start file schema bs header are = sym (whole_from file schema header) ∙ are
 
-blocks_from_start : (file : List ℕ) (schema : ℕ) (bs : List Piece) → schema_of_header file ≡ Ok schema → blocks_of_stream (block_stream_from (first_block_position_of_schema_and_file schema file)) ≡ Ok bs → blocks_of file ≡ Ok bs
+blocks_from_start : (file : List ℕ) (schema : ℕ) (bs : List BlockWithoutOffset) → schema_of_header file ≡ Ok schema → blocks_of_stream (block_stream_from (first_block_position_of_schema_and_file schema file)) ≡ Ok bs → blocks_of file ≡ Ok bs
 unfolding blocks_from_position
 blocks_from_start file schema bs header are = whole_from file schema header ∙ are
 
-spoiled_by : (tested : List ℕ) (folder file : ℕ) (e : ExpectedFile) (bytes : List ℕ) (c : Cause) → IsGoodPackage tested → expected_file_at folder file (expected_files_of_package (root_value_of_payload Package (payload_in tested))) ≡ Some e → length bytes ≡ e.size → hash_fault e.hash bytes ≡ Some c
+spoiled_by : (tested : List ℕ) (folder file : ℕ) (e : ExpectedFile) (bytes : List ℕ) (c : Cause) → IsGoodPackage tested → expected_file_at folder file (expected_files_of_package (root_value_of_payload Package (payload_in tested))) ≡ Some e → length bytes ≡ e.size → fault_if_digest_is_not_of_bytes e.hash bytes ≡ Some c
     → (other : List ℕ) × IsFileWithOnlyContentsSpoiled tested other c
 spoiled_by tested folder file e bytes c g found size bad =
     let es : List ExpectedFile = expected_files_of_package (root_value_of_payload Package g.block.payload) in
@@ -399,7 +399,7 @@ spoiled_by tested folder file e bytes c g found size bad =
     )
 
 -- a package that was tested is spoiled where bytes of one of its files have another digest
-pub spoiled : (tested : List ℕ) (folder file : ℕ) (e : ExpectedFile) (bytes : List ℕ) (c : Cause) → package_fault tested ≡ None → expected_file_at folder file (expected_files_of_package (root_value_of_payload Package (payload_in tested))) ≡ Some e → length bytes ≡ e.size → hash_fault e.hash bytes ≡ Some c
+pub spoiled : (tested : List ℕ) (folder file : ℕ) (e : ExpectedFile) (bytes : List ℕ) (c : Cause) → package_fault tested ≡ None → expected_file_at folder file (expected_files_of_package (root_value_of_payload Package (payload_in tested))) ≡ Some e → length bytes ≡ e.size → fault_if_digest_is_not_of_bytes e.hash bytes ≡ Some c
     → (other : List ℕ) × IsFileWithOnlyContentsSpoiled tested other c
 spoiled tested folder file e bytes c sound found size bad = by (good tested sound)
   where

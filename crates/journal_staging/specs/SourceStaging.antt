@@ -3,10 +3,10 @@
 -- contracts of these calls. The rules are in `docs/crash-safety.md`, "A change of several files" and
 -- "Misuses, faults and counts".
 use Rattle.std.specs.Prelude.{◌≡◌, ◌+◌, ◌++◌, ◌∷◌, [], ℕ, List, None, Result, IfErr, IsErrOf, OnOk}
-use Rattle.base_core.specs.Faults.{Counts, CountsOnlyRise, IsFaultCountedWithCause, CountsNoNewFault}
+use Rattle.base_core.specs.Faults.{Counts, CountsOnlyRise, CountsNewFaultWithCause, CountsNoNewFaultOrLackOfMemory}
 use Rattle.base_core.specs.Files.{Files}
 use Rattle.base_core.specs.Tree.{TreeState, files_of}
-use Rattle.journal_commit.specs.StageRun.{IsRunThatStagedContents, IsStagingRun}
+use Rattle.journal_commit.specs.StageRun.{IsRunThatStagedAndBeganFiles, IsStagingRun}
 use Rattle.journal_commit.specs.journal_core.Staged.{Staging, AreIntentAndStagedPathsFree}
 
 -- how the tree's counts before a call (`before`) and after it (`now`) explain its result, whose error `failed`
@@ -16,11 +16,11 @@ pub record IsFaultExplainedByCounts {T F : Type 0} (failed : F) (before now : Co
   -- no count falls
   pub goes_on : CountsOnlyRise before now
   -- the error `failed` is returned only if a fault was counted, with its cause
-  pub disk : IsErrOf result failed → IsFaultCountedWithCause before now
+  pub disk : IsErrOf result failed → CountsNewFaultWithCause before now
   -- Ok is returned only if no fault was counted
-  pub kept : OnOk result (CountsNoNewFault before now)
+  pub kept : OnOk result (CountsNoNewFaultOrLackOfMemory before now)
   -- another error than `failed` is returned only if no fault was counted
-  pub others : IfErr result (λ fault. (fault ≡ failed → ⊥) → CountsNoNewFault before now)
+  pub others : IfErr result (λ fault. (fault ≡ failed → ⊥) → CountsNoNewFaultOrLackOfMemory before now)
 
 -- A call that stages the file of one write, and changes the stage from `stage` to `next`. `Denotes` says which bytes
 -- the write's source denotes over some files. `first` is the tree's history when the staging began, `v` its newest
@@ -30,14 +30,14 @@ pub record StagesSource {T F : Type 0} (stage next : Staging) (Denotes : Files �
   -- whatever bytes the source has, and whatever the call returns, only staged files have changed at
   -- each moment
   pub run : (contents : List (List ℕ)) (v : TreeState) (first : List TreeState)
-      → IsRunThatStagedContents stage contents None v first old → IsStagingRun v first now
+      → IsRunThatStagedAndBeganFiles stage contents None v first old → IsStagingRun v first now
   -- if the source denotes bytes: on Ok these are staged, after the files staged before
   pub staging : (contents : List (List ℕ)) (v : TreeState) (first : List TreeState) (bytes : List ℕ)
-      → IsRunThatStagedContents stage contents None v first old → Denotes (files_of v) bytes
-      → OnOk result (IsRunThatStagedContents next (contents ++ bytes ∷ []) None v first now)
+      → IsRunThatStagedAndBeganFiles stage contents None v first old → Denotes (files_of v) bytes
+      → OnOk result (IsRunThatStagedAndBeganFiles next (contents ++ bytes ∷ []) None v first now)
   -- if the source denotes bytes, the only possible error is that of the tree
   pub good : (contents : List (List ℕ)) (v : TreeState) (first : List TreeState) (bytes : List ℕ)
-      → IsRunThatStagedContents stage contents None v first old → Denotes (files_of v) bytes
+      → IsRunThatStagedAndBeganFiles stage contents None v first old → Denotes (files_of v) bytes
       → IfErr result (λ fault. fault ≡ failed)
   -- on Ok, one more write of the stage has its staged file
   pub view : OnOk result (next ≡ record stage { staged = stage.staged + 1 })
@@ -45,5 +45,5 @@ pub record StagesSource {T F : Type 0} (stage next : Staging) (Denotes : Files �
   pub counts : IsFaultExplainedByCounts failed before after result
   -- no call is a misuse, if the source denotes bytes, and the paths of the intent and of the staged files are free
   pub proper : (contents : List (List ℕ)) (v : TreeState) (first : List TreeState) (bytes : List ℕ)
-      → IsRunThatStagedContents stage contents None v first old → Denotes (files_of v) bytes
+      → IsRunThatStagedAndBeganFiles stage contents None v first old → Denotes (files_of v) bytes
       → AreIntentAndStagedPathsFree (files_of v) → after.misuses ≡ before.misuses

@@ -3,7 +3,7 @@
 //! several files".
 ghost use Rattle.std.specs.Prelude.{◌≡◌, ◌<◌, ◌⊎◌, [], ℕ, false, List, None, length, IfErr, IsErrOf, OnErr, OnOk};
 ghost use Rattle.base_core.specs.Calls.{IfObservable};
-ghost use Rattle.base_core.specs.Faults.{CountsOnlyRise, IsFaultCountedWithCause, CountsNoNewFault};
+ghost use Rattle.base_core.specs.Faults.{CountsOnlyRise, CountsNewFaultWithCause, CountsNoNewFaultOrLackOfMemory};
 ghost use Rattle.base_core.specs.Tree.{TreeState, files_of};
 ghost use Rattle.base_core.specs.declared.cause.Cause.{Cause};
 ghost use Rattle.journal_commit.specs.journal_core.Recovery.{files_after_actions, intent_name};
@@ -15,7 +15,7 @@ ghost use Rattle.journal_staging.specs.Sources.{EachMayDenote, EachDenotes};
 ghost use Rattle.journal_staging.specs.Spoiled.{HasSpoiledFile};
 ghost use Rattle.journal_staging.specs.declared.writes.StageFault.TheVariants.{Bad, Disk as DiskFault};
 ghost use Rattle.journal_commit.specs.Asked.{TargetsAreAccepted};
-ghost use Rattle.journal_commit.specs.StageRun.{IsRunOfStagedChange, IsStagedChangeComplete, IsRunThatStagedContents, IsStagingRun};
+ghost use Rattle.journal_commit.specs.StageRun.{IsRunOfStagedChange, IsStagedChangeComplete, IsRunThatStagedAndBeganFiles, IsStagingRun};
 
 use crate::writes::{StageFault, StagedWrite, stage_write};
 use base_core::Tree;
@@ -40,26 +40,26 @@ fn stage_each<T: Tree>(
     requires same { length writes.now ≡ length stage.old.intent.writes }
     // Whatever is returned, only staged files have changed at each moment.
     ensures run { (v : TreeState) (first : List TreeState)
-        → IsRunThatStagedContents stage.old [] None v first (T.history tree.old)
+        → IsRunThatStagedAndBeganFiles stage.old [] None v first (T.history tree.old)
         → IsStagingRun v first (T.history tree.new) }
     // If the sources of the writes denote the bytes `contents`: on Ok, these are the bytes of the
     // staged files.
     ensures staging { (contents : List (List ℕ)) (v : TreeState) (first : List TreeState)
-        → IsRunThatStagedContents stage.old [] None v first (T.history tree.old)
+        → IsRunThatStagedAndBeganFiles stage.old [] None v first (T.history tree.old)
         → EachDenotes (files_of v) writes.now contents
-        → OnOk result (IsRunThatStagedContents stage.new contents None v first
+        → OnOk result (IsRunThatStagedAndBeganFiles stage.new contents None v first
         (T.history tree.new)) }
     // If the sources of the writes denote bytes, the only possible error is that of the tree.
     ensures good { (contents : List (List ℕ)) (v : TreeState) (first : List TreeState)
-        → IsRunThatStagedContents stage.old [] None v first (T.history tree.old)
+        → IsRunThatStagedAndBeganFiles stage.old [] None v first (T.history tree.old)
         → EachDenotes (files_of v) writes.now contents
         → IfErr result (λ fault. fault ≡ DiskFault) }
     // On Ok, whatever the tree has returned, the staged files have bytes that the sources of the
     // writes may denote.
     ensures listed { (v : TreeState) (first : List TreeState)
-        → IsRunThatStagedContents stage.old [] None v first (T.history tree.old)
+        → IsRunThatStagedAndBeganFiles stage.old [] None v first (T.history tree.old)
         → OnOk result ((contents : List (List ℕ)) × EachMayDenote writes.now contents
-        × IsRunThatStagedContents stage.new contents None v first (T.history tree.new)) }
+        × IsRunThatStagedAndBeganFiles stage.new contents None v first (T.history tree.new)) }
     // If the error is `Bad`, one of the writes is a file of the package of this member, and the
     // package's file is spoiled with this cause.
     ensures bad { (member : ℕ) (cause : Cause) → IsErrOf result (Bad member cause)
@@ -72,7 +72,7 @@ fn stage_each<T: Tree>(
     // No call is a misuse, if the sources of the writes denote bytes, and the paths of the intent
     // and of the staged files are free.
     ensures proper { (contents : List (List ℕ)) (v : TreeState) (first : List TreeState)
-        → IsRunThatStagedContents stage.old [] None v first (T.history tree.old)
+        → IsRunThatStagedAndBeganFiles stage.old [] None v first (T.history tree.old)
         → EachDenotes (files_of v) writes.now contents → AreIntentAndStagedPathsFree (files_of v)
         → (T.counts tree.new).misuses ≡ (T.counts tree.old).misuses }
 {
@@ -149,12 +149,12 @@ pub fn carry_out<T: Tree>(
     ensures goes_on { CountsOnlyRise (T.counts tree.old) (T.counts tree.new) }
     // An I/O error is returned only if a fault was counted.
     ensures disk { IsErrOf result DiskFault
-        → IsFaultCountedWithCause (T.counts tree.old) (T.counts tree.new) }
+        → CountsNewFaultWithCause (T.counts tree.old) (T.counts tree.new) }
     // Ok is returned only if no fault was counted.
-    ensures kept { OnOk result (CountsNoNewFault (T.counts tree.old) (T.counts tree.new)) }
+    ensures kept { OnOk result (CountsNoNewFaultOrLackOfMemory (T.counts tree.old) (T.counts tree.new)) }
     // With another error than one of the tree, no fault was counted.
     ensures others { IfErr result (λ fault. (fault ≡ DiskFault → ⊥)
-        → CountsNoNewFault (T.counts tree.old) (T.counts tree.new)) }
+        → CountsNoNewFaultOrLackOfMemory (T.counts tree.old) (T.counts tree.new)) }
     // No call is a misuse, if the sources of the writes denote bytes, and the paths of the intent
     // and of the staged files are free before the change and after all its actions.
     ensures proper { IfObservable (T.history tree.old) (λ v. (contents : List (List ℕ))

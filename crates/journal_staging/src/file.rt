@@ -8,7 +8,7 @@ ghost use Rattle.package_verifier.specs.package_reader.FileReading.{AreAsExpecte
 ghost use Rattle.package_verifier.specs.package_reader.declared.piece.PieceFault.TheVariants.{Bad, Disk as DiskFault};
 ghost use Rattle.journal_staging.specs.Reading.{IsReadingIn};
 ghost use Rattle.journal_staging.specs.SourceStaging.{StagesSource};
-ghost use Rattle.journal_commit.specs.StageRun.{IsRunThatStagedContents};
+ghost use Rattle.journal_commit.specs.StageRun.{IsRunThatStagedAndBeganFiles};
 
 use base_core::Tree;
 use journal_commit::{Stage, append_piece, begin_file, end_file};
@@ -41,9 +41,9 @@ pub(crate) fn stage_file<T: Tree>(
     // package, bytes with the size and the digest that the package lists are staged.
     ensures listed { HaveBeenReturned file.entry [] → (contents : List (List ℕ)) (v : TreeState)
         (first : List TreeState)
-        → IsRunThatStagedContents stage.old contents None v first (T.history tree.old)
+        → IsRunThatStagedAndBeganFiles stage.old contents None v first (T.history tree.old)
         → OnOk result ((bytes : List ℕ) × AreAsExpected (expected_file_of file.entry) bytes
-        × IsRunThatStagedContents stage.new (contents
+        × IsRunThatStagedAndBeganFiles stage.new (contents
         ++ bytes ∷ []) None v first (T.history tree.new)) }
     // If no byte of the file was read before, and no test has failed before: the error `Bad` is
     // returned only for bytes that have the listed size and another digest.

@@ -9,7 +9,7 @@ ghost use Rattle.journal_staging.specs.SourceStaging.{StagesSource};
 ghost use Rattle.journal_staging.specs.Sources.{AreListedContentsOf, IsFileSource, MayDenote, DenotesBytes};
 ghost use Rattle.journal_staging.specs.Spoiled.{IsSpoiledAt, IsSpoiledForEachTested};
 ghost use Rattle.journal_staging.specs.declared.writes.StageFault.TheVariants.{Bad, Disk as DiskFault};
-ghost use Rattle.journal_commit.specs.StageRun.{IsRunThatStagedContents};
+ghost use Rattle.journal_commit.specs.StageRun.{IsRunThatStagedAndBeganFiles};
 
 use crate::file::stage_file;
 use base_core::{Cause, Disk, Name, Tree};
@@ -42,9 +42,9 @@ fn stage_packaged<T: Tree>(
     // On Ok, whatever the tree has returned, bytes with the size and the digest that the package
     // lists for the file are staged, after the files staged before (`contents`).
     ensures listed { (contents : List (List ℕ)) (v : TreeState) (first : List TreeState)
-        → IsRunThatStagedContents stage.old contents None v first (T.history tree.old)
+        → IsRunThatStagedAndBeganFiles stage.old contents None v first (T.history tree.old)
         → OnOk result ((bytes : List ℕ) × AreListedContentsOf f.now bytes
-        × IsRunThatStagedContents stage.new (contents
+        × IsRunThatStagedAndBeganFiles stage.new (contents
         ++ bytes ∷ []) None v first (T.history tree.new)) }
     // If the error is `Bad`, it reports the package's member, and a cause with which a file that
     // has the values of the tested one is spoiled.
@@ -85,9 +85,9 @@ pub(crate) fn stage_write<T: Tree>(
     // On Ok, whatever the tree has returned, bytes that the source may denote are staged, after the
     // files staged before (`contents`).
     ensures listed { (contents : List (List ℕ)) (v : TreeState) (first : List TreeState)
-        → IsRunThatStagedContents stage.old contents None v first (T.history tree.old)
+        → IsRunThatStagedAndBeganFiles stage.old contents None v first (T.history tree.old)
         → OnOk result ((bytes : List ℕ) × MayDenote source.now bytes
-        × IsRunThatStagedContents stage.new (contents
+        × IsRunThatStagedAndBeganFiles stage.new (contents
         ++ bytes ∷ []) None v first (T.history tree.new)) }
     // If the error is `Bad`, the source is a file of the package of this member, and the package's
     // file is spoiled with this cause.

@@ -15,8 +15,8 @@ use Rattle.make_index.specs.adb_fields.Pairs.{NameWithPosition}
 use Rattle.make_index.specs.adb_fields.FirstPair.{IsLeastPairIfAny}
 use Rattle.make_index.specs.adb_fields.FirstPair.{IsPairOfEqualNames}
 use Rattle.make_index.specs.adb_fields.FirstPair.{IsIn}
-use Rattle.make_index.specs.adb_fields.Repeated.{repeated_file_in_folder_of_packages, files_in, repeated_folder_in_one_of_packages, folders_in, name_of, numbered_from, repeated_fault, least_pair_of_repeated_name_in_one_list}
-use Rattle.make_index.specs.adb_fields.FirstPair.{IsPairOfRepeatedNameInOneList}
+use Rattle.make_index.specs.adb_fields.Repeated.{positions_of_file_repeated_in_a_folder, files_in, positions_of_folder_repeated_in_a_package, folders_in, name_of, numbered_from, repeated_fault, least_positions_of_name_twice_in_one_list}
+use Rattle.make_index.specs.adb_fields.FirstPair.{ArePositionsOfNameTwiceInOneList}
 use Rattle.adb_view.specs.declared.tables.Which.TheVariants.{Package}
 use Rattle.make_package.specs.package_files.Folders.{sorted_folders_with_names_inserted, sorted_names_without_repeats, with_folder_inserted, with_folder_inserted_by_cmp_with_first}
 use Rattle.make_package.specs.package_files.Package.{Script, SourceFile, SourceFolder, value_of_file, value_of_folder, value_of_package, kind_of_file}
@@ -131,14 +131,14 @@ no_pair names p apart pair =
     omega arith
 
 abbrev pub Tells : Type 0
-Tells = (lists : List (List (List ℕ))) → IsLeastPairIfAny (IsPairOfRepeatedNameInOneList lists) (least_pair_of_repeated_name_in_one_list lists)
+Tells = (lists : List (List (List ℕ))) → IsLeastPairIfAny (ArePositionsOfNameTwiceInOneList lists) (least_positions_of_name_twice_in_one_list lists)
 
-none_by : (lists : List (List (List ℕ))) (o : Option _) → ((names : List (List ℕ)) → IsIn names lists → IsApart names) → IsLeastPairIfAny (IsPairOfRepeatedNameInOneList lists) o → o ≡ None
+none_by : (lists : List (List (List ℕ))) (o : Option _) → ((names : List (List ℕ)) → IsIn names lists → IsApart names) → IsLeastPairIfAny (ArePositionsOfNameTwiceInOneList lists) o → o ≡ None
 none_by lists None apart told = refl
 none_by lists (Some p) apart told = let one = told.is_one in absurd (no_pair one.names p (apart one.names one.names_in) one.is_pair)
 
-none_twice : Tells → (lists : List (List (List ℕ))) → ((names : List (List ℕ)) → IsIn names lists → IsApart names) → least_pair_of_repeated_name_in_one_list lists ≡ None
-none_twice tells lists apart = none_by lists (least_pair_of_repeated_name_in_one_list lists) apart (tells lists)
+none_twice : Tells → (lists : List (List (List ℕ))) → ((names : List (List ℕ)) → IsIn names lists → IsApart names) → least_positions_of_name_twice_in_one_list lists ≡ None
+none_twice tells lists apart = none_by lists (least_positions_of_name_twice_in_one_list lists) apart (tells lists)
 
 -- ---- in a package
 
@@ -173,20 +173,20 @@ module _ (info : Plain) (folders : List SourceFolder) (scripts : List Script) (t
   abbrev value : Plain
   value = value_of_package info folders scripts triggers priority
 
-  folders_none : Tells → IsApart (folder_names_of folders) → repeated_folder_in_one_of_packages (value ∷ []) ≡ None
+  folders_none : Tells → IsApart (folder_names_of folders) → positions_of_folder_repeated_in_a_package (value ∷ []) ≡ None
   folders_none tells apart = none_twice tells (map name_of (folders_in value) ∷ []) (λ names h. one names h)
     where
       one : (names : List (List ℕ)) → IsIn names (map name_of (folders_in value) ∷ []) → IsApart names
       one names (inl is) = subst IsApart (sym (is ∙ (ap (map name_of) (folders_stand info folders scripts triggers priority) ∙ names_of_folders folders))) apart
       one names (inr h) = absurd h
 
-  files_none : Tells → AreApartFiles folders → repeated_file_in_folder_of_packages (value ∷ []) ≡ None
+  files_none : Tells → AreApartFiles folders → positions_of_file_repeated_in_a_folder (value ∷ []) ≡ None
   files_none tells apart =
       let lists : List (List (List ℕ)) = names_by_folder (map value_of_folder folders) in
       let same : flat_map (λ (pkg : Plain). names_by_folder (folders_in pkg)) (value ∷ []) ≡ lists =
       flat_map-cons (λ (pkg : Plain). names_by_folder (folders_in pkg)) value []
       ∙ (append-nil (names_by_folder (folders_in value)) ∙ ap names_by_folder (folders_stand info folders scripts triggers priority)) in
-      ap least_pair_of_repeated_name_in_one_list same ∙ none_twice tells lists (apart_by_folder folders apart)
+      ap least_positions_of_name_twice_in_one_list same ∙ none_twice tells lists (apart_by_folder folders apart)
 
   pub package_once : Tells → IsApart (folder_names_of folders) → AreApartFiles folders → repeated_fault Package value ≡ None
   unfolding repeated_fault

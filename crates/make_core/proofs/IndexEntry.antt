@@ -6,12 +6,12 @@ use Rattle.adb_view.specs.Plain.{Plain, int, blob, obj, Plains, Shape, number, h
 use Rattle.adb_view.specs.Shaped.{HasShape, HaveShapes}
 use Rattle.adb_view.specs.Schema.{shape_of, shapes_of, table}
 use Rattle.make_index.specs.adb_schema.Texts.{Surroundings, number_leaf, text_leaf, surroundings_of_root, surroundings_of_fields, leaves, field_leaves, first_bad_leaf, is_package_hash_length, is_allowed_text_of_field}
-use Rattle.adb_view.specs.Values.{nth, entries_in, entry_in}
+use Rattle.adb_view.specs.Values.{nth, entries_in, entry_at_index}
 use Rattle.make_index.specs.adb_schema.Soundness.{payload_in}
 use Rattle.adb_view.specs.declared.tables.Which.{Which}
 use Rattle.adb_view.specs.declared.tables.Which.TheVariants.{Dep, Package, PkgInfo, Index}
 use Rattle.adb_view.specs.declared.tables.Kind.TheVariants.{Obj}
-use Rattle.make_index.specs.pkg_core.Whole.{package_fault, package_id, package_with_contents}
+use Rattle.make_index.specs.pkg_core.Whole.{package_fault, payload_sha256_of_package_file, package_with_contents}
 use Rattle.make_index.specs.Entries.{index_entry_of_package_file}
 use Rattle.make_index.specs.adb_copy.Zeros.{info_without_zeros_with_id_and_file_size, with_value_set_at_index}
 use Rattle.make_core.proofs.Blind.{AreBlind, AreBlindBut, IsBlind, turned_but}
@@ -41,16 +41,16 @@ blind_info =
 
 -- ---- the info of a package
 
-info_shaped : (v : Plain) → IsOpened v → HaveShapes infos (entries_in (entry_in v 0))
+info_shaped : (v : Plain) → IsOpened v → HaveShapes infos (entries_in (entry_at_index v 0))
 unfolding shape_of
 info_shaped v o =
     let shapes = entries_shape 7 (shapes_of (table Package)) v o.shaped in
-    entries_shape 3 infos (entry_in v 0) (part_shaped (shapes_of (table Package)) 0 (shape_of (Obj PkgInfo)) (entries_in v) refl shapes)
+    entries_shape 3 infos (entry_at_index v 0) (part_shaped (shapes_of (table Package)) 0 (shape_of (Obj PkgInfo)) (entries_in v) refl shapes)
 
 abbrev around_info : Plain → Surroundings
-around_info v = surroundings_of_fields 3 (surroundings_of_fields 7 (surroundings_of_root Package) v) (entry_in v 0)
+around_info v = surroundings_of_fields 3 (surroundings_of_fields 7 (surroundings_of_root Package) v) (entry_at_index v 0)
 
-info_kept : (v : Plain) → IsOpened v → first_bad_leaf (field_leaves infos 301 (around_info v) (entries_in (entry_in v 0))) ≡ None
+info_kept : (v : Plain) → IsOpened v → first_bad_leaf (field_leaves infos 301 (around_info v) (entries_in (entry_at_index v 0))) ≡ None
 unfolding shape_of leaves
 info_kept v o = part_kept (shapes_of (table Package)) 0 (shape_of (Obj PkgInfo)) 701 (surroundings_of_fields 7 (surroundings_of_root Package) v) (entries_in v) refl o.kept
 
@@ -118,12 +118,12 @@ both_kept a b vs id len long here there h =
 -- ---- the entry
 
 entry_by : (v : Plain) (id : List ℕ) (len place : ℕ) (around : Surroundings) → IsOpened v → length id ≡ 32 → len < 2 ^ 64 → around.root ≡ Index
-    → IsGood (shape_of (Obj PkgInfo)) place around (info_without_zeros_with_id_and_file_size (entry_in v 0) id len)
+    → IsGood (shape_of (Obj PkgInfo)) place around (info_without_zeros_with_id_and_file_size (entry_at_index v 0) id len)
 unfolding shape_of leaves info_without_zeros_with_id_and_file_size
 entry_by v id len place around o long small root =
-    let vs = entries_in (entry_in v 0) in
+    let vs = entries_in (entry_at_index v 0) in
     let us = with_both vs id len in
-    let ints = obj_ints us (both_ints vs id len small (entries_ints (entry_in v 0) (nth_ints (entries_in v) 0 (entries_ints v (normal_ints v o.normal))))) in
+    let ints = obj_ints us (both_ints vs id len small (entries_ints (entry_at_index v 0) (nth_ints (entries_in v) 0 (entries_ints v (normal_ints v o.normal))))) in
     let shaped = obj_shaped 3 infos us (both_shaped vs id len (info_shaped v o)) in
     let kept = both_kept (around_info v) (surroundings_of_fields 3 around (obj us)) vs id len long refl root (info_kept v o) in
     record {
@@ -135,4 +135,4 @@ entry_by v id len place around o long small root =
 pub entry_good : Values → (file : List ℕ) (place : ℕ) (around : Surroundings) → All (λ b. b < 256) file → length file < 2 ^ 64 → around.root ≡ Index → package_fault file ≡ None
     → IsGood (shape_of (Obj PkgInfo)) place around (index_entry_of_package_file file)
 entry_good laws file place around bytes small root e =
-    entry_by (package_with_contents file).value (package_id file) (length file) place around (opened laws file bytes e) (length-sha256 (payload_in file)) small root
+    entry_by (package_with_contents file).value (payload_sha256_of_package_file file) (length file) place around (opened laws file bytes e) (length-sha256 (payload_in file)) small root

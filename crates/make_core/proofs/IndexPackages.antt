@@ -9,7 +9,7 @@ use Rattle.adb_view.specs.declared.tables.Which.TheVariants.{Index}
 use Rattle.adb_view.proofs.ValueEntries.{entries_arr, nth_obj}
 use Rattle.adb_view.specs.Plain.{Plain, none, more, array_or_null, blob_or_null}
 use Rattle.command_core.specs.Command.{CommandLine}
-use Rattle.command_core.specs.Files.{without_dot_slash}
+use Rattle.command_core.specs.Files.{without_one_leading_dot_slash}
 use Rattle.command_core.specs.declared.operands.Operand.{Operand}
 use Rattle.base_core.specs.Sorted.{sorted_by}
 use Rattle.make_index.specs.Entries.{index_entry_of_package_file}
@@ -50,7 +50,7 @@ record AreSoundEntries (read : Reads) (n : ℕ) (operands : List Operand) (entri
   same : map index_entry_of_package_file files ≡ entries
 
 one_more : (read : Reads) (n : ℕ) (o : Operand) (operands : List Operand) (entries : List Plain) (r : Result Plain MakeFault) (rs : Result (List Plain) MakeFault)
-    → ((entry : Plain) → r ≡ Ok entry → IsSoundEntry (read n (without_dot_slash o.text)) entry) → ((others : List Plain) → rs ≡ Ok others → AreSoundEntries read (n + 1) operands others)
+    → ((entry : Plain) → r ≡ Ok entry → IsSoundEntry (read n (without_one_leading_dot_slash o.text)) entry) → ((others : List Plain) → rs ≡ Ok others → AreSoundEntries read (n + 1) operands others)
     → entry_before_others_or_fault r rs ≡ Ok entries → AreSoundEntries read n (o ∷ operands) entries
 one_more read n o operands entries (Err fault) rs one further e = absurd (cc (e))
 one_more read n o operands entries (Ok entry) (Err fault) one further e = absurd (cc (e))
@@ -69,8 +69,8 @@ entries_sound read n [] entries e =
     let none_left : [] ≡ entries = cc (e) in
     record { files = []; sound = tt; same = none_left }
 entries_sound read n (o ∷ operands) entries e =
-    one_more read n o operands entries (found_entry o.place (read n (without_dot_slash o.text))) (found_entries read (n + 1) operands)
-    (found_sound o.place (read n (without_dot_slash o.text))) (entries_sound read (n + 1) operands) e
+    one_more read n o operands entries (found_entry o.place (read n (without_one_leading_dot_slash o.text))) (found_entries read (n + 1) operands)
+    (found_sound o.place (read n (without_one_leading_dot_slash o.text))) (entries_sound read (n + 1) operands) e
 
 -- ---- in the index
 

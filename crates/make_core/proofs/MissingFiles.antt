@@ -6,7 +6,7 @@ use Rattle.make_index.proofs.adb_fields.Members.{contains-from_in, from-map}
 use Rattle.adb_view.specs.Plain.{Plain}
 use Rattle.make_index.specs.adb_write.Canonical.{ByteAndValueCounts}
 use Rattle.command_core.specs.Command.{CommandLine}
-use Rattle.command_core.specs.Files.{without_dot_slash}
+use Rattle.command_core.specs.Files.{without_one_leading_dot_slash}
 use Rattle.command_core.specs.Values.{script_file, script_type}
 use Rattle.command_core.specs.declared.values.OptionValue.{OptionValue}
 use Rattle.make_index.specs.make_info.Information.{FieldWithValue, information}
@@ -70,7 +70,7 @@ missing_by read place n name None next fault is never e = let same : fault ≡ F
 missing_by read place n name (Some bytes) next fault is never e = absurd (never bytes e)
 
 abbrev script_name : OptionValue → List ℕ
-script_name v = without_dot_slash (script_file v.text)
+script_name v = without_one_leading_dot_slash (script_file v.text)
 
 script_fails : (read : Reads) (n : ℕ) (v : OptionValue) (fault : MakeFault) → script_at read n v ≡ Err fault → IsMissingAt read v.place (script_name v) fault
 script_fails read n v fault e =
@@ -122,7 +122,7 @@ script_is_missing read scripts place e =
 file_is_missing : (read : Reads) (n : ℕ) (folders : List OptionValue) (names : List (List ℕ)) (place : ℕ) → source_folders_of_first_option_only read n folders names ≡ Err (FileMissing place) → IsPlaceOfFolderWithMissingFile read folders names place
 file_is_missing read n [] names place e = absurd (cc (e))
 file_is_missing read n (folder ∷ others) names place e =
-    let one = below_fails read folder.place n (without_dot_slash folder.text) names (FileMissing place) e in
+    let one = below_fails read folder.place n (without_one_leading_dot_slash folder.text) names (FileMissing place) e in
     record { folder = folder; others = others; given = refl; at = missing_place place folder.place one.is.0; name = one.name; listed = contains-from_in one.name names one.listed; absent = one.is.1 }
 
 abbrev IsMissing : Reads → CommandLine → List (List ℕ) → ℕ → Type 0

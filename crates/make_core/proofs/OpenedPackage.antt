@@ -5,10 +5,10 @@ use Rattle.std.proofs.lemmas.List.Elements.{All-drop, All-take}
 use Rattle.base_core.specs.declared.cause.Cause.{Cause}
 use Rattle.base_core.specs.declared.cause.Cause.TheVariants.{BlockOrder, Truncated}
 use Rattle.base_core.proofs.Causes.{first_none, second_none}
-use Rattle.adb_block.specs.Piece.{Piece, may_be_next_kind}
-use Rattle.adb_block.specs.Framing.{HeadFields, NextBlockResult, ended, failed, block, block_head_fields, next_block_result_by_header, kind_of_number, next_block_result_by_kind_order, next_block_result_by_size, next_block_result_at_offset}
+use Rattle.adb_block.specs.BlockWithoutOffset.{BlockWithoutOffset, may_be_next_kind}
+use Rattle.adb_block.specs.Framing.{HeadFields, NextBlockResult, ended, failed, block, block_head_fields, next_block_result_by_header, kind_of_number, next_block_result_by_kind_order, next_block_result_by_raw_size, next_block_result_at_offset}
 use Rattle.adb_block.specs.Header.{schema_of_header}
-use Rattle.adb_block.specs.Reading.{Reading, bounded_block_stream_from_offset, block_stream_from, block_stream_after_result}
+use Rattle.adb_block.specs.Reading.{Reading, bounded_block_stream_from_offset, block_stream_from, block_stream_with_rest_by_padded_size}
 use Rattle.adb_block.specs.declared.block.BlockKind.{BlockKind}
 use Rattle.adb_view.specs.Head.{payload_head_fault, root_word_of_payload}
 use Rattle.adb_view.specs.Plain.{Plain, null, IsNormal, Shape, plain_of}
@@ -18,10 +18,10 @@ use Rattle.adb_view.specs.Schema.{shape_of}
 use Rattle.adb_view.specs.Values.{value_at}
 use Rattle.adb_view.specs.Walk.{shape_fault}
 use Rattle.make_index.specs.adb_schema.Texts.{text_or_number_fault}
-use Rattle.make_index.specs.adb_schema.Soundness.{blocks_fault, file_fault_after_header, first_block_payload, payload_after_header, payload_fault, payload_in, root_value_of_payload, schema_fault}
+use Rattle.make_index.specs.adb_schema.Soundness.{blocks_fault, file_fault_by_header_schema_or_fault, first_block_payload, payload_by_header_schema_or_fault, payload_fault, payload_in, root_value_of_payload, schema_fault}
 use Rattle.adb_view.specs.declared.tables.Which.TheVariants.{Package}
 use Rattle.adb_view.specs.declared.tables.Kind.TheVariants.{Obj}
-use Rattle.make_index.specs.pkg_core.Whole.{fault_of_further_blocks, package_fault, package_with_contents, container_fault_of_table}
+use Rattle.make_index.specs.pkg_core.Whole.{fault_of_contents_blocks_by_root_table, package_fault, package_with_contents, container_fault_of_table}
 
 -- what the layers below say of values that are found
 pub record Values : Type 0 where
@@ -43,7 +43,7 @@ failed_first : (c : Cause) → IsFirst (failed c)
 unfolding IsFirst
 failed_first c = tt
 
-block_first : (b : Piece) (size : ℕ) → AreBytes b.payload → IsFirst (block b size)
+block_first : (b : BlockWithoutOffset) (size : ℕ) → AreBytes b.payload → IsFirst (block b size)
 unfolding IsFirst
 block_first b size h = h
 
@@ -51,7 +51,7 @@ either : (b : Bool) (x y : NextBlockResult) → IsFirst x → IsFirst y → IsFi
 either true x y a c = a
 either false x y a c = c
 
-sized_first : (at : ℕ) (bytes : List ℕ) (head : HeadFields) (kind : BlockKind) → AreBytes bytes → IsFirst (next_block_result_by_size at bytes head kind)
+sized_first : (at : ℕ) (bytes : List ℕ) (head : HeadFields) (kind : BlockKind) → AreBytes bytes → IsFirst (next_block_result_by_raw_size at bytes head kind)
 sized_first at bytes head kind h =
     either _ _ _ (failed_first (Truncated at)) (either _ _ _ (failed_first (Truncated at))
     (block_first _ _ (All-take (λ b. b < 256) (head.raw - head.len) (drop head.len bytes) (All-drop (λ b. b < 256) head.len bytes h))))
@@ -73,13 +73,13 @@ step_first at bytes h = either _ _ _ (failed_first (Truncated at)) (headed_first
 abbrev IsPayload : List ℕ → Type 0
 IsPayload payload = AreBytes payload × (payload_fault Package payload ≡ None)
 
-first_passed : (at : ℕ) (further : Piece → ℕ → Reading) (s : NextBlockResult) → IsFirst s → blocks_fault (fault_of_further_blocks Package) Package (block_stream_after_result at further s) ≡ None → IsPayload (first_block_payload (block_stream_after_result at further s))
+first_passed : (at : ℕ) (further : BlockWithoutOffset → ℕ → Reading) (s : NextBlockResult) → IsFirst s → blocks_fault (fault_of_contents_blocks_by_root_table Package) Package (block_stream_with_rest_by_padded_size at further s) ≡ None → IsPayload (first_block_payload (block_stream_with_rest_by_padded_size at further s))
 unfolding IsFirst
 first_passed at further ended f h = absurd f
 first_passed at further (failed c) f h = absurd cc
 first_passed at further (block b size) f h = (f, first_none (payload_fault Package b.payload) _ h)
 
-header_passed : (file : List ℕ) (h : Result ℕ Cause) → AreBytes file → file_fault_after_header (fault_of_further_blocks Package) Package file h ≡ None → IsPayload (payload_after_header file h)
+header_passed : (file : List ℕ) (h : Result ℕ Cause) → AreBytes file → file_fault_by_header_schema_or_fault (fault_of_contents_blocks_by_root_table Package) Package file h ≡ None → IsPayload (payload_by_header_schema_or_fault file h)
 unfolding block_stream_from bounded_block_stream_from_offset
 header_passed file (Ok schema) bytes e =
     first_passed 8 _ (next_block_result_at_offset None 8 (drop 8 file)) (step_first 8 (drop 8 file) (All-drop (λ b. b < 256) 8 file bytes)) (second_none (schema_fault Package schema) _ e)

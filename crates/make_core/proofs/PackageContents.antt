@@ -5,9 +5,9 @@ use Rattle.sha2.specs.Sha256.{sha256}
 use Rattle.sha2.proofs.Facts256.{length-sha256}
 use Rattle.adb_view.specs.Plain.{Plain}
 use Rattle.make_index.specs.adb_schema.Texts.{is_file_with_contents}
-use Rattle.adb_view.specs.Values.{entry_in, int_in, text_in}
-use Rattle.make_index.specs.pkg_core.Contents.{Contents, ExpectedFile, expected_file_if_with_contents, expected_files_of_package, expected_files_of_folder, expected_files_of_folders, hash_fault}
-use Rattle.make_index.specs.pkg_core.GoodContents.{AreContentsOfExpectedFiles}
+use Rattle.adb_view.specs.Values.{entry_at_index, int_in, text_in}
+use Rattle.make_index.specs.pkg_core.Contents.{Contents, ExpectedFile, expected_file_if_with_contents, expected_files_of_package, expected_files_of_folder, expected_files_of_folders, fault_if_digest_is_not_of_bytes}
+use Rattle.make_index.specs.pkg_core.GoodContents.{MatchEachExpectedSizeAndKnownDigest}
 use Rattle.make_package.specs.package_files.Package.{Script, SourceFile, SourceFolder, contents_of_file, contents_of_files, contents_of_folders, has_contents, kind_of_file}
 use Rattle.make_package.specs.package_files.Package.{value_of_file, value_of_folder, value_of_kind, value_of_package}
 use Rattle.make_package.specs.package_files.declared.file.FileKind.{FileKind}
@@ -31,8 +31,8 @@ expects name kind =
     let size = size_stands name kind in
     (λ k. (length (target k) == 0) && nat_lt 0 (size k)) ∙ same_contents kind
 
-own_digest : (bytes : List ℕ) → hash_fault (sha256 bytes) bytes ≡ None
-unfolding hash_fault
+own_digest : (bytes : List ℕ) → fault_if_digest_is_not_of_bytes (sha256 bytes) bytes ≡ None
+unfolding fault_if_digest_is_not_of_bytes
 own_digest bytes =
     let other : eqb (length (sha256 bytes)) 20 ≡ false = ap (λ n. eqb n 20) (length-sha256 bytes) in
     let own : eqb (length (sha256 bytes)) 32 ≡ true = ap (λ n. eqb n 32) (length-sha256 bytes) in
@@ -40,7 +40,7 @@ own_digest bytes =
     rw (other, own, same) refl
 
 file_contents : (d i : ℕ) (name bytes : List ℕ) (kind : FileKind) → IsKindOf kind bytes → (b : Bool) → has_contents kind ≡ b
-    → AreContentsOfExpectedFiles (if b then record { folder = d; file = i; size = int_in (entry_in (value_of_kind name kind) 2); hash = text_in (entry_in (value_of_kind name kind) 4) } ∷ [] else [])
+    → MatchEachExpectedSizeAndKnownDigest (if b then record { folder = d; file = i; size = int_in (entry_at_index (value_of_kind name kind) 2); hash = text_in (entry_at_index (value_of_kind name kind) 4) } ∷ [] else [])
     (if b then record { folder = d; file = i; bytes = bytes } ∷ [] else [])
 file_contents d i name bytes kind of false e = tt
 file_contents d i name bytes (Link target) of true e = absurd (cc (e))
@@ -49,39 +49,39 @@ file_contents d i name bytes (Regular size digest) of true e = (
     folder = refl;
     file = refl;
     size = sym (size_stands name (Regular size digest) ∙ of.0);
-    hash = ap (λ (h : List ℕ). hash_fault h bytes) (hash_stands name (Regular size digest) ∙ of.1) ∙ own_digest bytes;
+    hash = ap (λ (h : List ℕ). fault_if_digest_is_not_of_bytes h bytes) (hash_stands name (Regular size digest) ∙ of.1) ∙ own_digest bytes;
   },
   tt,
 )
 
-at_good : (d i : ℕ) (file : SourceFile) → AreContentsOfExpectedFiles (expected_file_if_with_contents d i (value_of_file file)) (contents_of_file d i file.bytes)
+at_good : (d i : ℕ) (file : SourceFile) → MatchEachExpectedSizeAndKnownDigest (expected_file_if_with_contents d i (value_of_file file)) (contents_of_file d i file.bytes)
 at_good d i file =
     let kind : FileKind = kind_of_file file.bytes in
-    let this : List ExpectedFile = record { folder = d; file = i; size = int_in (entry_in (value_of_kind file.name kind) 2); hash = text_in (entry_in (value_of_kind file.name kind) 4) } ∷ [] in
+    let this : List ExpectedFile = record { folder = d; file = i; size = int_in (entry_at_index (value_of_kind file.name kind) 2); hash = text_in (entry_at_index (value_of_kind file.name kind) 4) } ∷ [] in
     let those : List Contents = contents_of_file d i file.bytes in
-    subst (λ (b : Bool). AreContentsOfExpectedFiles (if b then this else []) those) (sym (expects file.name kind)) (file_contents d i file.name file.bytes kind (entry_is_of file.bytes) (has_contents kind) refl)
+    subst (λ (b : Bool). MatchEachExpectedSizeAndKnownDigest (if b then this else []) those) (sym (expects file.name kind)) (file_contents d i file.name file.bytes kind (entry_is_of file.bytes) (has_contents kind) refl)
 
 -- ---- all of them
 
-both : (es fs : List ExpectedFile) (cs ds : List Contents) → AreContentsOfExpectedFiles es cs → AreContentsOfExpectedFiles fs ds → AreContentsOfExpectedFiles (es ++ fs) (cs ++ ds)
+both : (es fs : List ExpectedFile) (cs ds : List Contents) → MatchEachExpectedSizeAndKnownDigest es cs → MatchEachExpectedSizeAndKnownDigest fs ds → MatchEachExpectedSizeAndKnownDigest (es ++ fs) (cs ++ ds)
 both [] fs [] ds a b = b
 both [] fs (c ∷ cs) ds a b = absurd a
 both (e ∷ es) fs [] ds a b = absurd a
 both (e ∷ es) fs (c ∷ cs) ds a b = (a.0, both es fs cs ds a.1 b)
 
-files_contents : (d i : ℕ) (files : List SourceFile) → AreContentsOfExpectedFiles (expected_files_of_folder d i (map value_of_file files)) (contents_of_files d i files)
+files_contents : (d i : ℕ) (files : List SourceFile) → MatchEachExpectedSizeAndKnownDigest (expected_files_of_folder d i (map value_of_file files)) (contents_of_files d i files)
 files_contents d i [] = tt
 files_contents d i (file ∷ files) =
     both (expected_file_if_with_contents d i (value_of_file file)) (expected_files_of_folder d (i + 1) (map value_of_file files)) (contents_of_file d i file.bytes) (contents_of_files d (i + 1) files) (at_good d i file) (files_contents d (i + 1) files)
 
-folders_contents : (i : ℕ) (folders : List SourceFolder) → AreContentsOfExpectedFiles (expected_files_of_folders i (map value_of_folder folders)) (contents_of_folders i folders)
+folders_contents : (i : ℕ) (folders : List SourceFolder) → MatchEachExpectedSizeAndKnownDigest (expected_files_of_folders i (map value_of_folder folders)) (contents_of_folders i folders)
 folders_contents i [] = tt
 folders_contents i (folder ∷ folders) =
     let others : List ExpectedFile = expected_files_of_folders (i + 1) (map value_of_folder folders) in
-    subst (λ (files : List Plain). AreContentsOfExpectedFiles (expected_files_of_folder i 1 files ++ others) (contents_of_folders i (folder ∷ folders))) (sym (files_stand folder))
+    subst (λ (files : List Plain). MatchEachExpectedSizeAndKnownDigest (expected_files_of_folder i 1 files ++ others) (contents_of_folders i (folder ∷ folders))) (sym (files_stand folder))
     (both (expected_files_of_folder i 1 (map value_of_file folder.files)) others (contents_of_files i 1 folder.files) (contents_of_folders (i + 1) folders) (files_contents i 1 folder.files) (folders_contents (i + 1) folders))
 
 pub package_contents : (info : Plain) (folders : List SourceFolder) (scripts : List Script) (triggers : List (List ℕ)) (priority : Option ℕ)
-    → AreContentsOfExpectedFiles (expected_files_of_package (value_of_package info folders scripts triggers priority)) (contents_of_folders 1 folders)
+    → MatchEachExpectedSizeAndKnownDigest (expected_files_of_package (value_of_package info folders scripts triggers priority)) (contents_of_folders 1 folders)
 package_contents info folders scripts triggers priority =
-    subst (λ (vs : List Plain). AreContentsOfExpectedFiles (expected_files_of_folders 1 vs) (contents_of_folders 1 folders)) (sym (folders_stand info folders scripts triggers priority)) (folders_contents 1 folders)
+    subst (λ (vs : List Plain). MatchEachExpectedSizeAndKnownDigest (expected_files_of_folders 1 vs) (contents_of_folders 1 folders)) (sym (folders_stand info folders scripts triggers priority)) (folders_contents 1 folders)

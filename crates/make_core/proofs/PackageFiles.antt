@@ -12,7 +12,7 @@ use Rattle.make_index.specs.adb_fields.Repeated.{files_in, folders_in, list_of}
 use Rattle.make_index.specs.adb_schema.Rules.{is_digest_length, is_digest_length_or_none, is_valid_file_name_in_folder, is_folder_name, is_link_target_or_none}
 use Rattle.adb_view.specs.Schema.{shape_of, shapes_of, table}
 use Rattle.make_index.specs.adb_schema.Texts.{Surroundings, is_file_hash_length, is_allowed_number_of_field, surroundings_of_fields, surroundings_of_root, is_allowed_text_of_field}
-use Rattle.adb_view.specs.Values.{entries_in, entry_in, int_in, text_in}
+use Rattle.adb_view.specs.Values.{entries_in, entry_at_index, int_in, text_in}
 use Rattle.adb_view.specs.declared.tables.Which.TheVariants.{Acl, File, Dir, Scripts, PkgInfo, Package}
 use Rattle.adb_view.specs.declared.tables.Kind.TheVariants.{Obj}
 use Rattle.command_core.specs.Values.{script_types}
@@ -104,16 +104,16 @@ file_fields name kind =
     more (blob_or_null name) (more (access_value 420) (more (size_or_null_if_zero (size_of_kind kind)) (more null
     (more (blob_or_null (hash_of_kind kind)) (more (blob_or_null (target_of_kind kind)) none)))))
 
-pub name_stands : (name : List ℕ) (kind : FileKind) → text_in (entry_in (value_of_kind name kind) 0) ≡ name
+pub name_stands : (name : List ℕ) (kind : FileKind) → text_in (entry_at_index (value_of_kind name kind) 0) ≡ name
 name_stands name kind = ap text_in (nth_obj (file_fields name kind) 0) ∙ text_blob name
 
-pub size_stands : (name : List ℕ) (kind : FileKind) → int_in (entry_in (value_of_kind name kind) 2) ≡ size_of_kind kind
+pub size_stands : (name : List ℕ) (kind : FileKind) → int_in (entry_at_index (value_of_kind name kind) 2) ≡ size_of_kind kind
 size_stands name kind = ap int_in (nth_obj (file_fields name kind) 2) ∙ int-size_or_null_if_zero (size_of_kind kind)
 
-pub hash_stands : (name : List ℕ) (kind : FileKind) → text_in (entry_in (value_of_kind name kind) 4) ≡ hash_of_kind kind
+pub hash_stands : (name : List ℕ) (kind : FileKind) → text_in (entry_at_index (value_of_kind name kind) 4) ≡ hash_of_kind kind
 hash_stands name kind = ap text_in (nth_obj (file_fields name kind) 4) ∙ text_blob (hash_of_kind kind)
 
-pub target_stands : (name : List ℕ) (kind : FileKind) → text_in (entry_in (value_of_kind name kind) 5) ≡ target_of_kind kind
+pub target_stands : (name : List ℕ) (kind : FileKind) → text_in (entry_at_index (value_of_kind name kind) 5) ≡ target_of_kind kind
 target_stands name kind = ap text_in (nth_obj (file_fields name kind) 5) ∙ text_blob (target_of_kind kind)
 
 file_inside : (folder name : List ℕ) (kind : FileKind) → surroundings_of_fields 4 (in_folder folder) (value_of_kind name kind) ≡ around_file folder kind
@@ -183,12 +183,12 @@ around_folder = record { root = Package; folder = []; has_contents = false }
 abbrev folder_fields : SourceFolder → Plains
 folder_fields folder = more (blob_or_null folder.name) (more (access_value 493) (more (array_or_null (plains_of_list (map value_of_file folder.files))) none))
 
-pub folder_name_stands : (folder : SourceFolder) → text_in (entry_in (value_of_folder folder) 0) ≡ folder.name
+pub folder_name_stands : (folder : SourceFolder) → text_in (entry_at_index (value_of_folder folder) 0) ≡ folder.name
 folder_name_stands folder = ap text_in (nth_obj (folder_fields folder) 0) ∙ text_blob folder.name
 
 folder_inside : (folder : SourceFolder) → surroundings_of_fields 5 around_folder (value_of_folder folder) ≡ in_folder folder.name
 folder_inside folder =
-    inside_same 5 around_folder (value_of_folder folder) folder.name (text_in (entry_in (value_of_folder folder) 5)) (int_in (entry_in (value_of_folder folder) 2)) (folder_name_stands folder) refl refl
+    inside_same 5 around_folder (value_of_folder folder) folder.name (text_in (entry_at_index (value_of_folder folder) 5)) (int_in (entry_at_index (value_of_folder folder) 2)) (folder_name_stands folder) refl refl
 
 pub folder_good : (folder : SourceFolder) → is_folder_name folder.name ≡ true → AreGoodFiles folder.name folder.files → IsGood (shape_of (Obj Dir)) 702 around_folder (value_of_folder folder)
 unfolding shape_of is_allowed_text_of_field

@@ -17,7 +17,7 @@ use Rattle.make_index.specs.adb_schema.Soundness.{payload_in, root_value_of_payl
 use Rattle.adb_view.specs.declared.tables.Which.TheVariants.{Package}
 use Rattle.adb_view.specs.Plain.{Plain}
 use Rattle.command_core.specs.Command.{CommandLine}
-use Rattle.command_core.specs.Files.{without_dot_slash}
+use Rattle.command_core.specs.Files.{without_one_leading_dot_slash}
 use Rattle.command_core.specs.declared.values.OptionValue.{OptionValue}
 use Rattle.make_index.specs.make_info.Information.{replaces_priority}
 use Rattle.make_package.specs.package_files.Folders.{FolderListing, all_folders_above, folder_listings_by_tree_names, last_part_of, folder_listing_by_tree_names, tree_names_in_package_folder, path_relative_to}
@@ -169,13 +169,13 @@ read_below law files place n dir names sources pkg all e is =
     }
 
 pub made_below : OneFolder → Holds IsReadBack → Sizes → Exact → Needs → Tells → (command : CommandLine) (names : List (List ℕ)) (files : Files) (bytes : List ℕ) (folder : OptionValue) (others : List OptionValue)
-    → values_of_letter FILES command.values ≡ folder ∷ others → AreSortedNamesBelowFolder (without_dot_slash folder.text) names → made_package command names (λ n name. files name) ≡ Ok bytes → length bytes < 2 ^ 64
-    → HasJustNamedFilesBelowFolder files (without_dot_slash folder.text) names (root_value_of_payload Package (payload_in bytes))
+    → values_of_letter FILES command.values ≡ folder ∷ others → AreSortedNamesBelowFolder (without_one_leading_dot_slash folder.text) names → made_package command names (λ n name. files name) ≡ Ok bytes → length bytes < 2 ^ 64
+    → HasJustNamedFilesBelowFolder files (without_one_leading_dot_slash folder.text) names (root_value_of_payload Package (payload_in bytes))
 made_below law holds sizes exact needs tells command names files bytes folder others given below e short =
     let named : AreSortedNamesBelowFirstFolder (values_of_letter FILES command.values) names = subst (λ (l : List OptionValue). AreSortedNamesBelowFirstFolder l names) (sym given) below in
     let made = made_of IsReadBack holds sizes exact needs tells command names (λ n name. files name) bytes named e short in
     let read : source_folders_of_first_option_only (λ n name. files name) (length made.scripts) (folder ∷ others) names ≡ Ok made.sources =
     ap (λ (l : List OptionValue). source_folders_of_first_option_only (λ n name. files name) (length made.scripts) l names) (sym given) ∙ made.sources_read in
     let value = ap (λ (p : PackageWithContents). p.value) made.holds in
-    read_below law files folder.place (length made.scripts) (without_dot_slash folder.text) names made.sources (root_value_of_payload Package (payload_in bytes)) (are_listed (without_dot_slash folder.text) names below.each) read
+    read_below law files folder.place (length made.scripts) (without_one_leading_dot_slash folder.text) names made.sources (root_value_of_payload Package (payload_in bytes)) (are_listed (without_one_leading_dot_slash folder.text) names below.each) read
     (ap folders_in value ∙ folders_stand _ made.sources made.scripts (texts_of (values_of_letter TRIGGER command.values)) (replaces_priority made.items))

@@ -8,26 +8,26 @@ use Rattle.make_index.specs.adb_schema.Texts.{surroundings_of_root}
 use Rattle.make_index.specs.adb_fields.Repeated.{repeated_fault}
 use Rattle.adb_view.specs.declared.tables.Which.{Which}
 use Rattle.adb_view.specs.declared.tables.Kind.TheVariants.{Obj}
-use Rattle.make_index.specs.adb_write.Canonical.{ByteAndValueCounts, canonical, payload_unless_overflow, overflow_of, exceeds_a_limit, payload_or_overflow, MOST_BYTES, MOST_VALUES}
+use Rattle.make_index.specs.adb_write.Canonical.{ByteAndValueCounts, canonical, payload_unless_overflow, counts_at_first_overflow, exceeds_a_limit, payload_or_counts_at_overflow, MOST_BYTES, MOST_VALUES}
 use Rattle.make_index.specs.adb_write.Size.{payload_size_of, value_count}
 use Rattle.make_package.specs.adb_sound.Root.{IsValidRootValueOfTable}
 use Rattle.make_core.proofs.GoodValues.{IsGood}
 
 pub record IsWritten (v : Plain) (payload : List ℕ) : Type 0 where
-  pub none : overflow_of v ≡ None
+  pub none : counts_at_first_overflow v ≡ None
   pub is : canonical v ≡ payload
 
-written_by : (v : Plain) (payload : List ℕ) (o : Option ByteAndValueCounts) → overflow_of v ≡ o → payload_unless_overflow (canonical v) o ≡ Ok payload → IsWritten v payload
+written_by : (v : Plain) (payload : List ℕ) (o : Option ByteAndValueCounts) → counts_at_first_overflow v ≡ o → payload_unless_overflow (canonical v) o ≡ Ok payload → IsWritten v payload
 written_by v payload None e h = record { none = e; is = cc (h) }
 written_by v payload (Some c) e h = absurd (cc (h))
 
-pub written : (v : Plain) (payload : List ℕ) → payload_or_overflow v ≡ Ok payload → IsWritten v payload
-unfolding payload_or_overflow
-written v payload h = written_by v payload (overflow_of v) refl h
+pub written : (v : Plain) (payload : List ℕ) → payload_or_counts_at_overflow v ≡ Ok payload → IsWritten v payload
+unfolding payload_or_counts_at_overflow
+written v payload h = written_by v payload (counts_at_first_overflow v) refl h
 
 -- a normal value overflows exactly past a limit
 abbrev pub Exact : Type 0
-Exact = (v : Plain) → IsNormal v → is_some (overflow_of v) ≡ exceeds_a_limit (payload_size_of v, value_count v)
+Exact = (v : Plain) → IsNormal v → is_some (counts_at_first_overflow v) ≡ exceeds_a_limit (payload_size_of v, value_count v)
 
 pub root_good : Exact → (which : Which) (v : Plain) (payload : List ℕ) → IsGood (shape_of (Obj which)) 0 (surroundings_of_root which) v → repeated_fault which v ≡ None → IsWritten v payload → IsValidRootValueOfTable which v
 root_good exact which v payload g once w =

@@ -13,8 +13,8 @@ use Rattle.make_index.specs.make_info.declared.field.Field.{Field}
 use Rattle.make_index.specs.make_info.declared.field.Field.TheVariants as Fields
 use Rattle.make_index.specs.make_info.declared.field.Kind.{Kind}
 use Rattle.make_index.specs.make_info.declared.field.Kind.TheVariants as Kinds
-use Rattle.make_index.specs.make_info.Fields.{FieldValue, text, number, need, field_values_of_decoded_hex, field_word, fields, kind_of_field, field_among, untagged_dependency_in, dependency_values_in, decimal_number, nonempty_parts_between_spaces, values_by_kind, text_value_if, text_values, dependency_value_and_others, dependency_if_untagged}
-use Rattle.command_core.specs.Operands.{is_decimal}
+use Rattle.make_index.specs.make_info.Fields.{TextNumberOrDependency, text, number, need, field_values_of_decoded_hex, field_word, fields, kind_of_field, field_among, untagged_dependency_in, dependency_values_of_parts, decimal_number_without_leading_zeros, nonempty_parts_between_spaces, values_by_kind, text_value_if, text_values, dependency_value_and_others, dependency_if_untagged}
+use Rattle.command_core.specs.Operands.{is_decimal_without_leading_zeros}
 use Rattle.make_index.specs.make_info.FieldTexts.{is_same_field}
 
 -- ---- the kind of a field is that of its word
@@ -55,7 +55,7 @@ same_kind g f e =
 abbrev pub IsNeed : Dependency → Type 0
 IsNeed d = (part : List ℕ) × (dependency_of part ≡ Some d) × (d.tag ≡ None)
 
-abbrev pub IsSaidAs : Kind → FieldValue → Type 0
+abbrev pub IsSaidAs : Kind → TextNumberOrDependency → Type 0
 IsSaidAs Kinds.PackageName (text b) = is_package_name b ≡ true
 IsSaidAs Kinds.PackageName (number n) = ⊥
 IsSaidAs Kinds.PackageName (need d) = ⊥
@@ -78,19 +78,19 @@ IsSaidAs Kinds.Texts (text b) = Unit {0}
 IsSaidAs Kinds.Texts (number n) = ⊥
 IsSaidAs Kinds.Texts (need d) = ⊥
 
-abbrev pub AreSaidAs : Kind → List FieldValue → Type 0
+abbrev pub AreSaidAs : Kind → List TextNumberOrDependency → Type 0
 AreSaidAs k [] = Unit {0}
 AreSaidAs k (s ∷ ss) = IsSaidAs k s × AreSaidAs k ss
 
-text_said : (k : Kind) (b : Bool) (value : List ℕ) (ss : List FieldValue) → (b ≡ true → IsSaidAs k (text value)) → text_value_if b value ≡ Some ss → AreSaidAs k ss
+text_said : (k : Kind) (b : Bool) (value : List ℕ) (ss : List TextNumberOrDependency) → (b ≡ true → IsSaidAs k (text value)) → text_value_if b value ≡ Some ss → AreSaidAs k ss
 text_said k true value ss h e = let same : text value ∷ [] ≡ ss = cc (e) in subst (AreSaidAs k) same (h refl, tt)
 text_said k false value ss h e = absurd (cc (e))
 
-bytes_are_said : (r : Result (List ℕ) FromHexError) (ss : List FieldValue) → field_values_of_decoded_hex r ≡ Some ss → AreSaidAs Kinds.HexDigits ss
+bytes_are_said : (r : Result (List ℕ) FromHexError) (ss : List TextNumberOrDependency) → field_values_of_decoded_hex r ≡ Some ss → AreSaidAs Kinds.HexDigits ss
 bytes_are_said (Ok bytes) ss e = let same : text bytes ∷ [] ≡ ss = cc (e) in subst (AreSaidAs Kinds.HexDigits) same (tt, tt)
 bytes_are_said (Err f) ss e = absurd (cc (e))
 
-number_is_said : (o : Option ℕ) (ss : List FieldValue) → ((n : ℕ) → o ≡ Some n → n < 2 ^ 64) → option_map (λ n. number n ∷ []) o ≡ Some ss → AreSaidAs Kinds.Number ss
+number_is_said : (o : Option ℕ) (ss : List TextNumberOrDependency) → ((n : ℕ) → o ≡ Some n → n < 2 ^ 64) → option_map (λ n. number n ∷ []) o ≡ Some ss → AreSaidAs Kinds.Number ss
 number_is_said (Some n) ss small e = let same : number n ∷ [] ≡ ss = cc (e) in subst (AreSaidAs Kinds.Number) same (small n refl, tt)
 number_is_said None ss small e = absurd (cc (e))
 
@@ -113,26 +113,26 @@ need_by : (part : List ℕ) (o : Option Dependency) (d : Dependency) → depende
 need_by part None d is e = absurd (cc (e))
 need_by part (Some x) d is e = let both = untagged_is x d e in (part, is ∙ ap Some both.0, both.1)
 
-needs_by : (part : List ℕ) (o : Option Dependency) (os : Option (List FieldValue)) (ss : List FieldValue) → untagged_dependency_in part ≡ o → ((ts : List FieldValue) → os ≡ Some ts → AreSaidAs Kinds.Dependencies ts) → dependency_value_and_others o os ≡ Some ss → AreSaidAs Kinds.Dependencies ss
+needs_by : (part : List ℕ) (o : Option Dependency) (os : Option (List TextNumberOrDependency)) (ss : List TextNumberOrDependency) → untagged_dependency_in part ≡ o → ((ts : List TextNumberOrDependency) → os ≡ Some ts → AreSaidAs Kinds.Dependencies ts) → dependency_value_and_others o os ≡ Some ss → AreSaidAs Kinds.Dependencies ss
 needs_by part None os ss is further e = absurd (cc (e))
 needs_by part (Some d) None ss is further e = absurd (cc (e))
 needs_by part (Some d) (Some ts) ss is further e =
     let same : need d ∷ ts ≡ ss = cc (e) in
     subst (AreSaidAs Kinds.Dependencies) same (need_by part (dependency_of part) d refl is, further ts refl)
 
-needs_said : (parts : List (List ℕ)) (ss : List FieldValue) → dependency_values_in parts ≡ Some ss → AreSaidAs Kinds.Dependencies ss
+needs_said : (parts : List (List ℕ)) (ss : List TextNumberOrDependency) → dependency_values_of_parts parts ≡ Some ss → AreSaidAs Kinds.Dependencies ss
 needs_said [] ss e = let same : [] ≡ ss = cc (e) in subst (AreSaidAs Kinds.Dependencies) same tt
-needs_said (part ∷ parts) ss e = needs_by part (untagged_dependency_in part) (dependency_values_in parts) ss refl (λ ts is. needs_said parts ts is) e
+needs_said (part ∷ parts) ss e = needs_by part (untagged_dependency_in part) (dependency_values_of_parts parts) ss refl (λ ts is. needs_said parts ts is) e
 
 texts_said : (parts : List (List ℕ)) → AreSaidAs Kinds.Texts (text_values parts)
 texts_said [] = tt
 texts_said (part ∷ parts) = (tt, texts_said parts)
 
-pub said_good : (k : Kind) (value : List ℕ) (ss : List FieldValue) → values_by_kind k value ≡ Some ss → AreSaidAs k ss
+pub said_good : (k : Kind) (value : List ℕ) (ss : List TextNumberOrDependency) → values_by_kind k value ≡ Some ss → AreSaidAs k ss
 said_good Kinds.PackageName value ss e = text_said Kinds.PackageName (is_package_name value) value ss (λ h. h) e
 said_good Kinds.PackageVersion value ss e = text_said Kinds.PackageVersion (is_version value) value ss (λ h. h) e
 said_good Kinds.AnyText value ss e = text_said Kinds.AnyText true value ss (λ h. tt) e
 said_good Kinds.HexDigits value ss e = bytes_are_said (decode_of value) ss e
-said_good Kinds.Number value ss e = number_is_said (decimal_number value) ss (λ n is. small_if (is_decimal value) (digits_value 10 value) n is) e
+said_good Kinds.Number value ss e = number_is_said (decimal_number_without_leading_zeros value) ss (λ n is. small_if (is_decimal_without_leading_zeros value) (digits_value 10 value) n is) e
 said_good Kinds.Dependencies value ss e = needs_said (nonempty_parts_between_spaces value) ss e
 said_good Kinds.Texts value ss e = let same : text_values (nonempty_parts_between_spaces value) ≡ ss = cc (e) in subst (AreSaidAs Kinds.Texts) same (texts_said (nonempty_parts_between_spaces value))

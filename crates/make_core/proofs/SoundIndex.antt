@@ -10,14 +10,14 @@ use Rattle.adb_view.specs.Shaped.{Each}
 use Rattle.adb_view.specs.Schema.{shape_of, shapes_of, table}
 use Rattle.make_index.specs.adb_schema.Texts.{Surroundings, surroundings_of_fields, surroundings_of_root, is_allowed_text_of_field}
 use Rattle.make_index.specs.adb_fields.Repeated.{repeated_fault}
-use Rattle.make_index.specs.adb_schema.Soundness.{payload_in, root_value_of_payload, schema_word}
+use Rattle.make_index.specs.adb_schema.Soundness.{payload_in, root_value_of_payload, header_schema_if_root_table}
 use Rattle.adb_view.specs.declared.tables.Which.TheVariants.{Package, PkgInfo, Index}
 use Rattle.adb_view.specs.declared.tables.Kind.TheVariants.{Obj}
 use Rattle.make_index.specs.adb_schema.declared.read.TheConstants.{INDEX_WORD}
-use Rattle.make_index.specs.adb_write.Canonical.{ByteAndValueCounts, payload_or_overflow, canonical}
+use Rattle.make_index.specs.adb_write.Canonical.{ByteAndValueCounts, payload_or_counts_at_overflow, canonical}
 use Rattle.make_index.specs.adb_write.File.{file_of}
 use Rattle.make_index.specs.pkg_core.Whole.{container_fault, package_fault}
-use Rattle.command_core.specs.Files.{without_dot_slash}
+use Rattle.command_core.specs.Files.{without_one_leading_dot_slash}
 use Rattle.command_core.specs.declared.operands.Operand.{Operand}
 use Rattle.make_index.specs.Index.{entry_before_others_or_fault, found_entries, found_entry, index_container, index_of_entries, index_of_entries_or_fault, value_of_index, entry_unless_fault, first_description_or_empty, made_index}
 use Rattle.make_index.specs.make_info.Values.{plains_of_list}
@@ -83,7 +83,7 @@ entries_good laws around read n [] entries files root e =
     let same : [] ≡ entries = cc (e) in
     subst (λ us. Each (IsEntry around) (plains_of_list us)) same tt
 entries_good laws around read n (o ∷ operands) entries files root e =
-    entries_by around _ _ entries e (λ v is. found_good laws o.place n (without_dot_slash o.text) around read v (read n (without_dot_slash o.text)) files.0 root refl is)
+    entries_by around _ _ entries e (λ v is. found_good laws o.place n (without_one_leading_dot_slash o.text) around read v (read n (without_one_leading_dot_slash o.text)) files.0 root refl is)
     (λ vs is. entries_good laws around read (n + 1) operands vs files.1 root is)
 
 -- ---- the index
@@ -114,7 +114,7 @@ module _ (P : Plain → List ℕ → Type 0) where
   abbrev pub Holds : Type 0
   Holds = (v : Plain) → IsValidRootValueOfTable Index v → P v (file_of INDEX_WORD (canonical v))
 
-  file_holds : Holds → Exact → (v : Plain) (r : Result (List ℕ) ByteAndValueCounts) (bytes : List ℕ) → IsGood (shape_of (Obj Index)) 0 (surroundings_of_root Index) v → payload_or_overflow v ≡ r → index_container r ≡ Ok bytes → P v bytes
+  file_holds : Holds → Exact → (v : Plain) (r : Result (List ℕ) ByteAndValueCounts) (bytes : List ℕ) → IsGood (shape_of (Obj Index)) 0 (surroundings_of_root Index) v → payload_or_counts_at_overflow v ≡ r → index_container r ≡ Ok bytes → P v bytes
   file_holds holds exact v (Err c) bytes g w e = absurd (cc (e))
   file_holds holds exact v (Ok payload) bytes g w e =
       let is = written v payload w in
@@ -128,7 +128,7 @@ module _ (P : Plain → List ℕ → Type 0) where
   found_holds holds exact description (Err f) bytes each e = absurd (cc (e))
   found_holds holds exact description (Ok entries) bytes each e =
       let v : Plain = value_of_index description (sorted_by index_entry_cmp entries) in
-      (v, refl, file_holds holds exact v (payload_or_overflow v) bytes (index_good description (sorted_by index_entry_cmp entries) (λ around root. each_in_order (IsEntry around) index_entry_cmp entries (each entries around refl root))) refl e)
+      (v, refl, file_holds holds exact v (payload_or_counts_at_overflow v) bytes (index_good description (sorted_by index_entry_cmp entries) (λ around root. each_in_order (IsEntry around) index_entry_cmp entries (each entries around refl root))) refl e)
 
   -- of a command
   made_holds : Holds → Exact → Values → (command : CommandLine) (read : ℕ → List ℕ → Option (List ℕ)) (bytes : List ℕ) → EachOperandReadFindsNoFileOrFileBytes read 0 command.operands → made_index command read ≡ Ok bytes
@@ -139,7 +139,7 @@ module _ (P : Plain → List ℕ → Type 0) where
 
 -- a container of a good value is sound, and so is an index that is made
 abbrev pub Sound : Type 0
-Sound = (which : Which) (schema : ℕ) (v : Plain) → schema_word which ≡ Some schema → which ≢ Package → IsValidRootValueOfTable which v → container_fault (file_of schema (canonical v)) ≡ None
+Sound = (which : Which) (schema : ℕ) (v : Plain) → header_schema_if_root_table which ≡ Some schema → which ≢ Package → IsValidRootValueOfTable which v → container_fault (file_of schema (canonical v)) ≡ None
 
 pub made_sound : Sound → Exact → Values → (command : CommandLine) (read : ℕ → List ℕ → Option (List ℕ)) (bytes : List ℕ) → EachOperandReadFindsNoFileOrFileBytes read 0 command.operands → made_index command read ≡ Ok bytes → container_fault bytes ≡ None
 made_sound sound exact values command read bytes files e =
@@ -147,7 +147,7 @@ made_sound sound exact values command read bytes files e =
 
 -- its value is read back, and so is that of an index that is made
 abbrev pub Back : Type 0
-Back = (which : Which) (schema : ℕ) (v : Plain) → schema_word which ≡ Some schema → IsValidRootValueOfTable which v → root_value_of_payload which (payload_in (file_of schema (canonical v))) ≡ v
+Back = (which : Which) (schema : ℕ) (v : Plain) → header_schema_if_root_table which ≡ Some schema → IsValidRootValueOfTable which v → root_value_of_payload which (payload_in (file_of schema (canonical v))) ≡ v
 
 pub made_back : Back → Exact → Values → (command : CommandLine) (read : ℕ → List ℕ → Option (List ℕ)) (bytes : List ℕ) → EachOperandReadFindsNoFileOrFileBytes read 0 command.operands → made_index command read ≡ Ok bytes → index_value_of_command command read ≡ Ok (root_value_of_payload Index (payload_in bytes))
 made_back back exact values command read bytes files e =

@@ -7,12 +7,12 @@ use Rattle.base_core.specs.Listed.{IsValidNameBelowFolder}
 use Rattle.adb_view.specs.Plain.{Plain}
 use Rattle.make_index.specs.adb_schema.declared.read.TheConstants.{PACKAGE_WORD}
 use Rattle.adb_view.specs.declared.tables.Which.TheVariants.{Package}
-use Rattle.make_index.specs.adb_write.Canonical.{ByteAndValueCounts, canonical, overflow_of}
+use Rattle.make_index.specs.adb_write.Canonical.{ByteAndValueCounts, canonical, counts_at_first_overflow}
 use Rattle.make_index.specs.pkg_core.Contents.{Contents, expected_files_of_package}
-use Rattle.make_index.specs.pkg_core.GoodContents.{AreContentsOfExpectedFiles}
+use Rattle.make_index.specs.pkg_core.GoodContents.{MatchEachExpectedSizeAndKnownDigest}
 use Rattle.make_index.specs.pkg_core.Whole.{container_fault, package_with_contents}
 use Rattle.command_core.specs.Command.{CommandLine}
-use Rattle.command_core.specs.Files.{without_dot_slash}
+use Rattle.command_core.specs.Files.{without_one_leading_dot_slash}
 use Rattle.command_core.specs.declared.values.OptionValue.{OptionValue}
 use Rattle.make_index.specs.make_info.Information.{FieldWithValue, information_value_with_installed_size, information, replaces_priority}
 use Rattle.make_package.specs.adb_sound.Contents.{total_size_of_file_contents}
@@ -40,11 +40,11 @@ pub record Sizes : Type 0 where
 -- what holds of the value, of the contents and of the container of each good package
 module _ (P : Plain → List Contents → List ℕ → Type 0) where
   abbrev pub Holds : Type 0
-  Holds = (v : Plain) (contents : List Contents) → IsValidRootValueOfTable Package v → AreContentsOfExpectedFiles (expected_files_of_package v) contents → length (container_of_value_and_contents PACKAGE_WORD v contents) < 2 ^ 64 → P v contents (container_of_value_and_contents PACKAGE_WORD v contents)
+  Holds = (v : Plain) (contents : List Contents) → IsValidRootValueOfTable Package v → MatchEachExpectedSizeAndKnownDigest (expected_files_of_package v) contents → length (container_of_value_and_contents PACKAGE_WORD v contents) < 2 ^ 64 → P v contents (container_of_value_and_contents PACKAGE_WORD v contents)
 
   value_holds : Holds → Sizes → Exact → Needs → Tells → (items : List FieldWithValue) (sources : List SourceFolder) (scripts : List Script) (triggers : List (List ℕ)) → IsInformation items → AreSources sources
       → (v : Plain) → v ≡ value_of_package (information_value_with_installed_size items (installed_size sources)) sources scripts triggers (replaces_priority items)
-      → overflow_of v ≡ None → length (container_of_value_and_contents PACKAGE_WORD v (contents_of_folders 1 sources)) < 2 ^ 64 → P v (contents_of_folders 1 sources) (container_of_value_and_contents PACKAGE_WORD v (contents_of_folders 1 sources))
+      → counts_at_first_overflow v ≡ None → length (container_of_value_and_contents PACKAGE_WORD v (contents_of_folders 1 sources)) < 2 ^ 64 → P v (contents_of_folders 1 sources) (container_of_value_and_contents PACKAGE_WORD v (contents_of_folders 1 sources))
   value_holds holds sizes exact needs tells items sources scripts triggers about are v is fits short =
       let contents : List Contents = contents_of_folders 1 sources in
       let bound = sizes.container PACKAGE_WORD v contents short in
@@ -55,12 +55,12 @@ module _ (P : Plain → List Contents → List ℕ → Type 0) where
       let good = package_value_good info sources scripts triggers priority (info_good needs items about (installed_size sources) small) (folders_sized sources are.named small) (priority_good needs items about) in
       let once = package_once info sources scripts triggers priority tells are.apart are.files_apart in
       let made : Plain = value_of_package info sources scripts triggers priority in
-      let root = root_good exact Package made (canonical made) good once (record { none = ap overflow_of (sym is) ∙ fits; is = refl }) in
+      let root = root_good exact Package made (canonical made) good once (record { none = ap counts_at_first_overflow (sym is) ∙ fits; is = refl }) in
       let whole = holds made contents root (package_contents info sources scripts triggers priority) (subst (λ (u : Plain). length (container_of_value_and_contents PACKAGE_WORD u contents) < 2 ^ 64) is short) in
       subst (λ (u : Plain). P u contents (container_of_value_and_contents PACKAGE_WORD u contents)) (sym is) whole
 
-  file_holds : (v : Plain) (contents : List Contents) (o : Option ByteAndValueCounts) (bytes : List ℕ) → overflow_of v ≡ o → length bytes < 2 ^ 64
-      → (overflow_of v ≡ None → length (container_of_value_and_contents PACKAGE_WORD v contents) < 2 ^ 64 → P v contents (container_of_value_and_contents PACKAGE_WORD v contents)) → container_unless_too_large o v contents ≡ Ok bytes → P v contents bytes
+  file_holds : (v : Plain) (contents : List Contents) (o : Option ByteAndValueCounts) (bytes : List ℕ) → counts_at_first_overflow v ≡ o → length bytes < 2 ^ 64
+      → (counts_at_first_overflow v ≡ None → length (container_of_value_and_contents PACKAGE_WORD v contents) < 2 ^ 64 → P v contents (container_of_value_and_contents PACKAGE_WORD v contents)) → container_unless_too_large o v contents ≡ Ok bytes → P v contents bytes
   file_holds v contents (Some counts) bytes is short holds e = absurd (cc (e))
   file_holds v contents None bytes is short holds e =
       let same : container_of_value_and_contents PACKAGE_WORD v contents ≡ bytes = cc (e) in
@@ -73,7 +73,7 @@ module _ (P : Plain → List Contents → List ℕ → Type 0) where
   package_holds holds sizes exact needs tells command scripts items sources bytes about are short e =
       let triggers : List (List ℕ) = texts_of (values_of_letter TRIGGER command.values) in
       let v : Plain = value_of_package (information_value_with_installed_size items (installed_size sources)) sources scripts triggers (replaces_priority items) in
-      file_holds v (contents_of_folders 1 sources) (overflow_of v) bytes refl short (value_holds holds sizes exact needs tells items sources scripts triggers about are v refl) e
+      file_holds v (contents_of_folders 1 sources) (counts_at_first_overflow v) bytes refl short (value_holds holds sizes exact needs tells items sources scripts triggers about are v refl) e
 
 -- ---- of a command
 
@@ -88,7 +88,7 @@ sources_are read n [] names sources below e =
     let same : [] ≡ sources = cc (e) in
     subst AreSources same (record { named = tt; apart = tt; files_apart = tt })
 sources_are read n (v ∷ vs) names sources below e =
-    sources_good (without_dot_slash v.text) names v.place read n sources (are_listed (without_dot_slash v.text) names below.each) (rises_from_pairs names below.rising) e
+    sources_good (without_one_leading_dot_slash v.text) names v.place read n sources (are_listed (without_one_leading_dot_slash v.text) names below.each) (rises_from_pairs names below.rising) e
 
 pub info_ok : (r : Result (List FieldWithValue) ℕ) (items : List FieldWithValue) → or_info_bad r ≡ Ok items → r ≡ Ok items
 info_ok (Ok x) items e = let same : x ≡ items = cc (e) in ap Ok same

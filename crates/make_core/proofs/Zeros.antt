@@ -4,7 +4,7 @@ use Rattle.adb_view.specs.Plain.{Plain, null, int, blob, arr, obj, Plains, none,
 use Rattle.adb_view.specs.Shaped.{Each, HasShape, HaveShapes}
 use Rattle.adb_view.specs.Schema.{table_number}
 use Rattle.make_index.specs.adb_schema.Texts.{Surroundings, number_leaf, text_leaf, leaves, field_leaves, leaves_of_all_values, surroundings_of_fields}
-use Rattle.adb_view.specs.Values.{nth, entry_in, int_in, text_in}
+use Rattle.adb_view.specs.Values.{nth, entry_at_index, int_in, text_in}
 use Rattle.adb_view.specs.declared.tables.Which.TheVariants.{File, Dir}
 use Rattle.make_index.specs.adb_copy.Zeros.{without_zeros, all_without_zeros}
 use Rattle.adb_view.proofs.ValueEntries.{entries_arr, nth_obj}
@@ -20,7 +20,7 @@ inside_by schema around name target size = record {
   has_contents = if schema == table_number File then (length target == 0) && nat_lt 0 size else around.has_contents;
 }
 
-pub inside_same : (schema : ℕ) (around : Surroundings) (v : Plain) (name target : List ℕ) (size : ℕ) → text_in (entry_in v 0) ≡ name → text_in (entry_in v 5) ≡ target → int_in (entry_in v 2) ≡ size
+pub inside_same : (schema : ℕ) (around : Surroundings) (v : Plain) (name target : List ℕ) (size : ℕ) → text_in (entry_at_index v 0) ≡ name → text_in (entry_at_index v 5) ≡ target → int_in (entry_at_index v 2) ≡ size
     → surroundings_of_fields schema around v ≡ inside_by schema around name target size
 inside_same schema around v name target size a b c = λ k. inside_by schema around (a k) (b k) (c k)
 

@@ -4,18 +4,18 @@
 use Rattle.std.specs.Prelude.{◌≡◌, ℕ, ◌+◌, List, [], ◌∷◌, map, Some, None}
 use Rattle.std.specs.List.Sorted.{IsPermutation, IsSorted}
 use Rattle.adb_view.specs.Plain.{Plain}
-use Rattle.make_index.specs.adb_fields.Repeated.{entries_at}
-use Rattle.command_core.specs.Files.{without_dot_slash}
+use Rattle.make_index.specs.adb_fields.Repeated.{entries_of_field_at_index}
+use Rattle.command_core.specs.Files.{without_one_leading_dot_slash}
 use Rattle.command_core.specs.declared.operands.Operand.{Operand}
 use Rattle.make_index.specs.Entries.{index_entry_of_package_file}
 use Rattle.make_index.specs.EntryOrder.{index_entry_cmp}
 use Rattle.make_index.specs.make_info.Reads.{Reads}
 use Rattle.make_index.specs.pkg_core.Whole.{package_fault}
-use Rattle.adb_view.specs.FieldIndexes.{INDEX_PACKAGES}
+use Rattle.adb_view.specs.FieldIndexes.{INDEX_PACKAGES_INDEX}
 
 -- the entries of an index, one for each package
 abbrev pub packages_in : Plain → List Plain
-packages_in index = entries_at INDEX_PACKAGES index
+packages_in index = entries_of_field_at_index INDEX_PACKAGES_INDEX index
 
 -- `files` are the bytes that the reads of the operands' files find, in their order. Each passes all tests
 -- of a package. The read for the first operand has the number `n`
@@ -24,7 +24,7 @@ AreSoundPackages read n [] [] = Unit {0}
 AreSoundPackages read n [] (file ∷ files) = ⊥
 AreSoundPackages read n (o ∷ operands) [] = ⊥
 AreSoundPackages read n (o ∷ operands) (file ∷ files) =
-    (read n (without_dot_slash o.text) ≡ Some file) × (package_fault file ≡ None)
+    (read n (without_one_leading_dot_slash o.text) ≡ Some file) × (package_fault file ≡ None)
     × AreSoundPackages read (n + 1) operands files
 
 -- the index has exactly the entries of the packages that the operands name, in order (*index_entry_cmp*); the

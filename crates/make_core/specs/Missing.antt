@@ -3,7 +3,7 @@
 -- "Making" (a file that was listed below the folder of `-F` and is then not found). It serves the law
 -- `a_missing_file_is_reported_at_its_option`.
 use Rattle.std.specs.Prelude.{◌≡◌, ℕ, List, ◌∷◌, None, Contains}
-use Rattle.command_core.specs.Files.{without_dot_slash}
+use Rattle.command_core.specs.Files.{without_one_leading_dot_slash}
 use Rattle.command_core.specs.Values.{script_file}
 use Rattle.command_core.specs.declared.values.OptionValue.{OptionValue}
 use Rattle.make_index.specs.make_info.Reads.{Reads}
@@ -22,7 +22,7 @@ pub record IsPlaceOfScriptOptionWithoutFile (read : Reads) (scripts : List Optio
   -- the option is at this place of the command line
   pub at : script.place ≡ place
   -- a read of the script's file finds nothing
-  pub absent : IsAbsent read (without_dot_slash (script_file script.text))
+  pub absent : IsAbsent read (without_one_leading_dot_slash (script_file script.text))
 
 -- the place is that of the first `-F`, and one of the files that were listed below its folder is absent
 pub record IsPlaceOfFolderWithMissingFile (read : Reads) (folders : List OptionValue)

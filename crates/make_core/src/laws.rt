@@ -16,7 +16,7 @@ ghost use Rattle.std.specs.Prelude.{◌≡◌, ◌<◌, ◌^◌, ◌∷◌, ◌�
 ghost use Rattle.base_core.specs.Files.{Files};
 ghost use Rattle.base_core.specs.Listed.{AreSortedNamesBelowFolder};
 ghost use Rattle.command_core.specs.Command.{CommandLine};
-ghost use Rattle.command_core.specs.Files.{without_dot_slash};
+ghost use Rattle.command_core.specs.Files.{without_one_leading_dot_slash};
 ghost use Rattle.command_core.specs.declared.values.OptionValue.{OptionValue};
 ghost use Rattle.make_core.specs.FilesBelow.{HasJustNamedFilesBelowFolder};
 ghost use Rattle.make_core.specs.IndexOrder.{HasSortedEntriesOfOperands};
@@ -128,9 +128,9 @@ pub fn a_made_package_has_the_files_below_its_folder()
     ensures { (command : CommandLine) (names : List (List ℕ)) (files : Files) (bytes : List ℕ)
         (folder : OptionValue) (others : List OptionValue)
         → values_of_letter FILES command.values ≡ folder ∷ others
-        → AreSortedNamesBelowFolder (without_dot_slash folder.text) names
+        → AreSortedNamesBelowFolder (without_one_leading_dot_slash folder.text) names
         → made_package command names (λ n name. files name) ≡ Ok bytes → length bytes < 2 ^ 64
-        → HasJustNamedFilesBelowFolder files (without_dot_slash folder.text) names
+        → HasJustNamedFilesBelowFolder files (without_one_leading_dot_slash folder.text) names
         (root_value_of_payload Package (payload_in bytes)) }
 {
     // Laws that the proof needs; they compute nothing.

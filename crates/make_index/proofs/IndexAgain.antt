@@ -3,7 +3,7 @@ use Rattle.std.proofs.Common.{◌≡◌, ℕ, ◌<◌, ◌^◌, List, ap, sym, �
 use Rattle.adb_view.specs.Plain.{Plain, int, blob, Plains, object_or_null, IsNormal}
 use Rattle.adb_view.specs.Shaped.{HasShape}
 use Rattle.adb_view.specs.Schema.{shape_of}
-use Rattle.adb_view.specs.Values.{nth, entries_in, entry_in, int_in, text_in}
+use Rattle.adb_view.specs.Values.{nth, entries_in, entry_at_index, int_in, text_in}
 use Rattle.adb_view.specs.declared.tables.Which.TheVariants as Tables
 use Rattle.adb_view.specs.declared.tables.Kind.TheVariants as Kinds
 use Rattle.adb_copy.specs.Zeros.{without_zeros, all_without_zeros, with_value_set_at_index, info_without_zeros_with_id_and_file_size}
@@ -25,20 +25,20 @@ entry_shape info id len h = placed_shape 3 INFO 12 2 (int len) (blob id) (entrie
 -- ---- fields
 
 module _ (info : Plain) (id : List ℕ) (len : ℕ) where
-  entry_nth : (i : ℕ) → entry_in (info_without_zeros_with_id_and_file_size info id len) i ≡ without_zeros (nth (with_both id len (entries_in info)) i)
+  entry_nth : (i : ℕ) → entry_at_index (info_without_zeros_with_id_and_file_size info id len) i ≡ without_zeros (nth (with_both id len (entries_in info)) i)
   unfolding info_without_zeros_with_id_and_file_size without_zeros
   entry_nth i = nth_obj (all_without_zeros (with_both id len (entries_in info))) i ∙ nth_zeros (with_both id len (entries_in info)) i
 
-  pub entry_name : text_in (entry_in (info_without_zeros_with_id_and_file_size info id len) 0) ≡ text_in (entry_in info 0)
+  pub entry_name : text_in (entry_at_index (info_without_zeros_with_id_and_file_size info id len) 0) ≡ text_in (entry_at_index info 0)
   entry_name = ap text_in (entry_nth 0) ∙ (text_zeros (nth (with_both id len (entries_in info)) 0) ∙ ap text_in (at_other 12 0 (int len) (with_value_set_at_index 2 (blob id) (entries_in info)) (λ h. omega arith) ∙ at_other 2 0 (blob id) (entries_in info) (λ h. omega arith)))
 
-  pub entry_version : text_in (entry_in (info_without_zeros_with_id_and_file_size info id len) 1) ≡ text_in (entry_in info 1)
+  pub entry_version : text_in (entry_at_index (info_without_zeros_with_id_and_file_size info id len) 1) ≡ text_in (entry_at_index info 1)
   entry_version = ap text_in (entry_nth 1) ∙ (text_zeros (nth (with_both id len (entries_in info)) 1) ∙ ap text_in (at_other 12 1 (int len) (with_value_set_at_index 2 (blob id) (entries_in info)) (λ h. omega arith) ∙ at_other 2 1 (blob id) (entries_in info) (λ h. omega arith)))
 
-  pub entry_id : text_in (entry_in (info_without_zeros_with_id_and_file_size info id len) 2) ≡ id
+  pub entry_id : text_in (entry_at_index (info_without_zeros_with_id_and_file_size info id len) 2) ≡ id
   entry_id = ap text_in (entry_nth 2) ∙ (text_zeros (nth (with_both id len (entries_in info)) 2) ∙ ap text_in (at_other 12 2 (int len) (with_value_set_at_index 2 (blob id) (entries_in info)) (λ h. omega arith) ∙ at_same 2 (blob id) (entries_in info)))
 
-  pub entry_size : int_in (entry_in (info_without_zeros_with_id_and_file_size info id len) 12) ≡ len
+  pub entry_size : int_in (entry_at_index (info_without_zeros_with_id_and_file_size info id len) 12) ≡ len
   entry_size = ap int_in (entry_nth 12) ∙ (int_zeros (nth (with_both id len (entries_in info)) 12) ∙ ap int_in (at_same 12 (int len) (with_value_set_at_index 2 (blob id) (entries_in info))))
 
 entry_of_fields : (info other : Plain) (id : List ℕ) (len : ℕ) → ((i : ℕ) → without_zeros (nth (with_both id len (entries_in info)) i) ≡ without_zeros (nth (with_both id len (entries_in other)) i)) → info_without_zeros_with_id_and_file_size info id len ≡ info_without_zeros_with_id_and_file_size other id len

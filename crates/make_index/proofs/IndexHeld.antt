@@ -7,18 +7,18 @@ use Rattle.std.specs.Int.{w32, to_le_bytes}
 use Rattle.adb_view.specs.Head.{payload_head_fault, root_word_of_payload}
 use Rattle.adb_view.specs.Plain.{Plain, null, int, blob, arr, obj, Plains, none, more, Shape, plain_of, root_value_with_shape, IsNormal, AreNormal}
 use Rattle.adb_view.specs.Shaped.{HasShape}
-use Rattle.adb_copy.specs.adb_write.Canonical.{Layout, write, empty_layout, payload_with_root, canonical, exceeds_a_limit, overflow_of, payload_unless_overflow, payload_or_overflow, ByteAndValueCounts, MOST_BYTES}
+use Rattle.adb_copy.specs.adb_write.Canonical.{Layout, write, empty_layout_counting_root, payload_with_root_word_in_head, canonical, exceeds_a_limit, counts_at_first_overflow, payload_unless_overflow, payload_or_counts_at_overflow, ByteAndValueCounts, MOST_BYTES}
 use Rattle.adb_copy.specs.adb_write.Size.{payload_size_of, value_count}
 use Rattle.adb_view.specs.Schema.{shape_of}
-use Rattle.adb_view.specs.Values.{is_sound, value_at, nth, entry_in, text_in}
-use Rattle.pkg_core.specs.adb_schema.SoundValues.{IsSoundPackage}
+use Rattle.adb_view.specs.Values.{is_sound, value_at, nth, entry_at_index, text_in}
+use Rattle.pkg_core.specs.adb_schema.SoundValues.{ObeysTextAndNumberRulesOfPackage}
 use Rattle.pkg_core.specs.adb_schema.Soundness.{root_value_of_payload, payload_in, container_fault_except_contents}
 use Rattle.pkg_core.specs.adb_schema.SoundContainers.{IsSoundValue}
 use Rattle.adb_view.specs.declared.tables.Which.{Which}
 use Rattle.adb_view.specs.declared.tables.Which.TheVariants as Tables
 use Rattle.adb_view.specs.declared.tables.Kind.{Kind}
 use Rattle.adb_view.specs.declared.tables.Kind.TheVariants as Kinds
-use Rattle.pkg_core.specs.Whole.{package_id}
+use Rattle.pkg_core.specs.Whole.{payload_sha256_of_package_file}
 use Rattle.make_index.specs.Entries.{index_entry_of_package_file}
 use Rattle.adb_copy.specs.Zeros.{info_without_zeros_with_id_and_file_size}
 use Rattle.make_index.specs.Kept.{HoldsEntry, IsEntryWithKeys, copy_of_entry}
@@ -44,21 +44,21 @@ ok_in : List ℕ → Result (List ℕ) ByteAndValueCounts → List ℕ
 ok_in d (Ok x) = x
 ok_in d (Err c) = d
 
-pub written_is : (v : Plain) (p : List ℕ) → payload_or_overflow v ≡ Ok p → (p ≡ canonical v) × (overflow_of v ≡ None)
-unfolding payload_or_overflow ok_in
-written_is v p h = go (overflow_of v) refl
+pub written_is : (v : Plain) (p : List ℕ) → payload_or_counts_at_overflow v ≡ Ok p → (p ≡ canonical v) × (counts_at_first_overflow v ≡ None)
+unfolding payload_or_counts_at_overflow ok_in
+written_is v p h = go (counts_at_first_overflow v) refl
   where
-    go : (o : Option ByteAndValueCounts) → overflow_of v ≡ o → (p ≡ canonical v) × (overflow_of v ≡ None)
+    go : (o : Option ByteAndValueCounts) → counts_at_first_overflow v ≡ o → (p ≡ canonical v) × (counts_at_first_overflow v ≡ None)
     go None e = (ap (ok_in []) (sym h ∙ ap (payload_unless_overflow (canonical v)) e), e)
     go (Some c) e = absurd (err_ok c p (sym (ap (payload_unless_overflow (canonical v)) e) ∙ h))
 
-within : (v : Plain) → (is_some (overflow_of v) ≡ exceeds_a_limit (payload_size_of v, value_count v)) → overflow_of v ≡ None → payload_size_of v ≤ MOST_BYTES
+within : (v : Plain) → (is_some (counts_at_first_overflow v) ≡ exceeds_a_limit (payload_size_of v, value_count v)) → counts_at_first_overflow v ≡ None → payload_size_of v ≤ MOST_BYTES
 within v law e = ltb-false MOST_BYTES (payload_size_of v) (neither_first (nat_lt MOST_BYTES (payload_size_of v)) _ (sym law ∙ ap is_some e))
 
 -- ---- it is read back
 
-head_good : (root : ℕ) (out : Layout) → payload_head_fault (payload_with_root root out) ≡ None
-head_good root out = ap (λ b. if b then Some (Truncated 0) else None) (le-ltb (length (payload_with_root root out)) 8 (omega (arith, long)))
+head_good : (root : ℕ) (out : Layout) → payload_head_fault (payload_with_root_word_in_head root out) ≡ None
+head_good root out = ap (λ b. if b then Some (Truncated 0) else None) (le-ltb (length (payload_with_root_word_in_head root out)) 8 (omega (arith, long)))
   where
     long : length (to_le_bytes w32 root ++ out.body) ≡ 4 + length out.body
     long = length-append (to_le_bytes w32 root) out.body
@@ -73,7 +73,7 @@ value_of_plain p k w v h = ap (λ o. unwrap_or o null) h
 
 module _
     (read_back : (shape : Shape) (v : Plain) → IsNormal v → HasShape shape v → payload_size_of v ≤ MOST_BYTES → root_value_with_shape (canonical v) shape ≡ Some v)
-    (overflows : (v : Plain) → IsNormal v → is_some (overflow_of v) ≡ exceeds_a_limit (payload_size_of v, value_count v))
+    (overflows : (v : Plain) → IsNormal v → is_some (counts_at_first_overflow v) ≡ exceeds_a_limit (payload_size_of v, value_count v))
     (normal : (payload : List ℕ) → All (λ b. b < 256) payload → (shape : Shape) (word : ℕ) → IfSome (plain_of payload shape word) IsNormal) where
   value_normal : (p : List ℕ) (k : Kind) (w : ℕ) → All (λ b. b < 256) p → IsNormal (value_at p k w)
   unfolding value_at IsNormal
@@ -89,7 +89,7 @@ module _
   nth_normal (more v vs) zero h = h.0
   nth_normal (more v vs) (suc i) h = nth_normal vs i h.1
 
-  entry_in_normal : (v : Plain) (i : ℕ) → IsNormal v → IsNormal (entry_in v i)
+  entry_in_normal : (v : Plain) (i : ℕ) → IsNormal v → IsNormal (entry_at_index v i)
   unfolding IsNormal
   entry_in_normal null i h = tt
   entry_in_normal (int n) i h = tt
@@ -97,42 +97,42 @@ module _
   entry_in_normal (arr vs) i h = nth_normal vs i h.1
   entry_in_normal (obj vs) i h = nth_normal vs i h.2
 
-  pub holds : (info : Plain) (id : List ℕ) (len : ℕ) (p : List ℕ) → IsNormal info → HasShape (shape_of (Kinds.Obj Tables.PkgInfo)) info → len < 2 ^ 64 → payload_or_overflow (info_without_zeros_with_id_and_file_size info id len) ≡ Ok p → HoldsEntry p (info_without_zeros_with_id_and_file_size info id len)
+  pub holds : (info : Plain) (id : List ℕ) (len : ℕ) (p : List ℕ) → IsNormal info → HasShape (shape_of (Kinds.Obj Tables.PkgInfo)) info → len < 2 ^ 64 → payload_or_counts_at_overflow (info_without_zeros_with_id_and_file_size info id len) ≡ Ok p → HoldsEntry p (info_without_zeros_with_id_and_file_size info id len)
   holds info id len p good shaped small made =
       let e : Plain = info_without_zeros_with_id_and_file_size info id len in
       let n : IsNormal e = entry_normal info id len good small in
       let is : p ≡ canonical e = (written_is e p made).0 in
       let back : root_value_with_shape (canonical e) (shape_of (Kinds.Obj Tables.PkgInfo)) ≡ Some e = read_back (shape_of (Kinds.Obj Tables.PkgInfo)) e n (entry_shape info id len shaped) (within e (overflows e n) (written_is e p made).1) in
       subst (λ q. HoldsEntry q e) (sym is) (record {
-        head = ap is_none (head_good (write e empty_layout).0 (write e empty_layout).1);
+        head = ap is_none (head_good (write e empty_layout_counting_root).0 (write e empty_layout_counting_root).1);
         sound = sound_of (canonical e) (Kinds.Obj Tables.PkgInfo) (root_word_of_payload (canonical e)) e back;
         value = ap copy_of_entry (value_of_plain (canonical e) (Kinds.Obj Tables.PkgInfo) (root_word_of_payload (canonical e)) e back) ∙ entry_again info id len;
       })
 
 -- the info of a package has the shape of one
-package_info_shape : FoundShapes → (payload : List ℕ) → HasShape (shape_of (Kinds.Obj Tables.PkgInfo)) (entry_in (root_value_of_payload Tables.Package payload) 0)
+package_info_shape : FoundShapes → (payload : List ℕ) → HasShape (shape_of (Kinds.Obj Tables.PkgInfo)) (entry_at_index (root_value_of_payload Tables.Package payload) 0)
 package_info_shape shapes payload = info_of_package (root_value_of_payload Tables.Package payload) (value_shape shapes payload (Kinds.Obj Tables.Package) (root_word_of_payload payload))
 
 -- what a law of `adb_schema` says
 abbrev pub SoundContainers : Type 0
 SoundContainers = (which : Which) (file : List ℕ) → container_fault_except_contents which file ≡ None → IsSoundValue which (root_value_of_payload which (payload_in file))
 
-package_version : SoundContainers → (file : List ℕ) → container_fault_except_contents Tables.Package file ≡ None → is_version (text_in (entry_in (entry_in (root_value_of_payload Tables.Package (payload_in file)) 0) 1)) ≡ true
+package_version : SoundContainers → (file : List ℕ) → container_fault_except_contents Tables.Package file ≡ None → is_version (text_in (entry_at_index (entry_at_index (root_value_of_payload Tables.Package (payload_in file)) 0) 1)) ≡ true
 package_version containers file sound =
-    let held : IsSoundPackage Tables.Package (root_value_of_payload Tables.Package (payload_in file)) = (containers Tables.Package file sound).rules in
+    let held : ObeysTextAndNumberRulesOfPackage Tables.Package (root_value_of_payload Tables.Package (payload_in file)) = (containers Tables.Package file sound).rules in
     let info = held.info in
     info.version
 
 -- ---- what an entry is ordered by
 
-pub keyed_of : SoundContainers → (file name version id : List ℕ) (info : Plain) → info ≡ entry_in (root_value_of_payload Tables.Package (payload_in file)) 0 → name ≡ text_in (entry_in info 0) → version ≡ text_in (entry_in info 1) → id ≡ package_id file → container_fault_except_contents Tables.Package file ≡ None → IsEntryWithKeys name version id (index_entry_of_package_file file)
+pub keyed_of : SoundContainers → (file name version id : List ℕ) (info : Plain) → info ≡ entry_at_index (root_value_of_payload Tables.Package (payload_in file)) 0 → name ≡ text_in (entry_at_index info 0) → version ≡ text_in (entry_at_index info 1) → id ≡ payload_sha256_of_package_file file → container_fault_except_contents Tables.Package file ≡ None → IsEntryWithKeys name version id (index_entry_of_package_file file)
 keyed_of containers file name version id info is e0 e1 e2 sound =
-    let here : Plain = entry_in (root_value_of_payload Tables.Package (payload_in file)) 0 in
-    let v : version ≡ text_in (entry_in here 1) = e1 ∙ ap (λ i. text_in (entry_in i 1)) is in
+    let here : Plain = entry_at_index (root_value_of_payload Tables.Package (payload_in file)) 0 in
+    let v : version ≡ text_in (entry_at_index here 1) = e1 ∙ ap (λ i. text_in (entry_at_index i 1)) is in
     record {
-      by_name = e0 ∙ (ap (λ i. text_in (entry_in i 0)) is ∙ sym (entry_name here (package_id file) (length file)));
-      by_version = v ∙ sym (entry_version here (package_id file) (length file));
-      by_id = e2 ∙ sym (entry_id here (package_id file) (length file));
+      by_name = e0 ∙ (ap (λ i. text_in (entry_at_index i 0)) is ∙ sym (entry_name here (payload_sha256_of_package_file file) (length file)));
+      by_version = v ∙ sym (entry_version here (payload_sha256_of_package_file file) (length file));
+      by_id = e2 ∙ sym (entry_id here (payload_sha256_of_package_file file) (length file));
       sound = ap is_version v ∙ package_version containers file sound;
     }
 
@@ -145,25 +145,25 @@ bytes_all xs h k d l = subst (λ n. n < 256) (get_or_default xs k 0 d l) (h k)
 
 pub holds_found : FoundShapes →
     ((shape : Shape) (v : Plain) → IsNormal v → HasShape shape v → payload_size_of v ≤ MOST_BYTES → root_value_with_shape (canonical v) shape ≡ Some v)
-    → ((v : Plain) → IsNormal v → is_some (overflow_of v) ≡ exceeds_a_limit (payload_size_of v, value_count v))
+    → ((v : Plain) → IsNormal v → is_some (counts_at_first_overflow v) ≡ exceeds_a_limit (payload_size_of v, value_count v))
     → ((payload : List ℕ) → All (λ b. b < 256) payload → (shape : Shape) (word : ℕ) → IfSome (plain_of payload shape word) IsNormal)
     → (file : List ℕ) (value : Plain) (payload : List ℕ) → value ≡ root_value_of_payload Tables.Package (payload_in file) → payload ≡ payload_in file → All (λ b. b < 256) file → length file < 2 ^ 64
-    → (found : Option (Vec ℕ Global)) → IfSome found (λ own. payload_or_overflow (info_without_zeros_with_id_and_file_size (entry_in value 0) (sha256 payload) (length file)) ≡ Ok own.items) → IfSome found (λ own. HoldsEntry own.items (index_entry_of_package_file file))
+    → (found : Option (Vec ℕ Global)) → IfSome found (λ own. payload_or_counts_at_overflow (info_without_zeros_with_id_and_file_size (entry_at_index value 0) (sha256 payload) (length file)) ≡ Ok own.items) → IfSome found (λ own. HoldsEntry own.items (index_entry_of_package_file file))
 holds_found shapes read_back overflows normal file value payload is_value is_payload bytes small found h =
-    let info : Plain = entry_in (root_value_of_payload Tables.Package (payload_in file)) 0 in
+    let info : Plain = entry_at_index (root_value_of_payload Tables.Package (payload_in file)) 0 in
     let value_is_normal : IsNormal (root_value_of_payload Tables.Package (payload_in file)) = value_normal read_back overflows normal (payload_in file) (Kinds.Obj Tables.Package) (root_word_of_payload (payload_in file)) (payload_all (λ b. b < 256) file bytes) in
-    if_some _ _ found (λ own made. holds read_back overflows normal info (package_id file) (length file) own.items
+    if_some _ _ found (λ own made. holds read_back overflows normal info (payload_sha256_of_package_file file) (length file) own.items
     (entry_in_normal read_back overflows normal (root_value_of_payload Tables.Package (payload_in file)) 0 value_is_normal)
     (package_info_shape shapes (payload_in file)) small
-    ((λ j. payload_or_overflow (info_without_zeros_with_id_and_file_size (entry_in (sym is_value j) 0) (sha256 (sym is_payload j)) (length file))) ∙ made)) h
+    ((λ j. payload_or_counts_at_overflow (info_without_zeros_with_id_and_file_size (entry_at_index (sym is_value j) 0) (sha256 (sym is_payload j)) (length file))) ∙ made)) h
 
 -- ---- the entry of any package
 
 pub entry_of_shape : FoundShapes → (file : List ℕ) → HasShape (shape_of (Kinds.Obj Tables.PkgInfo)) (index_entry_of_package_file file)
-entry_of_shape shapes file = entry_shape (entry_in (root_value_of_payload Tables.Package (payload_in file)) 0) (package_id file) (length file) (package_info_shape shapes (payload_in file))
+entry_of_shape shapes file = entry_shape (entry_at_index (root_value_of_payload Tables.Package (payload_in file)) 0) (payload_sha256_of_package_file file) (length file) (package_info_shape shapes (payload_in file))
 
-pub entry_of_version : SoundContainers → (file : List ℕ) → container_fault_except_contents Tables.Package file ≡ None → is_version (text_in (entry_in (index_entry_of_package_file file) 1)) ≡ true
-entry_of_version containers file sound = ap is_version (entry_version (entry_in (root_value_of_payload Tables.Package (payload_in file)) 0) (package_id file) (length file)) ∙ package_version containers file sound
+pub entry_of_version : SoundContainers → (file : List ℕ) → container_fault_except_contents Tables.Package file ≡ None → is_version (text_in (entry_at_index (index_entry_of_package_file file) 1)) ≡ true
+entry_of_version containers file sound = ap is_version (entry_version (entry_at_index (root_value_of_payload Tables.Package (payload_in file)) 0) (payload_sha256_of_package_file file) (length file)) ∙ package_version containers file sound
 
 all_normal : ((payload : List ℕ) → All (λ b. b < 256) payload → (shape : Shape) (word : ℕ) → IfSome (plain_of payload shape word) IsNormal) → (p : List ℕ) (k : Kind) (w : ℕ) → All (λ b. b < 256) p → IsNormal (value_at p k w)
 unfolding value_at IsNormal
@@ -179,7 +179,7 @@ nth_is_normal none i h = tt
 nth_is_normal (more v vs) zero h = h.0
 nth_is_normal (more v vs) (suc i) h = nth_is_normal vs i h.1
 
-in_normal : (v : Plain) (i : ℕ) → IsNormal v → IsNormal (entry_in v i)
+in_normal : (v : Plain) (i : ℕ) → IsNormal v → IsNormal (entry_at_index v i)
 unfolding IsNormal
 in_normal null i h = tt
 in_normal (int n) i h = tt
@@ -189,5 +189,5 @@ in_normal (obj vs) i h = nth_is_normal vs i h.2
 
 pub entry_of_normal : ((payload : List ℕ) → All (λ b. b < 256) payload → (shape : Shape) (word : ℕ) → IfSome (plain_of payload shape word) IsNormal) → (file : List ℕ) → All (λ b. b < 256) file → length file < 2 ^ 64 → IsNormal (index_entry_of_package_file file)
 entry_of_normal normal file bytes small =
-    entry_normal (entry_in (root_value_of_payload Tables.Package (payload_in file)) 0) (package_id file) (length file)
+    entry_normal (entry_at_index (root_value_of_payload Tables.Package (payload_in file)) 0) (payload_sha256_of_package_file file) (length file)
     (in_normal (root_value_of_payload Tables.Package (payload_in file)) 0 (all_normal normal (payload_in file) (Kinds.Obj Tables.Package) (root_word_of_payload (payload_in file)) (payload_all (λ b. b < 256) file bytes))) small

@@ -9,7 +9,7 @@ use Rattle.base_core.specs.Tree.{TreeState, files_of}
 use Rattle.adb_view.specs.Plain.{Plain}
 use Rattle.std.specs.Option.{option_map}
 use Rattle.command_core.specs.Named.{operand_file}
-use Rattle.command_core.specs.Files.{without_dot_slash}
+use Rattle.command_core.specs.Files.{without_one_leading_dot_slash}
 use Rattle.command_core.specs.declared.operands.Operand.{Operand}
 use Rattle.make_index.specs.Index.{entry_before_others_or_fault, found_entries, found_entry}
 use Rattle.make_index.specs.Kept.{AgreesUnlessMemory, AgreesUnlessMemoryOrDisk}
@@ -34,9 +34,9 @@ found_told view (v ∷ earlier) r place name found h made =
     by_made view r (found_entry place (files_of v name)) (subst (λ (o : Option (List ℕ)). AgreesUnlessMemory view r (found_entry place o)) h made)
 
 -- the file that an operand names
-pub operand_name : (os : List Operand) (i : ℕ) (o : Operand) (name : List ℕ) → slice_get os i ≡ Some o → option_map operand_file (slice_get os i) ≡ Some name → name ≡ without_dot_slash o.text
+pub operand_name : (os : List Operand) (i : ℕ) (o : Operand) (name : List ℕ) → slice_get os i ≡ Some o → option_map operand_file (slice_get os i) ≡ Some name → name ≡ without_one_leading_dot_slash o.text
 operand_name os i o name at e =
-    let both : Some name ≡ Some (without_dot_slash o.text) = sym e ∙ ap (option_map operand_file) at in
+    let both : Some name ≡ Some (without_one_leading_dot_slash o.text) = sym e ∙ ap (option_map operand_file) at in
     cc (both)
 
 pub named_as : {A : Type 0} (view : A → Plain) (history : List TreeState) (r : Result A MakeFault) (place : ℕ) (file name : List ℕ) → file ≡ name
@@ -71,10 +71,10 @@ IsSoFar read os i es = found_entries read 0 os ≡ in_front es (found_entries re
 pub so_far_none : (read : ℕ → List ℕ → Option (List ℕ)) (os : List Operand) → IsSoFar read os 0 []
 so_far_none read os = front_none (found_entries read 0 os)
 
-here : (read : ℕ → List ℕ → Option (List ℕ)) (os : List Operand) (i : ℕ) (o : Operand) (es : List Plain) → slice_get os i ≡ Some o → IsSoFar read os i es → found_entries read 0 os ≡ in_front es (entry_before_others_or_fault (found_entry o.place (read i (without_dot_slash o.text))) (found_entries read (i + 1) (drop (i + 1) os)))
+here : (read : ℕ → List ℕ → Option (List ℕ)) (os : List Operand) (i : ℕ) (o : Operand) (es : List Plain) → slice_get os i ≡ Some o → IsSoFar read os i es → found_entries read 0 os ≡ in_front es (entry_before_others_or_fault (found_entry o.place (read i (without_one_leading_dot_slash o.text))) (found_entries read (i + 1) (drop (i + 1) os)))
 here read os i o es at so = so ∙ ap (λ (l : List Operand). in_front es (found_entries read i l)) (left_at os i o at)
 
-pub so_far_more : (read : ℕ → List ℕ → Option (List ℕ)) (os : List Operand) (i : ℕ) (o : Operand) (es new : List Plain) (e : Plain) → slice_get os i ≡ Some o → IsSoFar read os i es → found_entry o.place (read i (without_dot_slash o.text)) ≡ Ok e → new ≡ es ++ e ∷ [] → IsSoFar read os (i + 1) new
+pub so_far_more : (read : ℕ → List ℕ → Option (List ℕ)) (os : List Operand) (i : ℕ) (o : Operand) (es new : List Plain) (e : Plain) → slice_get os i ≡ Some o → IsSoFar read os i es → found_entry o.place (read i (without_one_leading_dot_slash o.text)) ≡ Ok e → new ≡ es ++ e ∷ [] → IsSoFar read os (i + 1) new
 so_far_more read os i o es new e at so one is =
     here read os i o es at so ∙ (ap (λ (r : Result Plain MakeFault). in_front es (entry_before_others_or_fault r (found_entries read (i + 1) (drop (i + 1) os)))) one
     ∙ (front_more es e (found_entries read (i + 1) (drop (i + 1) os)) ∙ ap (λ (l : List Plain). in_front l (found_entries read (i + 1) (drop (i + 1) os))) (sym is)))
@@ -83,13 +83,13 @@ pub so_far_all : (read : ℕ → List ℕ → Option (List ℕ)) (os : List Oper
 so_far_all read os i es past so = so ∙ (ap (λ (l : List Operand). in_front es (found_entries read i l)) (drop_of_length-le os past) ∙ ap Ok (append-nil es))
 
 -- a refusal at an operand is that of all
-pub so_far_err : {A : Type 0} (view : A → List Plain) (read : ℕ → List ℕ → Option (List ℕ)) (os : List Operand) (i : ℕ) (o : Operand) (es : List Plain) (fault : MakeFault) (r : Result A MakeFault) → slice_get os i ≡ Some o → IsSoFar read os i es → {B : Type 0} (one : B → Plain) → AgreesUnlessMemoryOrDisk one (Err fault) (found_entry o.place (read i (without_dot_slash o.text))) → r ≡ Err fault → AgreesUnlessMemoryOrDisk view r (found_entries read 0 os)
+pub so_far_err : {A : Type 0} (view : A → List Plain) (read : ℕ → List ℕ → Option (List ℕ)) (os : List Operand) (i : ℕ) (o : Operand) (es : List Plain) (fault : MakeFault) (r : Result A MakeFault) → slice_get os i ≡ Some o → IsSoFar read os i es → {B : Type 0} (one : B → Plain) → AgreesUnlessMemoryOrDisk one (Err fault) (found_entry o.place (read i (without_one_leading_dot_slash o.text))) → r ≡ Err fault → AgreesUnlessMemoryOrDisk view r (found_entries read 0 os)
 so_far_err view read os i o es fault r at so one made e = subst (λ x. AgreesUnlessMemoryOrDisk view x (found_entries read 0 os)) (sym e) (go fault made)
   where
-    told : (f : MakeFault) → found_entry o.place (read i (without_dot_slash o.text)) ≡ Err f → found_entries read 0 os ≡ Err f
+    told : (f : MakeFault) → found_entry o.place (read i (without_one_leading_dot_slash o.text)) ≡ Err f → found_entries read 0 os ≡ Err f
     told f t = here read os i o es at so ∙ ap (λ (x : Result Plain MakeFault). in_front es (entry_before_others_or_fault x (found_entries read (i + 1) (drop (i + 1) os)))) t
 
-    go : (f : MakeFault) → AgreesUnlessMemoryOrDisk one (Err f) (found_entry o.place (read i (without_dot_slash o.text))) → AgreesUnlessMemoryOrDisk view (Err f) (found_entries read 0 os)
+    go : (f : MakeFault) → AgreesUnlessMemoryOrDisk one (Err f) (found_entry o.place (read i (without_one_leading_dot_slash o.text))) → AgreesUnlessMemoryOrDisk view (Err f) (found_entries read 0 os)
     go (FileMissing p) h = told (FileMissing p) h
     go (FileBad p c) h = told (FileBad p c) h
     go (InfoBad p) h = told (InfoBad p) h
@@ -129,7 +129,7 @@ with_files found i f one files k q =
 
 files_all : (read : ℕ → List ℕ → Option (List ℕ)) → ((k : ℕ) (q : List ℕ) → IfSome (read k q) AreFileBytes) → (n : ℕ) (os : List Operand) → EachOperandReadFindsNoFileOrFileBytes read n os
 files_all read files n [] = tt
-files_all read files n (o ∷ os) = (λ file is. subst (λ (x : Option (List ℕ)). IfSome x AreFileBytes) is (files n (without_dot_slash o.text)), files_all read files (n + 1) os)
+files_all read files n (o ∷ os) = (λ file is. subst (λ (x : Option (List ℕ)). IfSome x AreFileBytes) is (files n (without_one_leading_dot_slash o.text)), files_all read files (n + 1) os)
 
 pub read_more : (os : List Operand) (i : ℕ) (o : Operand) (es new : List Plain) (e : Plain) → slice_get os i ≡ Some o → IsReadTo os i es → (f : Option (List ℕ)) → IfSome f AreFileBytes → found_entry o.place f ≡ Ok e → new ≡ es ++ e ∷ [] → IsReadTo os (i + 1) new
 read_more os i o es new e at so f file one is = record {
@@ -138,7 +138,7 @@ read_more os i o es new e at so f file one is = record {
   rest = λ later agree.
       so_far_more later os i o es new e at
       (so.rest later (λ k lt. agree k (omega (lt, arith)) ∙ with_before so.found i f k lt))
-      (ap (found_entry o.place) (ap (λ r. r (without_dot_slash o.text)) (agree i (omega arith)) ∙ with_value_set_at_index so.found i f (without_dot_slash o.text)) ∙ one)
+      (ap (found_entry o.place) (ap (λ r. r (without_one_leading_dot_slash o.text)) (agree i (omega arith)) ∙ with_value_set_at_index so.found i f (without_one_leading_dot_slash o.text)) ∙ one)
       is;
 }
 
@@ -151,7 +151,7 @@ read_err view one os i o es fault r at so made e =
       found_with so.found i f,
       files_all (found_with so.found i f) (with_files so.found i f made.1 so.files) 0 os,
       so_far_err view (found_with so.found i f) os i o es fault r at (so.rest (found_with so.found i f) (λ k lt. with_before so.found i f k lt)) one
-          (subst (λ x. AgreesUnlessMemoryOrDisk one (Err fault) (found_entry o.place x)) (sym (with_value_set_at_index so.found i f (without_dot_slash o.text))) made.2) e,
+          (subst (λ x. AgreesUnlessMemoryOrDisk one (Err fault) (found_entry o.place x)) (sym (with_value_set_at_index so.found i f (without_one_leading_dot_slash o.text))) made.2) e,
     )
 
 -- for lack of memory nothing is said of what was found
@@ -168,15 +168,15 @@ pub told_none : (history : List TreeState) (os : List Operand) → IfObservable 
 told_none [] os = tt
 told_none (v ∷ earlier) os = so_far_none (reads_of v) os
 
-pub told_more : (old now : List TreeState) (os : List Operand) (i : ℕ) (o : Operand) (es new : List Plain) (e : Plain) → slice_get os i ≡ Some o → now ≡ old → IfObservable old (λ v. IsSoFar (reads_of v) os i es) → IfObservable now (λ v. found_entry o.place (files_of v (without_dot_slash o.text)) ≡ Ok e) → new ≡ es ++ e ∷ [] → IfObservable old (λ v. IsSoFar (reads_of v) os (i + 1) new)
+pub told_more : (old now : List TreeState) (os : List Operand) (i : ℕ) (o : Operand) (es new : List Plain) (e : Plain) → slice_get os i ≡ Some o → now ≡ old → IfObservable old (λ v. IsSoFar (reads_of v) os i es) → IfObservable now (λ v. found_entry o.place (files_of v (without_one_leading_dot_slash o.text)) ≡ Ok e) → new ≡ es ++ e ∷ [] → IfObservable old (λ v. IsSoFar (reads_of v) os (i + 1) new)
 told_more [] now os i o es new e at same so one is = tt
 told_more (v ∷ earlier) now os i o es new e at same so one is =
-    so_far_more (reads_of v) os i o es new e at so (subst (λ (t : List TreeState). IfObservable t (λ w. found_entry o.place (files_of w (without_dot_slash o.text)) ≡ Ok e)) same one) is
+    so_far_more (reads_of v) os i o es new e at so (subst (λ (t : List TreeState). IfObservable t (λ w. found_entry o.place (files_of w (without_one_leading_dot_slash o.text)) ≡ Ok e)) same one) is
 
-pub told_err : {A B : Type 0} (view : A → List Plain) (one : B → Plain) (old now : List TreeState) (os : List Operand) (i : ℕ) (o : Operand) (es : List Plain) (fault : MakeFault) (r : Result A MakeFault) → slice_get os i ≡ Some o → now ≡ old → IfObservable old (λ v. IsSoFar (reads_of v) os i es) → IfObservable now (λ v. AgreesUnlessMemoryOrDisk one (Err fault) (found_entry o.place (files_of v (without_dot_slash o.text)))) → r ≡ Err fault → IfObservable old (λ v. AgreesUnlessMemoryOrDisk view r (found_entries (reads_of v) 0 os))
+pub told_err : {A B : Type 0} (view : A → List Plain) (one : B → Plain) (old now : List TreeState) (os : List Operand) (i : ℕ) (o : Operand) (es : List Plain) (fault : MakeFault) (r : Result A MakeFault) → slice_get os i ≡ Some o → now ≡ old → IfObservable old (λ v. IsSoFar (reads_of v) os i es) → IfObservable now (λ v. AgreesUnlessMemoryOrDisk one (Err fault) (found_entry o.place (files_of v (without_one_leading_dot_slash o.text)))) → r ≡ Err fault → IfObservable old (λ v. AgreesUnlessMemoryOrDisk view r (found_entries (reads_of v) 0 os))
 told_err view one [] now os i o es fault r at same so made e = tt
 told_err view one (v ∷ earlier) now os i o es fault r at same so made e =
-    so_far_err view (reads_of v) os i o es fault r at so one (subst (λ (t : List TreeState). IfObservable t (λ w. AgreesUnlessMemoryOrDisk one (Err fault) (found_entry o.place (files_of w (without_dot_slash o.text))))) same made) e
+    so_far_err view (reads_of v) os i o es fault r at so one (subst (λ (t : List TreeState). IfObservable t (λ w. AgreesUnlessMemoryOrDisk one (Err fault) (found_entry o.place (files_of w (without_one_leading_dot_slash o.text))))) same made) e
 
 pub told_start : (history : List TreeState) (os : List Operand) (es : List Plain) → es ≡ [] → IfObservable history (λ v. IsSoFar (reads_of v) os 0 es)
 told_start history os es e = subst (λ (xs : List Plain). IfObservable history (λ v. IsSoFar (reads_of v) os 0 xs)) (sym e) (told_none history os)

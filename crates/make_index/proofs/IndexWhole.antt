@@ -5,7 +5,7 @@ use Rattle.base_core.specs.Tree.{TreeState}
 use Rattle.adb_view.specs.Plain.{Plain}
 use Rattle.command_core.specs.Command.{CommandLine}
 use Rattle.command_core.specs.Sound.{IsValidCommand}
-use Rattle.command_core.specs.Applets.{operand_rule}
+use Rattle.command_core.specs.Applets.{operand_rule_if_needed_kind_flag_given}
 use Rattle.command_core.specs.Named.{are_files}
 use Rattle.command_core.specs.Operands.{at_least}
 use Rattle.command_core.specs.declared.operands.OperandKind.TheVariants.{File}
@@ -53,7 +53,7 @@ module _ (command : CommandLine) (os : List Operand) (is_os : os ≡ command.ope
 
 -- what the layer of commands says of operands that are files
 abbrev pub AreFileOperands : Type 0
-AreFileOperands = (c : CommandLine) (rule : OperandRule) → IsValidCommand c → operand_rule c.applet c.flags ≡ Some rule → rule.kind ≡ File → are_files c.operands ≡ true
+AreFileOperands = (c : CommandLine) (rule : OperandRule) → IsValidCommand c → operand_rule_if_needed_kind_flag_given c.applet c.flags ≡ Some rule → rule.kind ≡ File → are_files c.operands ≡ true
 
 pub files_by : AreFileOperands → (command : CommandLine) (os : List Operand) → IsValidCommand command → command.applet ≡ Mkndx → os ≡ command.operands → are_files os ≡ true
-files_by law command os h e is = ap are_files is ∙ law command (at_least 0 File) h (ap (λ (a : Applet). operand_rule a command.flags) e) refl
+files_by law command os h e is = ap are_files is ∙ law command (at_least 0 File) h (ap (λ (a : Applet). operand_rule_if_needed_kind_flag_given a command.flags) e) refl

@@ -3,7 +3,7 @@
 use Rattle.std.specs.Prelude.{◌≡◌, ℕ, ◌+◌, List, [], ◌∷◌, Some}
 use Rattle.base_core.specs.Files.{AreFileBytes}
 use Rattle.base_core.specs.Tree.{TreeState, files_of}
-use Rattle.command_core.specs.Files.{without_dot_slash}
+use Rattle.command_core.specs.Files.{without_one_leading_dot_slash}
 use Rattle.command_core.specs.declared.operands.Operand.{Operand}
 use Rattle.make_info.specs.Reads.{Reads}
 
@@ -12,7 +12,7 @@ use Rattle.make_info.specs.Reads.{Reads}
 abbrev pub EachOperandReadFindsNoFileOrFileBytes : Reads → ℕ → List Operand → Type 0
 EachOperandReadFindsNoFileOrFileBytes read n [] = Unit {0}
 EachOperandReadFindsNoFileOrFileBytes read n (o ∷ operands) =
-    ((file : List ℕ) → read n (without_dot_slash o.text) ≡ Some file → AreFileBytes file)
+    ((file : List ℕ) → read n (without_one_leading_dot_slash o.text) ≡ Some file → AreFileBytes file)
     × EachOperandReadFindsNoFileOrFileBytes read (n + 1) operands
 
 -- the results of reads of a tree in this state: each finds what the tree has under the name that is read

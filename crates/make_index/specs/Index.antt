@@ -7,11 +7,11 @@ use Rattle.std.specs.List.{find}
 use Rattle.base_core.specs.declared.cause.Cause.{Cause}
 use Rattle.adb_view.specs.Plain.{Plain, none, more, blob_or_null, array_or_null, trimmed_object_or_null}
 use Rattle.pkg_core.specs.adb_schema.declared.read.TheConstants.{INDEX_WORD}
-use Rattle.adb_copy.specs.adb_write.Canonical.{ByteAndValueCounts, payload_or_overflow}
+use Rattle.adb_copy.specs.adb_write.Canonical.{ByteAndValueCounts, payload_or_counts_at_overflow}
 use Rattle.adb_copy.specs.adb_write.File.{file_of}
 use Rattle.pkg_core.specs.Whole.{package_fault}
 use Rattle.command_core.specs.Command.{CommandLine}
-use Rattle.command_core.specs.Files.{without_dot_slash}
+use Rattle.command_core.specs.Files.{without_one_leading_dot_slash}
 use Rattle.command_core.specs.declared.operands.Operand.{Operand}
 use Rattle.command_core.specs.declared.values.OptionValue.{OptionValue}
 use Rattle.make_info.specs.Reads.{Reads}
@@ -57,7 +57,7 @@ entry_before_others_or_fault (Ok entry) (Ok entries) = Ok (entry ∷ entries)
 abbrev pub found_entries : Reads → ℕ → List Operand → Result (List Plain) MakeFault
 found_entries read n [] = Ok []
 found_entries read n (o ∷ operands) =
-    entry_before_others_or_fault (found_entry o.place (read n (without_dot_slash o.text)))
+    entry_before_others_or_fault (found_entry o.place (read n (without_one_leading_dot_slash o.text)))
     (found_entries read (n + 1) operands)
 
 -- ---- the file
@@ -72,7 +72,7 @@ index_container (Err counts) = Err (TooLarge counts.0 counts.1)
 -- if its payload exceeds a limit of the writer
 unfoldable pub index_of_entries : List ℕ → List Plain → Result (List ℕ) MakeFault
 index_of_entries description entries =
-    index_container (payload_or_overflow (value_of_index description (sorted_by index_entry_cmp entries)))
+    index_container (payload_or_counts_at_overflow (value_of_index description (sorted_by index_entry_cmp entries)))
 
 -- the bytes of the index with the entries that were found, or the refusal that was found in place of them
 abbrev pub index_of_entries_or_fault : List ℕ → Result (List Plain) MakeFault → Result (List ℕ) MakeFault

@@ -7,8 +7,8 @@ use Rattle.base_core.specs.declared.cause.Cause.{Cause}
 use Rattle.adb_view.specs.Head.{payload_head_fault, root_word_of_payload}
 use Rattle.adb_view.specs.Plain.{Plain}
 use Rattle.pkg_core.specs.adb_schema.Soundness.{root_value_of_payload}
-use Rattle.adb_view.specs.FieldIndexes.{INFO_FILE_SIZE, INFO_HASHES}
-use Rattle.adb_view.specs.Values.{entry_in, int_in, is_sound, text_in}
+use Rattle.adb_view.specs.FieldIndexes.{INFO_FILE_SIZE_INDEX, INFO_HASHES_INDEX}
+use Rattle.adb_view.specs.Values.{entry_at_index, int_in, is_sound, text_in}
 use Rattle.adb_view.specs.declared.tables.Which.TheVariants.{PkgInfo}
 use Rattle.adb_view.specs.declared.tables.Kind.TheVariants.{Obj}
 use Rattle.version_core.specs.Order.{is_version}
@@ -24,8 +24,8 @@ use Rattle.make_index.specs.declared.source.EntrySource.TheVariants.{Payload, Fi
 
 -- an entry, built again from its own fields, as it is written into the payload of an index
 abbrev pub copy_of_entry : Plain → Plain
-copy_of_entry entry = info_without_zeros_with_id_and_file_size entry (text_in (entry_in entry INFO_HASHES))
-    (int_in (entry_in entry INFO_FILE_SIZE))
+copy_of_entry entry = info_without_zeros_with_id_and_file_size entry (text_in (entry_at_index entry INFO_HASHES_INDEX))
+    (int_in (entry_at_index entry INFO_FILE_SIZE_INDEX))
 
 -- the entry that is written from what is kept of a package: a payload with the entry, or the package's
 -- file

@@ -10,7 +10,7 @@ ghost use Rattle.adb_view.specs.declared.tables.Which.TheVariants as Tables;
 ghost use Rattle.adb_view.specs.Plain.{Plain, array_or_null, IsNormal, Plains, trimmed_object_or_null};
 ghost use Rattle.adb_view.specs.Shaped.{HasShape};
 ghost use Rattle.adb_copy.specs.adb_values.Drafts.{draft_with};
-ghost use Rattle.adb_copy.specs.adb_write.Canonical.{payload_or_overflow, MOST_BYTES};
+ghost use Rattle.adb_copy.specs.adb_write.Canonical.{payload_or_counts_at_overflow, MOST_BYTES};
 ghost use Rattle.base_core.specs.Calls.{IfObservable};
 ghost use Rattle.base_core.specs.Read.{OnlyReads, bytes_in};
 ghost use Rattle.base_core.specs.Tree.{files_of};
@@ -196,13 +196,13 @@ fn sort_entries(entries: &mut Vec<Entry>) -> Result<(), AllocError>
 fn index_payload(alloc: Global, description: &[u8], entries: &[Entry]) -> Result<Vec<u8>, MakeFault>
     // On Ok, this is the payload of the index with these entries.
     ensures made { IfOk result (λ payload.
-        payload_or_overflow (value_of_index description.now (map entry_view entries.now))
+        payload_or_counts_at_overflow (value_of_index description.now (map entry_view entries.now))
         ≡ Ok payload.items) }
     // The payload is not longer than a payload may be.
     ensures small { IfOk result (λ payload. length payload.items ≤ MOST_BYTES) }
     // An error is the limit of a payload that is exceeded, or out of memory.
     ensures err { IfErr result (λ fault. IsOverflowFault fault
-        (payload_or_overflow (value_of_index description.now (map entry_view entries.now)))) }
+        (payload_or_counts_at_overflow (value_of_index description.now (map entry_view entries.now)))) }
 {
     let mut draft = Draft::new(alloc);
     write_index(alloc, &mut draft, description, entries)?;

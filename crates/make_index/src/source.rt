@@ -3,12 +3,12 @@
 //! exceeds a limit of the writer is kept to the end. `docs/commands.md`, "`mkndx PACKAGE..`",
 //! defines an entry.
 ghost use Rattle.pkg_core.specs.adb_schema.Soundness.{container_fault_except_contents, root_value_of_payload};
-ghost use Rattle.adb_view.specs.FieldIndexes.{PACKAGE_INFO};
-ghost use Rattle.adb_view.specs.Values.{entry_in, is_sound, value_at};
+ghost use Rattle.adb_view.specs.FieldIndexes.{PACKAGE_INFO_INDEX};
+ghost use Rattle.adb_view.specs.Values.{entry_at_index, is_sound, value_at};
 ghost use Rattle.adb_view.specs.Adb.{payload_of};
 ghost use Rattle.adb_view.specs.Head.{payload_head_fault, root_word_of_payload};
 ghost use Rattle.adb_copy.specs.adb_values.Drafts.{draft_with};
-ghost use Rattle.adb_copy.specs.adb_write.Canonical.{payload_or_overflow};
+ghost use Rattle.adb_copy.specs.adb_write.Canonical.{payload_or_counts_at_overflow};
 ghost use Rattle.make_index.specs.Entries.{index_entry_of_package_file};
 ghost use Rattle.adb_copy.specs.Zeros.{info_without_zeros_with_id_and_file_size};
 ghost use Rattle.pkg_core.specs.Opened.{opened_payload, opened_value};
@@ -120,7 +120,7 @@ fn write_package(
     // On Ok, the draft has one value more: the information of the package, with its id and the
     // length of its file.
     ensures { OnOk result (draft.new ≡ draft_with
-        (info_without_zeros_with_id_and_file_size (entry_in (opened_value pkg.now) PACKAGE_INFO)
+        (info_without_zeros_with_id_and_file_size (entry_at_index (opened_value pkg.now) PACKAGE_INFO_INDEX)
         (sha256
         (opened_payload pkg.now))
         len) draft.old) }
@@ -162,8 +162,8 @@ pub(crate) fn entry_payload(
     // The length fits into 64 bits.
     ensures small { len < 2 ^ 64 }
     // If a payload is returned, it is that of the entry.
-    ensures payload { IfOk result (λ found. IfSome found (λ payload. payload_or_overflow
-        (info_without_zeros_with_id_and_file_size (entry_in (opened_value pkg.now) PACKAGE_INFO)
+    ensures payload { IfOk result (λ found. IfSome found (λ payload. payload_or_counts_at_overflow
+        (info_without_zeros_with_id_and_file_size (entry_at_index (opened_value pkg.now) PACKAGE_INFO_INDEX)
         (sha256
         (opened_payload pkg.now))
         len) ≡ Ok payload.items)) }

@@ -9,7 +9,7 @@ use Rattle.std.proofs.lemmas.Bool.{and_parts, and_from, lt-ltb, ltb-true, not-tr
 use Rattle.std.proofs.lemmas.Bool.Decides.{nat_tests}
 use Rattle.std.proofs.lemmas.Str.{IsUtf8-from_ascii, is_utf8-from_IsUtf8}
 use Rattle.base_core.specs.Name.{is_name, is_path_part, path_parts_of}
-use Rattle.dep_core.specs.Dependency.{begins_with_dash_or_dot, is_dep_name, is_name_end_mark, is_name_byte, is_package_name}
+use Rattle.dep_core.specs.Dependency.{begins_with_dash_or_dot, is_dependency_name_by_bytes_and_length, is_name_end_mark, is_name_byte, is_package_name}
 use Rattle.version_core.specs.Grammar.{is_version_byte}
 use Rattle.version_core.specs.Order.{is_version}
 use Rattle.version_core.proofs.VersionBytes.{all-imp, all-append}
@@ -44,8 +44,8 @@ name_bytes (b ∷ rest) h k =
 
 package_name_bytes : (name : List ℕ) → is_package_name name ≡ true → (list_all is_file_byte name ≡ true) × (0 < length name)
 package_name_bytes name h =
-    let all = and_parts (is_dep_name name && not (begins_with_dash_or_dot name)) (not (list_any (λ b. eqb b 47) name)) h in
-    let dep = (and_parts (is_dep_name name) (not (begins_with_dash_or_dot name)) all.0).0 in
+    let all = and_parts (is_dependency_name_by_bytes_and_length name && not (begins_with_dash_or_dot name)) (not (list_any (λ b. eqb b 47) name)) h in
+    let dep = (and_parts (is_dependency_name_by_bytes_and_length name) (not (begins_with_dash_or_dot name)) all.0).0 in
     let parts = and_parts (nat_lt 0 (length name) && nat_le (length name) 255) (list_all is_name_byte name) dep in
     let some = (and_parts (nat_lt 0 (length name)) (nat_le (length name) 255) parts.0).0 in
     (name_bytes name parts.1 (not-true (list_any (λ b. eqb b 47) name) all.1), ltb-true 0 (length name) some)

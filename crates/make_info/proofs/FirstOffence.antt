@@ -1,8 +1,8 @@
 -- The offence that is found is the first one.
 use Rattle.std.proofs.Common.{◌≡◌, ℕ, Bool, true, false, List, [], ◌∷◌, ◌++◌, Some, None, refl, ap, sym, ◌∙◌, append_assoc, append-nil, if◌then◌else◌}
 use Rattle.command_core.specs.declared.values.OptionValue.{OptionValue}
-use Rattle.make_info.specs.FirstOffence.{IsPlaceOfFirstOffendingOption, HasNoOffendingOption}
-use Rattle.make_info.specs.Information.{place_of_first_offending_option_after, offends}
+use Rattle.make_info.specs.FirstOffence.{IsFirstOffencePlaceByOutputLength, HasNoOffendingOptionByOutputLength}
+use Rattle.make_info.specs.Information.{first_offence_place_by_output_length_after, offends}
 
 module _ (too_long : Bool) where
   -- behind these, no one of the others offends
@@ -36,12 +36,12 @@ module _ (too_long : Bool) where
       let left : values ≡ ws ++ u ∷ after = cc (e) in
       ap (λ (d : List OptionValue). offends too_long d u) (ap (λ (x : OptionValue). done ++ x ∷ ws) (sym same) ∙ sym (shifted done v ws)) ∙ rest ws u after left
 
-  found : (done values : List OptionValue) (place : ℕ) → place_of_first_offending_option_after too_long done values ≡ Some place → IsFirstAfter done values place
+  found : (done values : List OptionValue) (place : ℕ) → first_offence_place_by_output_length_after too_long done values ≡ Some place → IsFirstAfter done values place
   found done [] place e = absurd (cc (e))
   found done (v ∷ vs) place e = by (offends too_long done v) refl (found (done ++ v ∷ []) vs place) e
     where
-      by : (b : Bool) → offends too_long done v ≡ b → (place_of_first_offending_option_after too_long (done ++ v ∷ []) vs ≡ Some place → IsFirstAfter (done ++ v ∷ []) vs place)
-          → (if b then Some v.place else place_of_first_offending_option_after too_long (done ++ v ∷ []) vs) ≡ Some place → IsFirstAfter done (v ∷ vs) place
+      by : (b : Bool) → offends too_long done v ≡ b → (first_offence_place_by_output_length_after too_long (done ++ v ∷ []) vs ≡ Some place → IsFirstAfter (done ++ v ∷ []) vs place)
+          → (if b then Some v.place else first_offence_place_by_output_length_after too_long (done ++ v ∷ []) vs) ≡ Some place → IsFirstAfter done (v ∷ vs) place
       by true t further e =
           record {
             before = [];
@@ -64,21 +64,21 @@ module _ (too_long : Bool) where
             first = one_more done v rest.before t rest.first;
           }
 
-  none_found : (done values : List OptionValue) → place_of_first_offending_option_after too_long done values ≡ None → NoneBehind done values
+  none_found : (done values : List OptionValue) → first_offence_place_by_output_length_after too_long done values ≡ None → NoneBehind done values
   none_found done [] e = no_none done
   none_found done (v ∷ vs) e = by (offends too_long done v) refl (none_found (done ++ v ∷ []) vs) e
     where
-      by : (b : Bool) → offends too_long done v ≡ b → (place_of_first_offending_option_after too_long (done ++ v ∷ []) vs ≡ None → NoneBehind (done ++ v ∷ []) vs)
-          → (if b then Some v.place else place_of_first_offending_option_after too_long (done ++ v ∷ []) vs) ≡ None → NoneBehind done (v ∷ vs)
+      by : (b : Bool) → offends too_long done v ≡ b → (first_offence_place_by_output_length_after too_long (done ++ v ∷ []) vs ≡ None → NoneBehind (done ++ v ∷ []) vs)
+          → (if b then Some v.place else first_offence_place_by_output_length_after too_long (done ++ v ∷ []) vs) ≡ None → NoneBehind done (v ∷ vs)
       by true t further e = absurd (cc (e))
       by false t further e = one_more done v vs t (further e)
 
-  pub first_is : (values : List OptionValue) (place : ℕ) → place_of_first_offending_option_after too_long [] values ≡ Some place → IsPlaceOfFirstOffendingOption too_long values place
+  pub first_is : (values : List OptionValue) (place : ℕ) → first_offence_place_by_output_length_after too_long [] values ≡ Some place → IsFirstOffencePlaceByOutputLength too_long values place
   unfolding NoneBehind
   first_is values place e =
       let is = found [] values place e in
       record { before = is.before; value = is.value; after = is.after; located = is.located; reported = is.reported; offends = is.bad; first = is.first }
 
-  pub none_is : (values : List OptionValue) → place_of_first_offending_option_after too_long [] values ≡ None → HasNoOffendingOption too_long values
+  pub none_is : (values : List OptionValue) → first_offence_place_by_output_length_after too_long [] values ≡ None → HasNoOffendingOptionByOutputLength too_long values
   unfolding NoneBehind
   none_is values e = none_found [] values e

@@ -6,10 +6,10 @@ use Rattle.make_info.specs.declared.field.Field.{Field}
 use Rattle.make_info.specs.declared.field.Field.TheVariants as Fields
 use Rattle.make_info.specs.Fields.{field_word}
 use Rattle.make_info.specs.Information.{FieldWithValue, information_fields_with_installed_size}
-use Rattle.make_info.specs.Named.{value_by_name, value_of_field}
+use Rattle.make_info.specs.Named.{value_by_name, value_of_field_in_information_object}
 
 pub option_field : (f : Field) (info : List FieldWithValue) (size : ℕ)
-    → value_by_name (field_word f) (table PkgInfo) (information_fields_with_installed_size info size) ≡ value_of_field f info
+    → value_by_name (field_word f) (table PkgInfo) (information_fields_with_installed_size info size) ≡ value_of_field_in_information_object f info
 option_field Fields.Name info size = refl
 option_field Fields.Version info size = refl
 option_field Fields.Description info size = refl

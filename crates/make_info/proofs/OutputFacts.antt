@@ -18,9 +18,9 @@ use Rattle.make_info.specs.declared.field.Field.{Field}
 use Rattle.make_info.specs.declared.field.Field.TheVariants as Fields
 use Rattle.make_info.specs.Fields.{kind_of_field, values_by_kind, text_value_if}
 use Rattle.command_core.specs.Files.{most_output_path_bytes}
-use Rattle.make_info.specs.FieldTexts.{FieldText, value_text_without_dot_slash, first_text_for, field_text_in, value_if_passes, values_of_info_options, is_option_for_field, gives_value_for_field, is_info_option, is_default_output_too_long, package_name_in, named_output, default_output, package_file_name_of, value_if_for_field, package_version_in}
-use Rattle.make_info.specs.Information.{FieldWithValue, items_of_valid_options, place_of_first_offending_option_after, information, information_of_options_before_place, repeats_single_field, field_with_value, items_of_text, items_of_option, lacks_name_or_version, offends, unless_offence}
-use Rattle.make_info.specs.Output.{output_if_information_valid, is_mkpkg, output_name, package_output}
+use Rattle.make_info.specs.FieldTexts.{FieldText, value_text_without_dot_slash, first_text_for, field_text_in, value_if_passes, values_of_info_options, has_text_for_field_whatever_letter, is_field_text_for_field, is_info_option, is_output_default_and_too_long, package_name_in, named_output, default_output, package_file_name_of, value_if_for_field, package_version_in}
+use Rattle.make_info.specs.Information.{FieldWithValue, items_of_valid_options, first_offence_place_by_output_length_after, information, information_with_missing_reported_at_place, repeats_single_field, field_with_value, items_of_text, items_of_option, lacks_name_or_version, offends, unless_offence}
+use Rattle.make_info.specs.Output.{output_if_information_valid, is_mkpkg, output_name, named_or_default_package_output}
 use Rattle.make_info.proofs.Outputs.{AreOutputs, allowed, named_short, no_value, own_fits, unoffended}
 use Rattle.make_info.proofs.Reading.{same_field}
 
@@ -33,7 +33,7 @@ package_short law command file (Ok about) None r n is h = own_fits command.value
 
 pub output_short : AreOutputs → (command : CommandLine) (name : List ℕ) → IsValidCommand command → output_name command ≡ Some name → length name ≤ most_output_path_bytes
 output_short law command name is h =
-    elim (is_mkpkg command.applet) as (λ b. (if b then package_output command else named_output command.values) ≡ Some name → length name ≤ most_output_path_bytes) [
+    elim (is_mkpkg command.applet) as (λ b. (if b then named_or_default_package_output command else named_output command.values) ≡ Some name → length name ≤ most_output_path_bytes) [
       | true ↦ λ e. package_short law command name (information command) (named_output command.values) refl refl is e
       | false ↦ λ e. named_short law command name is e
     ] h
@@ -54,7 +54,7 @@ IsNeeded = (c : CommandLine) (letter : ℕ) → IsValidCommand c → required_op
 
 pub index_output_there : IsNeeded → (command : CommandLine) → IsValidCommand command → command.applet ≡ Mkndx → is_some (output_name command) ≡ true
 index_output_there law command h is =
-    ap (λ a. is_some (if is_mkpkg a then package_output command else named_output command.values)) is
+    ap (λ a. is_some (if is_mkpkg a then named_or_default_package_output command else named_output command.values)) is
     ∙ found_output command.values (law command OUTPUT h (ap required_option_letter is))
 
 -- a field of which every good value passes a test
@@ -81,7 +81,7 @@ later_or : (is_good : List ℕ → Bool) (x later : Option (List ℕ)) → x ≡
 later_or is_good x later is h = ap (λ o. is_some (option_and_then (value_if_passes is_good) (option_or o later))) is ∙ h
 
 module _ (f : Field) (is_good : List ℕ → Bool) (strict : IsStrict f is_good) where
-  good_here : (o : Option FieldText) → is_some (option_and_then items_of_text o) ≡ true → gives_value_for_field f o ≡ true → is_some (option_and_then (value_if_passes is_good) (value_if_for_field f o)) ≡ true
+  good_here : (o : Option FieldText) → is_some (option_and_then items_of_text o) ≡ true → is_field_text_for_field f o ≡ true → is_some (option_and_then (value_if_passes is_good) (value_if_for_field f o)) ≡ true
   good_here None allowed same = cc
   good_here (Some g) allowed same =
       let field : g.field ≡ f = same_field g.field f same in
@@ -92,23 +92,23 @@ module _ (f : Field) (is_good : List ℕ → Bool) (strict : IsStrict f is_good)
 
   module _ (too_long : Bool) where
     abbrev Later : List OptionValue → Option (List ℕ) → Type 0
-    Later rest later = (before : List OptionValue) → place_of_first_offending_option_after too_long before rest ≡ None → list_any (is_option_for_field f) rest ≡ true → is_some (option_and_then (value_if_passes is_good) later) ≡ true
+    Later rest later = (before : List OptionValue) → first_offence_place_by_output_length_after too_long before rest ≡ None → list_any (has_text_for_field_whatever_letter f) rest ≡ true → is_some (option_and_then (value_if_passes is_good) later) ≡ true
 
-    by_field : (v : OptionValue) (before rest : List OptionValue) (later : Option (List ℕ)) (b : Bool) → is_option_for_field f v ≡ b → offends too_long before v ≡ false → place_of_first_offending_option_after too_long (before ++ v ∷ []) rest ≡ None
-        → (b || list_any (is_option_for_field f) rest) ≡ true → Later rest later → is_some (option_and_then (value_if_passes is_good) (option_or (value_if_for_field f (field_text_in v.text)) later)) ≡ true
+    by_field : (v : OptionValue) (before rest : List OptionValue) (later : Option (List ℕ)) (b : Bool) → has_text_for_field_whatever_letter f v ≡ b → offends too_long before v ≡ false → first_offence_place_by_output_length_after too_long (before ++ v ∷ []) rest ≡ None
+        → (b || list_any (has_text_for_field_whatever_letter f) rest) ≡ true → Later rest later → is_some (option_and_then (value_if_passes is_good) (option_or (value_if_for_field f (field_text_in v.text)) later)) ≡ true
     by_field v before rest later true here fine none any more =
-        first_or is_good (value_if_for_field f (field_text_in v.text)) later (good_here (field_text_in v.text) (no_offence (is_some (items_of_option v)) (repeats_single_field before v || (too_long && is_option_for_field Fields.Version v)) fine) here)
+        first_or is_good (value_if_for_field f (field_text_in v.text)) later (good_here (field_text_in v.text) (no_offence (is_some (items_of_option v)) (repeats_single_field before v || (too_long && has_text_for_field_whatever_letter Fields.Version v)) fine) here)
     by_field v before rest later false here fine none any more =
         later_or is_good (value_if_for_field f (field_text_in v.text)) later (no_value f (field_text_in v.text) here) (more (before ++ v ∷ []) none any)
 
-    by_info : (v : OptionValue) (before rest : List OptionValue) (later : Option (List ℕ)) (b : Bool) → place_of_first_offending_option_after too_long before (cond b (v ∷ rest) rest) ≡ None → list_any (is_option_for_field f) (cond b (v ∷ rest) rest) ≡ true
+    by_info : (v : OptionValue) (before rest : List OptionValue) (later : Option (List ℕ)) (b : Bool) → first_offence_place_by_output_length_after too_long before (cond b (v ∷ rest) rest) ≡ None → list_any (has_text_for_field_whatever_letter f) (cond b (v ∷ rest) rest) ≡ true
         → Later rest later → is_some (option_and_then (value_if_passes is_good) (option_or (cond b (value_if_for_field f (field_text_in v.text)) None) later)) ≡ true
     by_info v before rest later true none any more =
-        let parts = none_at (offends too_long before v) v.place (place_of_first_offending_option_after too_long (before ++ v ∷ []) rest) none in
-        by_field v before rest later (is_option_for_field f v) refl parts.0 parts.1 any more
+        let parts = none_at (offends too_long before v) v.place (first_offence_place_by_output_length_after too_long (before ++ v ∷ []) rest) none in
+        by_field v before rest later (has_text_for_field_whatever_letter f v) refl parts.0 parts.1 any more
     by_info v before rest later false none any more = more before none any
 
-    good_first : (before vs : List OptionValue) → place_of_first_offending_option_after too_long before (values_of_info_options vs) ≡ None → list_any (is_option_for_field f) (values_of_info_options vs) ≡ true → is_some (option_and_then (value_if_passes is_good) (first_text_for f vs)) ≡ true
+    good_first : (before vs : List OptionValue) → first_offence_place_by_output_length_after too_long before (values_of_info_options vs) ≡ None → list_any (has_text_for_field_whatever_letter f) (values_of_info_options vs) ≡ true → is_some (option_and_then (value_if_passes is_good) (first_text_for f vs)) ≡ true
     good_first before [] none any = cc
     good_first before (v ∷ vs) none any = by_info v before (values_of_info_options vs) (first_text_for f vs) (is_info_option v) none any (λ earlier n a. good_first earlier vs n a)
 
@@ -130,19 +130,19 @@ told_all : (o : Option ℕ) (otherwise : Result (List FieldWithValue) ℕ) → i
 told_all None otherwise h = h
 told_all (Some place) otherwise h = cc
 
-own_there : (values : List OptionValue) (behind : ℕ) → is_ok (information_of_options_before_place values behind) ≡ true → is_some (default_output values) ≡ true
-unfolding information_of_options_before_place
+own_there : (values : List OptionValue) (behind : ℕ) → is_ok (information_with_missing_reported_at_place values behind) ≡ true → is_some (default_output values) ≡ true
+unfolding information_with_missing_reported_at_place
 own_there values behind h =
     let told = values_of_info_options values in
     let none = unoffended values behind h in
-    let given = not_lacking (list_any (is_option_for_field Fields.Name) told) (list_any (is_option_for_field Fields.Version) told) behind (items_of_valid_options told) (told_all (place_of_first_offending_option_after (is_default_output_too_long values) [] told) (if lacks_name_or_version told then Err behind else Ok (items_of_valid_options told)) h) in
+    let given = not_lacking (list_any (has_text_for_field_whatever_letter Fields.Name) told) (list_any (has_text_for_field_whatever_letter Fields.Version) told) behind (items_of_valid_options told) (told_all (first_offence_place_by_output_length_after (is_output_default_and_too_long values) [] told) (if lacks_name_or_version told then Err behind else Ok (items_of_valid_options told)) h) in
     both_there (package_name_in values) (package_version_in values)
-    (good_first Fields.Name is_package_name (λ value said. strict_by (is_package_name value) value said) (is_default_output_too_long values) [] values none given.0)
-    (good_first Fields.Version is_version (λ value said. strict_by (is_version value) value said) (is_default_output_too_long values) [] values none given.1)
+    (good_first Fields.Name is_package_name (λ value said. strict_by (is_package_name value) value said) (is_output_default_and_too_long values) [] values none given.0)
+    (good_first Fields.Version is_version (λ value said. strict_by (is_version value) value said) (is_output_default_and_too_long values) [] values none given.1)
 
 pub package_output_there : (command : CommandLine) → command.applet ≡ Mkpkg → is_ok (information command) ≡ true → is_some (output_name command) ≡ true
 package_output_there command is good =
     let own = own_there command.values command.behind good in
-    ap (λ a. is_some (if is_mkpkg a then package_output command else named_output command.values)) is
+    ap (λ a. is_some (if is_mkpkg a then named_or_default_package_output command else named_output command.values)) is
     ∙ ap is_some (allowed (information command) (option_or (named_output command.values) (default_output command.values)) good)
     ∙ any_or (named_output command.values) (default_output command.values) own

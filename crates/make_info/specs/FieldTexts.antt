@@ -11,7 +11,7 @@ use Rattle.dep_core.specs.Dependency.{is_package_name}
 use Rattle.root_names.specs.PackagePath.{package_file_name}
 use Rattle.command_core.specs.Values.{first_value_with_letter}
 use Rattle.make_info.specs.declared.information.TheConstants.{COLON}
-use Rattle.command_core.specs.Files.{most_output_path_bytes, without_dot_slash}
+use Rattle.command_core.specs.Files.{most_output_path_bytes, without_one_leading_dot_slash}
 use Rattle.command_core.specs.declared.values.OptionValue.{OptionValue}
 use Rattle.make_info.specs.declared.field.Field.{Field}
 use Rattle.make_info.specs.declared.field.Field.TheVariants as Fields
@@ -40,13 +40,13 @@ abbrev pub is_same_field : Field → Field → Bool
 is_same_field f g = bytes_eq (field_word f) (field_word g)
 
 -- whether a text FIELD:VALUE is for this field; false if the text was no FIELD:VALUE (None)
-abbrev pub gives_value_for_field : Field → Option FieldText → Bool
-gives_value_for_field f None = false
-gives_value_for_field f (Some given) = is_same_field given.field f
+abbrev pub is_field_text_for_field : Field → Option FieldText → Bool
+is_field_text_for_field f None = false
+is_field_text_for_field f (Some given) = is_same_field given.field f
 
 -- whether a value of `-I` is for a field
-abbrev pub is_option_for_field : Field → OptionValue → Bool
-is_option_for_field f v = gives_value_for_field f (field_text_in v.text)
+abbrev pub has_text_for_field_whatever_letter : Field → OptionValue → Bool
+has_text_for_field_whatever_letter f v = is_field_text_for_field f (field_text_in v.text)
 
 -- whether a value of an option is one of `-I`; values of other options, such as `-o`, do not describe the
 -- package
@@ -99,7 +99,7 @@ default_output values = package_file_name_of (package_name_in values) (package_v
 
 -- the name of the file in a value of `-o`, without a leading `./`
 abbrev pub value_text_without_dot_slash : OptionValue → List ℕ
-value_text_without_dot_slash v = without_dot_slash v.text
+value_text_without_dot_slash v = without_one_leading_dot_slash v.text
 
 -- the file that `-o` names, if it was given
 abbrev pub named_output : List OptionValue → Option (List ℕ)
@@ -112,6 +112,6 @@ is_output_name_too_long None = false
 is_output_name_too_long (Some file) = nat_lt most_output_path_bytes (length file)
 
 -- whether `-o` gives no output, and the default NAME-VERSION.apk is too long
-abbrev pub is_default_output_too_long : List OptionValue → Bool
-is_default_output_too_long values =
+abbrev pub is_output_default_and_too_long : List OptionValue → Bool
+is_output_default_and_too_long values =
     not (is_some (named_output values)) && is_output_name_too_long (default_output values)

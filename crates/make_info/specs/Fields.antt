@@ -5,7 +5,7 @@ use Rattle.std.specs.Prelude.{ℕ, ◌^◌, ◌==◌, nat_lt, Bool, true, false,
 use Rattle.std.specs.List.{filter, find, slice_split}
 use Rattle.std.specs.Str.{bytes_eq}
 use Rattle.std.specs.Str.Parse.{digits_value}
-use Rattle.command_core.specs.Operands.{is_decimal}
+use Rattle.command_core.specs.Operands.{is_decimal_without_leading_zeros}
 use Rattle.hex.specs.Hex.{decode_of}
 use Rattle.hex.specs.declared.error.FromHexError.{FromHexError}
 use Rattle.version_core.specs.Order.{is_version}
@@ -85,28 +85,28 @@ may_repeat Kinds.Dependencies = true
 may_repeat Kinds.Texts = true
 
 -- one value of a field: a text, a number, or a dependency; pairs of hexadecimal digits are decoded
-pub data FieldValue : Type 0 where
-  text : List ℕ → FieldValue
-  number : ℕ → FieldValue
-  need : Dependency → FieldValue
+pub data TextNumberOrDependency : Type 0 where
+  text : List ℕ → TextNumberOrDependency
+  number : ℕ → TextNumberOrDependency
+  need : Dependency → TextNumberOrDependency
 
 -- ---- the values of a text under a kind; None if it is not in the kind's grammar
 
 -- the one value of a text field, if the rule of the field allows the text (the first argument)
-abbrev pub text_value_if : Bool → List ℕ → Option (List FieldValue)
+abbrev pub text_value_if : Bool → List ℕ → Option (List TextNumberOrDependency)
 text_value_if true value = Some (text value ∷ [])
 text_value_if false value = None
 
 -- the one value of a field of hexadecimal digits, given the result of decoding them: the decoded bytes;
 -- None if the text is not hexadecimal
-abbrev pub field_values_of_decoded_hex : Result (List ℕ) FromHexError → Option (List FieldValue)
+abbrev pub field_values_of_decoded_hex : Result (List ℕ) FromHexError → Option (List TextNumberOrDependency)
 field_values_of_decoded_hex (Ok bytes) = Some (text bytes ∷ [])
 field_values_of_decoded_hex (Err e) = None
 
 -- the number that a text encodes; None if it is none, has a leading zero or more than 64 bits
-abbrev pub decimal_number : List ℕ → Option ℕ
-decimal_number value =
-    if is_decimal value && nat_lt (digits_value 10 value) (2 ^ 64) then
+abbrev pub decimal_number_without_leading_zeros : List ℕ → Option ℕ
+decimal_number_without_leading_zeros value =
+    if is_decimal_without_leading_zeros value && nat_lt (digits_value 10 value) (2 ^ 64) then
     Some (digits_value 10 value) else None
 
 -- whether a part between spaces is not empty; empty parts are skipped
@@ -118,7 +118,7 @@ abbrev pub nonempty_parts_between_spaces : List ℕ → List (List ℕ)
 nonempty_parts_between_spaces value = filter is_nonempty (slice_split (λ b. b == 32) value)
 
 -- the values of a field of texts: each part between spaces is one value
-abbrev pub text_values : List (List ℕ) → List FieldValue
+abbrev pub text_values : List (List ℕ) → List TextNumberOrDependency
 text_values parts = map text parts
 
 -- a dependency, if it has no tag: only world may have tags, a package never
@@ -130,24 +130,24 @@ abbrev pub untagged_dependency_in : List ℕ → Option Dependency
 untagged_dependency_in part = option_and_then dependency_if_untagged (dependency_of part)
 
 -- the value of the dependency `d`, followed by other values; None if `d` or `others` is None
-abbrev pub dependency_value_and_others : Option Dependency → Option (List FieldValue)
-    → Option (List FieldValue)
+abbrev pub dependency_value_and_others : Option Dependency → Option (List TextNumberOrDependency)
+    → Option (List TextNumberOrDependency)
 dependency_value_and_others d others =
     option_and_then (λ d. option_map (λ others. need d ∷ others) others) d
 
 -- the values of a field of dependencies, one for each part; None if a part is no dependency without a tag
-abbrev pub dependency_values_in : List (List ℕ) → Option (List FieldValue)
-dependency_values_in [] = Some []
-dependency_values_in (part ∷ parts) =
-    dependency_value_and_others (untagged_dependency_in part) (dependency_values_in parts)
+abbrev pub dependency_values_of_parts : List (List ℕ) → Option (List TextNumberOrDependency)
+dependency_values_of_parts [] = Some []
+dependency_values_of_parts (part ∷ parts) =
+    dependency_value_and_others (untagged_dependency_in part) (dependency_values_of_parts parts)
 
 -- the values that the text `value` gives to a field of this kind: any number for a list, one for another
 -- kind. None if the text is not in the grammar of the kind
-abbrev pub values_by_kind : Kind → List ℕ → Option (List FieldValue)
+abbrev pub values_by_kind : Kind → List ℕ → Option (List TextNumberOrDependency)
 values_by_kind Kinds.PackageName value = text_value_if (is_package_name value) value
 values_by_kind Kinds.PackageVersion value = text_value_if (is_version value) value
 values_by_kind Kinds.AnyText value = text_value_if true value
 values_by_kind Kinds.HexDigits value = field_values_of_decoded_hex (decode_of value)
-values_by_kind Kinds.Number value = option_map (λ n. number n ∷ []) (decimal_number value)
-values_by_kind Kinds.Dependencies value = dependency_values_in (nonempty_parts_between_spaces value)
+values_by_kind Kinds.Number value = option_map (λ n. number n ∷ []) (decimal_number_without_leading_zeros value)
+values_by_kind Kinds.Dependencies value = dependency_values_of_parts (nonempty_parts_between_spaces value)
 values_by_kind Kinds.Texts value = Some (text_values (nonempty_parts_between_spaces value))

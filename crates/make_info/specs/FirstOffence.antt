@@ -7,13 +7,13 @@ use Rattle.command_core.specs.declared.values.OptionValue.{OptionValue}
 use Rattle.make_info.specs.Information.{offends}
 
 -- none of these values of `-I` offends (is refused), given the values before it
-abbrev pub HasNoOffendingOption : Bool → List OptionValue → Type 0
-HasNoOffendingOption too_long values =
+abbrev pub HasNoOffendingOptionByOutputLength : Bool → List OptionValue → Type 0
+HasNoOffendingOptionByOutputLength too_long values =
     (before : List OptionValue) (v : OptionValue) (after : List OptionValue)
     → values ≡ before ++ v ∷ after → offends too_long before v ≡ false
 
 -- the first of these values of `-I` that offends (is refused) is at this place of the command line
-pub record IsPlaceOfFirstOffendingOption (too_long : Bool) (values : List OptionValue)
+pub record IsFirstOffencePlaceByOutputLength (too_long : Bool) (values : List OptionValue)
     (place : ℕ) : Type 0 where
   -- the values of options before the first one that is refused
   pub before : List OptionValue
@@ -28,4 +28,4 @@ pub record IsPlaceOfFirstOffendingOption (too_long : Bool) (values : List Option
   -- the value is refused, given the values before it
   pub offends : offends too_long before value ≡ true
   -- none of the values before it is refused
-  pub first : HasNoOffendingOption too_long before
+  pub first : HasNoOffendingOptionByOutputLength too_long before

@@ -9,8 +9,8 @@ use Rattle.adb_view.specs.Plain.{Plain, null, int, Plains, none, more, blob_or_n
 use Rattle.dep_core.specs.Value.{DepValue, dep_value}
 use Rattle.make_info.specs.declared.field.Field.{Field}
 use Rattle.make_info.specs.declared.field.Field.TheVariants as Fields
-use Rattle.make_info.specs.Fields.{FieldValue, text, number, need, may_repeat, kind_of_field, values_by_kind}
-use Rattle.make_info.specs.FieldTexts.{FieldText, field_text_in, values_of_info_options, is_option_for_field, is_same_field, is_default_output_too_long}
+use Rattle.make_info.specs.Fields.{TextNumberOrDependency, text, number, need, may_repeat, kind_of_field, values_by_kind}
+use Rattle.make_info.specs.FieldTexts.{FieldText, field_text_in, values_of_info_options, has_text_for_field_whatever_letter, is_same_field, is_output_default_and_too_long}
 use Rattle.make_info.specs.Values.{number_or_null, size_or_null_if_zero}
 
 -- An item of a package's information: a field with one value. The information is the list of all items,
@@ -20,16 +20,16 @@ pub record FieldWithValue : Type 0 where
   -- the field of `-I`
   pub field : Field
   -- one value of this field
-  pub value : FieldValue
+  pub value : TextNumberOrDependency
 
 -- the item of this field with this value
-abbrev pub field_with_value : Field → FieldValue → FieldWithValue
+abbrev pub field_with_value : Field → TextNumberOrDependency → FieldWithValue
 field_with_value f value = record { field = f; value = value }
 
 -- the items `before`, followed by one item of the field for each of the values. None if the values are
 -- None, as the text was not allowed
 abbrev pub items_followed_by_values_of_field :
-    List FieldWithValue → Field → Option (List FieldValue) → Option (List FieldWithValue)
+    List FieldWithValue → Field → Option (List TextNumberOrDependency) → Option (List FieldWithValue)
 items_followed_by_values_of_field before f values =
     option_map (λ values. before ++ map (field_with_value f) values) values
 
@@ -49,7 +49,7 @@ items_of_option v = option_and_then items_of_text (field_text_in v.text)
 abbrev pub gives_single_field_again : List OptionValue → Option FieldText → Bool
 gives_single_field_again before None = false
 gives_single_field_again before (Some given) =
-    not (may_repeat (kind_of_field given.field)) && list_any (is_option_for_field given.field) before
+    not (may_repeat (kind_of_field given.field)) && list_any (has_text_for_field_whatever_letter given.field) before
 
 -- whether the value `v` is for a field that may be given only once, and one of the values `before` is for
 -- the same field
@@ -62,20 +62,20 @@ repeats_single_field before v = gives_single_field_again before (field_text_in v
 abbrev pub offends : Bool → List OptionValue → OptionValue → Bool
 offends too_long before v =
     not (is_some (items_of_option v))
-    || (repeats_single_field before v || (too_long && is_option_for_field Fields.Version v))
+    || (repeats_single_field before v || (too_long && has_text_for_field_whatever_letter Fields.Version v))
 
 -- the place of the first of the given values that offends; `before` are the values of `-I` before them
-abbrev pub place_of_first_offending_option_after : Bool → List OptionValue → List OptionValue → Option ℕ
-place_of_first_offending_option_after too_long before [] = None
-place_of_first_offending_option_after too_long before (v ∷ vs) =
+abbrev pub first_offence_place_by_output_length_after : Bool → List OptionValue → List OptionValue → Option ℕ
+first_offence_place_by_output_length_after too_long before [] = None
+first_offence_place_by_output_length_after too_long before (v ∷ vs) =
     if offends too_long before v then Some v.place
-    else place_of_first_offending_option_after too_long (before ++ v ∷ []) vs
+    else first_offence_place_by_output_length_after too_long (before ++ v ∷ []) vs
 
 -- whether none of the values of `-I` is for the package's name, or none is for its version
 abbrev pub lacks_name_or_version : List OptionValue → Bool
 lacks_name_or_version values =
-    not (list_any (is_option_for_field Fields.Name) values)
-    || not (list_any (is_option_for_field Fields.Version) values)
+    not (list_any (has_text_for_field_whatever_letter Fields.Name) values)
+    || not (list_any (has_text_for_field_whatever_letter Fields.Version) values)
 
 -- the items of all values of `-I`, in their order; a value that is not allowed has none
 abbrev pub items_of_valid_options : List OptionValue → List FieldWithValue
@@ -90,16 +90,16 @@ unless_offence (Some place) otherwise = Err place
 -- the information that the values of all options give, or the first place that offends as an error. This
 -- is the place of a value of `-I`; or, if the name or the version is missing, `behind`, the place after
 -- the last argument
-unfoldable pub information_of_options_before_place : List OptionValue → ℕ → Result (List FieldWithValue) ℕ
-information_of_options_before_place values behind =
+unfoldable pub information_with_missing_reported_at_place : List OptionValue → ℕ → Result (List FieldWithValue) ℕ
+information_with_missing_reported_at_place values behind =
     let own = values_of_info_options values in
-    unless_offence (place_of_first_offending_option_after (is_default_output_too_long values) [] own)
+    unless_offence (first_offence_place_by_output_length_after (is_output_default_and_too_long values) [] own)
     (if lacks_name_or_version own then Err behind else Ok (items_of_valid_options own))
 
 -- the information of a command line, or the first place that offends; a missing name or version is
 -- reported at the place after its last argument
 abbrev pub information : CommandLine → Result (List FieldWithValue) ℕ
-information command = information_of_options_before_place command.values command.behind
+information command = information_with_missing_reported_at_place command.values command.behind
 
 -- ---- the value of an information
 
@@ -110,7 +110,7 @@ dependency_object v =
     (more (blob_or_null v.name) (more (blob_or_null v.version) (more (number_or_null v.matching) none)))
 
 -- the plain value of one value of a field; an empty text is Null
-abbrev pub plain_value : FieldValue → Plain
+abbrev pub plain_value : TextNumberOrDependency → Plain
 plain_value (text bytes) = blob_or_null bytes
 plain_value (number n) = int n
 plain_value (need d) = dependency_object (dep_value d)
@@ -161,7 +161,7 @@ information_value_with_installed_size info size =
     trimmed_object_or_null (information_fields_with_installed_size info size)
 
 -- the number that the value is; None if the value is no number
-abbrev pub number_in : FieldValue → Option ℕ
+abbrev pub number_in : TextNumberOrDependency → Option ℕ
 number_in (text bytes) = None
 number_in (number n) = Some n
 number_in (need d) = None

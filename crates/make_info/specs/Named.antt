@@ -22,8 +22,8 @@ value_by_name word (f ∷ fields) (more v values) =
 -- the plain value of a field that `-I` gives: for a list field the array of its items, for another field
 -- its one item. None for the priority in replacing, which is not part of the object of a package's
 -- information
-abbrev pub value_of_field : Options.Field → List FieldWithValue → Option Plain
-value_of_field Fields.ReplacesPriority info = None
-value_of_field f info =
+abbrev pub value_of_field_in_information_object : Options.Field → List FieldWithValue → Option Plain
+value_of_field_in_information_object Fields.ReplacesPriority info = None
+value_of_field_in_information_object f info =
     if may_repeat (kind_of_field f) then Some (value_of_list_field f info)
     else Some (value_of_single_field f info)

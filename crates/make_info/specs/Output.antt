@@ -21,12 +21,12 @@ output_if_information_valid (Err place) name = None
 
 -- the output of `mkpkg`, if its information is allowed: the file of `-o`, or by default
 -- NAME-VERSION.apk
-abbrev pub package_output : CommandLine → Option (List ℕ)
-package_output command =
+abbrev pub named_or_default_package_output : CommandLine → Option (List ℕ)
+named_or_default_package_output command =
     output_if_information_valid (information command)
     (option_or (named_output command.values) (default_output command.values))
 
 -- the output of a command that makes a container: for `mkndx` the file of `-o`
 abbrev pub output_name : CommandLine → Option (List ℕ)
 output_name command =
-    if is_mkpkg command.applet then package_output command else named_output command.values
+    if is_mkpkg command.applet then named_or_default_package_output command else named_output command.values

@@ -5,7 +5,7 @@ use Rattle.make_info.specs.declared.information.FieldText.{FieldText as FieldSli
 use Rattle.make_info.specs.declared.information.Value.{Value}
 use Rattle.make_info.specs.declared.information.Value.TheVariants.{Text, Bytes, Number, Need}
 use Rattle.make_info.specs.declared.information.Item.{Item}
-use Rattle.make_info.specs.Fields.{FieldValue, text, number, need}
+use Rattle.make_info.specs.Fields.{TextNumberOrDependency, text, number, need}
 use Rattle.make_info.specs.FieldTexts.{FieldText}
 use Rattle.make_info.specs.Information.{FieldWithValue}
 
@@ -14,7 +14,7 @@ abbrev pub field_text_view : FieldSlices → FieldText
 field_text_view slice = record { field = slice.field; value = slice.value.now }
 
 -- one value of a field, as contracts see it; the bytes of hexadecimal digits are already decoded
-abbrev pub value_view : Value → FieldValue
+abbrev pub value_view : Value → TextNumberOrDependency
 value_view (Text bytes) = text bytes.now
 value_view (Bytes bytes) = text bytes.items
 value_view (Number n) = number n

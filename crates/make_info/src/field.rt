@@ -1,9 +1,9 @@
 //! The fields of `-I` of `mkpkg` (apk(8)), and the grammar of each one's values.
 //! The rules are in `docs/commands.md`, "`mkpkg`", the table of fields.
-ghost use Rattle.make_info.specs.Fields.{field_of, field_word, may_repeat, kind_of_field, field_among, decimal_number};
+ghost use Rattle.make_info.specs.Fields.{field_of, field_word, may_repeat, kind_of_field, field_among, decimal_number_without_leading_zeros};
 ghost use Rattle.std.specs.Prelude.{◌≡◌};
 
-use command_core::is_decimal;
+use command_core::is_decimal_without_leading_zeros;
 use std::str;
 
 /// A field of a package's information that `-I` of `mkpkg` may give (apk(8), `mkpkg`).
@@ -150,9 +150,9 @@ fn find_named(fields: &[Field], word: &[u8]) -> Option<Field>
 /// The number that the digits encode. None if there are no digits, if another byte is among them,
 /// if the number is above 2^64 - 1, or if it has a leading zero.
 pub fn read_number(digits: &[u8]) -> Option<u64>
-    ensures { result ≡ decimal_number digits.now }
+    ensures { result ≡ decimal_number_without_leading_zeros digits.now }
 {
-    if !is_decimal(digits) {
+    if !is_decimal_without_leading_zeros(digits) {
         return None;
     }
     match str::from_utf8(digits) {

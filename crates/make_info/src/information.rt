@@ -6,9 +6,9 @@ ghost use Rattle.dep_core.specs.Meets.{dependency};
 ghost use Rattle.hex.specs.Hex.{decode_of};
 ghost use Rattle.make_info.specs.Faults.{IsInfoFault};
 ghost use Rattle.make_info.specs.FieldTexts.{field_text_in};
-ghost use Rattle.make_info.specs.Fields.{field_values_of_decoded_hex, kind_of_field, untagged_dependency_in, dependency_values_in, number, decimal_number, nonempty_parts_between_spaces, values_by_kind, text_value_if, text_values, field_word};
+ghost use Rattle.make_info.specs.Fields.{field_values_of_decoded_hex, kind_of_field, untagged_dependency_in, dependency_values_of_parts, number, decimal_number_without_leading_zeros, nonempty_parts_between_spaces, values_by_kind, text_value_if, text_values, field_word};
 ghost use Rattle.make_info.specs.Reading.{nonempty_part, has_no_name_or_version, items_with_option_text};
-ghost use Rattle.make_info.specs.Information.{information, information_of_options_before_place, is_item_for, field_with_value, items_followed_by_values_of_field, FieldWithValue, place_of_first_offending_option_after, information_fields_with_installed_size};
+ghost use Rattle.make_info.specs.Information.{information, information_with_missing_reported_at_place, is_item_for, field_with_value, items_followed_by_values_of_field, FieldWithValue, first_offence_place_by_output_length_after, information_fields_with_installed_size};
 ghost use Rattle.make_info.specs.Views.{field_text_view, item_view, value_view};
 ghost use Rattle.std.specs.List.{find};
 ghost use Rattle.std.specs.Option.{option_map};
@@ -17,12 +17,12 @@ ghost use Rattle.adb_view.specs.Schema.{table};
 ghost use Rattle.adb_view.specs.declared.tables.Which.TheVariants.{PkgInfo};
 ghost use Rattle.command_core.specs.declared.values.OptionValue.{OptionValue};
 ghost use Rattle.make_info.specs.declared.field.Field.{Field};
-ghost use Rattle.make_info.specs.FirstOffence.{IsPlaceOfFirstOffendingOption, HasNoOffendingOption};
-ghost use Rattle.make_info.specs.Named.{value_by_name, value_of_field};
+ghost use Rattle.make_info.specs.FirstOffence.{IsFirstOffencePlaceByOutputLength, HasNoOffendingOptionByOutputLength};
+ghost use Rattle.make_info.specs.Named.{value_by_name, value_of_field_in_information_object};
 
 use crate::fault::MakeFault;
 use crate::field::{Field, Kind, read_number};
-use crate::output::is_default_output_too_long;
+use crate::output::is_output_default_and_too_long;
 use command_core::{Command, INFO, Values};
 use dep_core::{Dep, is_package_name, read_dep};
 use hex::FromHexError;
@@ -99,7 +99,7 @@ pub fn read_information<'a>(
 
 // Reads the values of `-I` one by one. `behind` is the place after the last argument, at which a
 // missing name or version is reported.
-#[tactic(auto, unfolding(crate::specs::Information::information_of_options_before_place))]
+#[tactic(auto, unfolding(crate::specs::Information::information_with_missing_reported_at_place))]
 fn read_values<'a>(
     alloc: Global,
     values: &'a Values,
@@ -107,13 +107,13 @@ fn read_values<'a>(
 ) -> Result<Information<'a>, MakeFault>
     // On Ok, the information is the one that the values describe.
     ensures ok { IfOk result
-        (λ info. information_of_options_before_place values.entry.now behind ≡ Ok info) }
+        (λ info. information_with_missing_reported_at_place values.entry.now behind ≡ Ok info) }
     // An error is that of the definition, or out of memory.
     ensures err { IfErr result (λ fault. IsInfoFault fault
-        (information_of_options_before_place values.entry.now behind)) }
+        (information_with_missing_reported_at_place values.entry.now behind)) }
 {
     // Whether the output is NAME-VERSION.apk, and this name is too long.
-    let too_long = is_default_output_too_long(values);
+    let too_long = is_output_default_and_too_long(values);
     let mut entries = Items::new(alloc);
     for i in 0..values.len() {
         let value = values.get(i);
@@ -297,7 +297,7 @@ impl<'a> Items<'a> {
         // false, the definition allows no such value.
         ensures { IfOk result (λ good. (if good then Some self.new else None)
             ≡ items_followed_by_values_of_field self.old field (option_map (λ n. number n ∷ [])
-            (decimal_number digits.now))) }
+            (decimal_number_without_leading_zeros digits.now))) }
     {
         let Some(n) = read_number(digits) else {
             return Ok(false);
@@ -312,7 +312,7 @@ impl<'a> Items<'a> {
         // If the result is true, the new items are the old ones and those of the value. If it is
         // false, the definition allows no such value.
         ensures { IfOk result (λ good. (if good then Some self.new else None)
-            ≡ items_followed_by_values_of_field self.old field (dependency_values_in
+            ≡ items_followed_by_values_of_field self.old field (dependency_values_of_parts
             (nonempty_parts_between_spaces texts.entry.now))) }
     {
         for part in texts.split(|byte| *byte == b' ') {
@@ -329,7 +329,7 @@ impl<'a> Items<'a> {
         // If the result is true, the new items are the old ones and those of the value. If it is
         // false, the definition allows no such value.
         ensures { IfOk result (λ good. (if good then Some self.new else None)
-            ≡ items_followed_by_values_of_field self.old field (dependency_values_in
+            ≡ items_followed_by_values_of_field self.old field (dependency_values_of_parts
             (nonempty_part part.entry.now))) }
     {
         if part.is_empty() {
@@ -379,7 +379,7 @@ pub fn an_option_gives_the_field_of_its_name()
     ensures { (f : Field) (info : List FieldWithValue) (size : ℕ)
         → value_by_name (field_word f) (table PkgInfo)
         (information_fields_with_installed_size info size)
-        ≡ value_of_field f info }
+        ≡ value_of_field_in_information_object f info }
 {}
 
 /// The value of `-I` that is reported is the first that offends, in the order given: it is not
@@ -388,10 +388,10 @@ pub fn an_option_gives_the_field_of_its_name()
 pub fn the_first_value_that_offends_is_reported()
     // A reported value is the first that is refused.
     ensures offends { (too_long : Bool) (values : List OptionValue) (place : ℕ)
-        → place_of_first_offending_option_after too_long [] values ≡ Some place
-        → IsPlaceOfFirstOffendingOption too_long values place }
+        → first_offence_place_by_output_length_after too_long [] values ≡ Some place
+        → IsFirstOffencePlaceByOutputLength too_long values place }
     // If none is reported, none is refused.
     ensures allowed { (too_long : Bool) (values : List OptionValue)
-        → place_of_first_offending_option_after too_long [] values ≡ None
-        → HasNoOffendingOption too_long values }
+        → first_offence_place_by_output_length_after too_long [] values ≡ None
+        → HasNoOffendingOptionByOutputLength too_long values }
 {}

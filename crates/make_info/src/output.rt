@@ -1,9 +1,9 @@
 //! The name under which a container is written (apk(8)): the file of `-o`, or NAME-VERSION.apk.
 //! The rules are in `docs/commands.md`, "`mkpkg`" and "`mkndx PACKAGE..`", and in "Words", the
 //! row of `-o`.
-ghost use Rattle.make_info.specs.FieldTexts.{first_text_for, is_default_output_too_long, package_name_in, named_output, default_output, option_text_for_field, package_version_in};
+ghost use Rattle.make_info.specs.FieldTexts.{first_text_for, is_output_default_and_too_long, package_name_in, named_output, default_output, option_text_for_field, package_version_in};
 ghost use Rattle.make_info.specs.Information.{information};
-ghost use Rattle.make_info.specs.Output.{is_mkpkg, output_name, package_output};
+ghost use Rattle.make_info.specs.Output.{is_mkpkg, output_name, named_or_default_package_output};
 ghost use Rattle.std.specs.Option.{option_map};
 ghost use Rattle.std.specs.Prelude.{is_some, ◌≡◌, ◌||◌, IfOk, is_ok, ◌≤◌, List, ℕ, Some, IsSome, IsTrue, length};
 ghost use Rattle.command_core.specs.Command.{CommandLine};
@@ -42,8 +42,8 @@ pub(crate) fn default_output(alloc: Global, values: &Values) -> Result<Option<Ve
 }
 
 /// Whether no output is named, and NAME-VERSION.apk is too long.
-pub(crate) fn is_default_output_too_long(values: &Values) -> bool
-    ensures { result ≡ is_default_output_too_long values.now }
+pub(crate) fn is_output_default_and_too_long(values: &Values) -> bool
+    ensures { result ≡ is_output_default_and_too_long values.now }
 {
     if is_output_named(values) {
         return false;
@@ -122,7 +122,7 @@ pub fn output_name(alloc: Global, command: &Command) -> Result<Option<Name>, All
     ensures { IfOk result (λ name. name ≡ output_name command.now) }
 {
     if is_mkpkg(command.applet()) {
-        return package_output(alloc, command);
+        return named_or_default_package_output(alloc, command);
     }
     named_output(alloc, command)
 }
@@ -150,8 +150,8 @@ fn is_mkpkg(applet: Applet) -> bool
 }
 
 // The name of the output of `mkpkg`, if its information is allowed.
-fn package_output(alloc: Global, command: &Command) -> Result<Option<Name>, AllocError>
-    ensures { IfOk result (λ name. name ≡ package_output command.now) }
+fn named_or_default_package_output(alloc: Global, command: &Command) -> Result<Option<Name>, AllocError>
+    ensures { IfOk result (λ name. name ≡ named_or_default_package_output command.now) }
 {
     if !is_allowed(alloc, command)? {
         return Ok(None);

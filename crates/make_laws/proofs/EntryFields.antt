@@ -5,7 +5,7 @@ use Rattle.make_core.specs.adb_copy.Zeros.{all_without_zeros, info_without_zeros
 use Rattle.make_core.proofs.adb_copy.WithoutZeros.{int_zeros}
 use Rattle.make_core.proofs.adb_copy.Zeros.{nth_zeros, at_same}
 use Rattle.adb_view.specs.Schema.{field_name_text, table}
-use Rattle.adb_view.specs.Values.{entries_in, entry_in, int_in, nth}
+use Rattle.adb_view.specs.Values.{entries_in, entry_at_index, int_in, nth}
 use Rattle.adb_view.specs.declared.tables.Field.{Field}
 use Rattle.adb_view.specs.declared.tables.Which.TheVariants.{Package, PkgInfo}
 use Rattle.adb_view.proofs.ValueEntries.{nth_obj}
@@ -14,7 +14,7 @@ use Rattle.make_core.specs.make_index.Entries.{index_entry_of_package_file}
 use Rattle.make_core.proofs.ValueParts.{placed_later}
 use Rattle.make_laws.specs.MadePackages.{package_in_container}
 use Rattle.make_laws.specs.NamedFields.{field_named, place_of_name}
-use Rattle.make_core.specs.pkg_core.Whole.{package_id}
+use Rattle.make_core.specs.pkg_core.Whole.{payload_sha256_of_package_file}
 
 -- ---- values without zeros
 
@@ -66,29 +66,29 @@ placed_other (suc i) (suc j) v (more u us) other = placed_other i j v us (λ e. 
 abbrev told : Plain → List ℕ → ℕ → Plains
 told info id len = with_value_set_at_index 12 (int len) (with_value_set_at_index 2 (blob id) (entries_in info))
 
-entry_at : (info : Plain) (id : List ℕ) (len i : ℕ) → entry_in (info_without_zeros_with_id_and_file_size info id len) i ≡ without_zeros (nth (told info id len) i)
+entry_at : (info : Plain) (id : List ℕ) (len i : ℕ) → entry_at_index (info_without_zeros_with_id_and_file_size info id len) i ≡ without_zeros (nth (told info id len) i)
 unfolding info_without_zeros_with_id_and_file_size without_zeros
 entry_at info id len i = nth_obj (all_without_zeros (told info id len)) i ∙ nth_zeros (told info id len) i
 
 abbrev own_info : List ℕ → Plain
 own_info file = field_named Package (codes "info") (package_in_container file)
 
-pub id_told : (file : List ℕ) → field_named PkgInfo (codes "hashes") (index_entry_of_package_file file) ≡ blob_or_null (package_id file)
+pub id_told : (file : List ℕ) → field_named PkgInfo (codes "hashes") (index_entry_of_package_file file) ≡ blob_or_null (payload_sha256_of_package_file file)
 unfolding without_zeros
 id_told file =
-    let id : List ℕ = package_id file in
+    let id : List ℕ = payload_sha256_of_package_file file in
     entry_at (own_info file) id (length file) 2
     ∙ ap without_zeros (placed_later 2 12 (int (length file)) (with_value_set_at_index 2 (blob id) (entries_in (own_info file))) (omega arith) ∙ at_same 2 (blob id) (entries_in (own_info file)))
 
 pub length_told : (file : List ℕ) → int_in (field_named PkgInfo (codes "file-size") (index_entry_of_package_file file)) ≡ length file
 length_told file =
-    let id : List ℕ = package_id file in
+    let id : List ℕ = payload_sha256_of_package_file file in
     ap int_in (entry_at (own_info file) id (length file) 12 ∙ ap without_zeros (at_same 12 (int (length file)) (with_value_set_at_index 2 (blob id) (entries_in (own_info file)))))
     ∙ int_zeros (int (length file))
 
 pub others_told : (file name : List ℕ) → name ≢ codes "hashes" → name ≢ codes "file-size" → field_named PkgInfo name (index_entry_of_package_file file) ≡ without_zeros (field_named PkgInfo name (own_info file))
 others_told file name hashes size =
-    let id : List ℕ = package_id file in
+    let id : List ℕ = payload_sha256_of_package_file file in
     let place : ℕ = place_of_name name (table PkgInfo) in
     let apart : place ≢ 2 = λ e. hashes (sym (named_at (table PkgInfo) name 2 e)) in
     let besides : place ≢ 12 = λ e. size (sym (named_at (table PkgInfo) name 12 e)) in

@@ -11,7 +11,7 @@ use Rattle.hex.specs.Hex.{decode_of, decode_pairs, digit_or_error, hex_digit_val
 use Rattle.hex.specs.declared.error.FromHexError.{FromHexError}
 use Rattle.hex.specs.declared.error.FromHexError.TheVariants.{OddLength}
 use Rattle.hex.proofs.HexLemmas.{decode_of-even}
-use Rattle.command_core.specs.Operands.{has_superfluous_leading_zero, is_decimal}
+use Rattle.command_core.specs.Operands.{has_superfluous_leading_zero, is_decimal_without_leading_zeros}
 use Rattle.command_core.proofs.Numbers.{decimal_digits, decimal_some, digits_model}
 use Rattle.dep_core.specs.Dependency.{Dependency, is_package_name}
 use Rattle.dep_core.specs.Reading.{dependency_of}
@@ -19,16 +19,16 @@ use Rattle.dep_core.specs.Spelling.{SpellsDependency}
 use Rattle.version_core.specs.Order.{is_version}
 use Rattle.make_core.specs.make_info.declared.field.Field.{Field}
 use Rattle.make_core.specs.make_info.declared.field.Field.TheVariants as Fields
-use Rattle.make_core.specs.make_info.Fields.{FieldValue, text, number, need, dependency_value_and_others, decimal_number, dependency_if_untagged, is_nonempty, kind_of_field, untagged_dependency_in, dependency_values_in, nonempty_parts_between_spaces, text_value_if, text_values, field_values_of_decoded_hex, values_by_kind}
+use Rattle.make_core.specs.make_info.Fields.{TextNumberOrDependency, text, number, need, dependency_value_and_others, decimal_number_without_leading_zeros, dependency_if_untagged, is_nonempty, kind_of_field, untagged_dependency_in, dependency_values_of_parts, nonempty_parts_between_spaces, text_value_if, text_values, field_values_of_decoded_hex, values_by_kind}
 use Rattle.make_laws.specs.OptionGrammar.{SaysDependencies, SaysNumber, FieldTextGivesValues, SaysText, SpellDependencies, SpellsBytes, SpellsNumber, spaced_parts}
 
 -- ---- texts
 
-text_to : (b : Bool) (value : List ℕ) (said : List FieldValue) → text_value_if b value ≡ Some said → (b ≡ true) × SaysText value said
+text_to : (b : Bool) (value : List ℕ) (said : List TextNumberOrDependency) → text_value_if b value ≡ Some said → (b ≡ true) × SaysText value said
 text_to true value said e = let same : text value ∷ [] ≡ said = cc (e) in (refl, sym same)
 text_to false value said e = absurd (cc (e))
 
-text_from : (b : Bool) (value : List ℕ) (said : List FieldValue) → b ≡ true → SaysText value said → text_value_if b value ≡ Some said
+text_from : (b : Bool) (value : List ℕ) (said : List TextNumberOrDependency) → b ≡ true → SaysText value said → text_value_if b value ≡ Some said
 text_from b value said is e = ap (λ (c : Bool). text_value_if c value) is ∙ ap Some (sym e)
 
 -- ---- pairs of digits
@@ -85,7 +85,7 @@ decoded_from digits bytes s =
     let two = two_each digits bytes s in
     decode_of-even digits (omega arith) ∙ bytes_from 0 digits bytes s
 
-hex_to : (r : Result (List ℕ) FromHexError) (said : List FieldValue) → field_values_of_decoded_hex r ≡ Some said → (bytes : List ℕ) × (r ≡ Ok bytes) × (said ≡ text bytes ∷ [])
+hex_to : (r : Result (List ℕ) FromHexError) (said : List TextNumberOrDependency) → field_values_of_decoded_hex r ≡ Some said → (bytes : List ℕ) × (r ≡ Ok bytes) × (said ≡ text bytes ∷ [])
 hex_to (Ok bytes) said e = let same : text bytes ∷ [] ≡ said = cc (e) in (bytes, refl, sym same)
 hex_to (Err f) said e = absurd (cc (e))
 
@@ -106,9 +106,9 @@ alone (d ∷ ds) h z some = by_rest ds (not-true (has_superfluous_leading_zero (
         let yes : ((d == 48) && nat_lt 0 (length (e ∷ es))) ≡ true = and_from (d == 48) (nat_lt 0 (length (e ∷ es))) (eq-eqb d 48 z) (lt-ltb 0 (length (e ∷ es)) (omega arith)) in
         absurd (cc (f, yes))
 
-number_to : (value : List ℕ) (n : ℕ) → decimal_number value ≡ Some n → SpellsNumber value n
+number_to : (value : List ℕ) (n : ℕ) → decimal_number_without_leading_zeros value ≡ Some n → SpellsNumber value n
 number_to value n e =
-    let both = if_both (is_decimal value) (nat_lt (digits_value 10 value) (2 ^ 64)) (digits_value 10 value) n e in
+    let both = if_both (is_decimal_without_leading_zeros value) (nat_lt (digits_value 10 value) (2 ^ 64)) (digits_value 10 value) n e in
     let small : digits_value 10 value < 2 ^ 64 = ltb-true (digits_value 10 value) (2 ^ 64) both.1 in
     let some : 0 < length value = decimal_some value both.0 in
     let parts = and_parts (nat_lt 0 (length value)) (not (has_superfluous_leading_zero value)) (and_parts (nat_lt 0 (length value) && not (has_superfluous_leading_zero value)) (list_all is_ascii_digit value) both.0).0 in
@@ -125,28 +125,28 @@ no_zero_of zero small =
     ap (λ (ds : List ℕ). not (has_superfluous_leading_zero ds)) is
 no_zero_of (suc n) small = no_zero (decimal (suc n)) (first_decimal (suc n) (omega arith) small)
 
-number_from : (value : List ℕ) (n : ℕ) → SpellsNumber value n → decimal_number value ≡ Some n
+number_from : (value : List ℕ) (n : ℕ) → SpellsNumber value n → decimal_number_without_leading_zeros value ≡ Some n
 number_from value n s =
     let ds : List ℕ = decimal n in
     let read : digits_value 10 ds ≡ n = digits_value-decimal digits_model n s.0 in
-    let good : is_decimal ds ≡ true =
+    let good : is_decimal_without_leading_zeros ds ≡ true =
     and_from (nat_lt 0 (length ds) && not (has_superfluous_leading_zero ds)) (list_all is_ascii_digit ds)
     (and_from (nat_lt 0 (length ds)) (not (has_superfluous_leading_zero ds)) (lt-ltb 0 (length ds) (decimal_nonempty n s.0)) (no_zero_of n s.0))
     (digits_decimal digits_model n s.0) in
     let small : nat_lt (digits_value 10 ds) (2 ^ 64) ≡ true = lt-ltb (digits_value 10 ds) (2 ^ 64) (omega (arith, read, s.0)) in
-    ap decimal_number s.1
+    ap decimal_number_without_leading_zeros s.1
     ∙ ((λ k. if good k && small k then Some (digits_value 10 ds) else None) ∙ ap Some read)
 
-numbers_to : (o : Option ℕ) (said : List FieldValue) → option_map (λ n. number n ∷ []) o ≡ Some said → (n : ℕ) × (o ≡ Some n) × (said ≡ number n ∷ [])
+numbers_to : (o : Option ℕ) (said : List TextNumberOrDependency) → option_map (λ n. number n ∷ []) o ≡ Some said → (n : ℕ) × (o ≡ Some n) × (said ≡ number n ∷ [])
 numbers_to (Some n) said e = let same : number n ∷ [] ≡ said = cc (e) in (n, refl, sym same)
 numbers_to None said e = absurd (cc (e))
 
-says_number_to : (value : List ℕ) (said : List FieldValue) → option_map (λ n. number n ∷ []) (decimal_number value) ≡ Some said → SaysNumber value said
+says_number_to : (value : List ℕ) (said : List TextNumberOrDependency) → option_map (λ n. number n ∷ []) (decimal_number_without_leading_zeros value) ≡ Some said → SaysNumber value said
 says_number_to value said e =
-    let (n, is, says) = numbers_to (decimal_number value) said e in
+    let (n, is, says) = numbers_to (decimal_number_without_leading_zeros value) said e in
     (n, number_to value n is, says)
 
-says_number_from : (value : List ℕ) (said : List FieldValue) → SaysNumber value said → option_map (λ n. number n ∷ []) (decimal_number value) ≡ Some said
+says_number_from : (value : List ℕ) (said : List TextNumberOrDependency) → SaysNumber value said → option_map (λ n. number n ∷ []) (decimal_number_without_leading_zeros value) ≡ Some said
 says_number_from value said (n, spells, says) = ap (option_map (λ n. number n ∷ [])) (number_from value n spells) ∙ ap Some (sym says)
 
 -- ---- parts between spaces
@@ -173,11 +173,11 @@ module _ (spelled : (t : List ℕ) (d : Dependency) → dependency_of t ≡ Some
   need_by None d e = absurd (cc (e))
   need_by (Some x) d e = let both = untagged_by x d x.tag refl e in (ap Some both.0, both.1)
 
-  needs_to : (parts : List (List ℕ)) (said : List FieldValue) → dependency_values_in parts ≡ Some said → SpellDependencies parts said
+  needs_to : (parts : List (List ℕ)) (said : List TextNumberOrDependency) → dependency_values_of_parts parts ≡ Some said → SpellDependencies parts said
   needs_to [] said e = let same : [] ≡ said = cc (e) in subst (SpellDependencies []) same tt
-  needs_to (part ∷ parts) said e = by_both (untagged_dependency_in part) (dependency_values_in parts) refl (needs_to parts) e
+  needs_to (part ∷ parts) said e = by_both (untagged_dependency_in part) (dependency_values_of_parts parts) refl (needs_to parts) e
     where
-      by_both : (od : Option Dependency) (os : Option (List FieldValue)) → untagged_dependency_in part ≡ od → ((more : List FieldValue) → os ≡ Some more → SpellDependencies parts more)
+      by_both : (od : Option Dependency) (os : Option (List TextNumberOrDependency)) → untagged_dependency_in part ≡ od → ((more : List TextNumberOrDependency) → os ≡ Some more → SpellDependencies parts more)
           → dependency_value_and_others od os ≡ Some said → SpellDependencies (part ∷ parts) said
       by_both (Some d) (Some more) is further e =
           let same : need d ∷ more ≡ said = cc (e) in
@@ -186,7 +186,7 @@ module _ (spelled : (t : List ℕ) (d : Dependency) → dependency_of t ≡ Some
       by_both (Some d) None is further e = absurd (cc (e))
       by_both None os is further e = absurd (cc (e))
 
-  needs_from : (parts : List (List ℕ)) (said : List FieldValue) → SpellDependencies parts said → dependency_values_in parts ≡ Some said
+  needs_from : (parts : List (List ℕ)) (said : List TextNumberOrDependency) → SpellDependencies parts said → dependency_values_of_parts parts ≡ Some said
   needs_from [] [] s = refl
   needs_from [] (x ∷ xs) s = absurd s
   needs_from (part ∷ parts) [] s = absurd s
@@ -197,29 +197,29 @@ module _ (spelled : (t : List ℕ) (d : Dependency) → dependency_of t ≡ Some
       let more = needs_from parts xs s.1 in
       λ k. dependency_value_and_others (one k) (more k)
 
-  says_needs_to : (value : List ℕ) (said : List FieldValue) → dependency_values_in (nonempty_parts_between_spaces value) ≡ Some said → SaysDependencies value said
-  says_needs_to value said e = needs_to (spaced_parts value) said (ap dependency_values_in (sym (same_parts value)) ∙ e)
+  says_needs_to : (value : List ℕ) (said : List TextNumberOrDependency) → dependency_values_of_parts (nonempty_parts_between_spaces value) ≡ Some said → SaysDependencies value said
+  says_needs_to value said e = needs_to (spaced_parts value) said (ap dependency_values_of_parts (sym (same_parts value)) ∙ e)
 
-  says_needs_from : (value : List ℕ) (said : List FieldValue) → SaysDependencies value said → dependency_values_in (nonempty_parts_between_spaces value) ≡ Some said
-  says_needs_from value said s = ap dependency_values_in (same_parts value) ∙ needs_from (spaced_parts value) said s
+  says_needs_from : (value : List ℕ) (said : List TextNumberOrDependency) → SaysDependencies value said → dependency_values_of_parts (nonempty_parts_between_spaces value) ≡ Some said
+  says_needs_from value said s = ap dependency_values_of_parts (same_parts value) ∙ needs_from (spaced_parts value) said s
 
   -- ---- field by field
 
-  tags_to : (value : List ℕ) (said : List FieldValue) → Some (text_values (nonempty_parts_between_spaces value)) ≡ Some said → said ≡ map text (spaced_parts value)
+  tags_to : (value : List ℕ) (said : List TextNumberOrDependency) → Some (text_values (nonempty_parts_between_spaces value)) ≡ Some said → said ≡ map text (spaced_parts value)
   tags_to value said e = let same : text_values (nonempty_parts_between_spaces value) ≡ said = cc (e) in sym same ∙ ap (map text) (same_parts value)
 
-  tags_from : (value : List ℕ) (said : List FieldValue) → said ≡ map text (spaced_parts value) → Some (text_values (nonempty_parts_between_spaces value)) ≡ Some said
+  tags_from : (value : List ℕ) (said : List TextNumberOrDependency) → said ≡ map text (spaced_parts value) → Some (text_values (nonempty_parts_between_spaces value)) ≡ Some said
   tags_from value said e = ap Some (ap (map text) (same_parts value) ∙ sym e)
 
-  hex_said_to : (value : List ℕ) (said : List FieldValue) → field_values_of_decoded_hex (decode_of value) ≡ Some said → (bytes : List ℕ) × SpellsBytes value bytes × (said ≡ text bytes ∷ [])
+  hex_said_to : (value : List ℕ) (said : List TextNumberOrDependency) → field_values_of_decoded_hex (decode_of value) ≡ Some said → (bytes : List ℕ) × SpellsBytes value bytes × (said ≡ text bytes ∷ [])
   hex_said_to value said e =
       let (bytes, is, says) = hex_to (decode_of value) said e in
       (bytes, decoded_to value bytes is, says)
 
-  hex_said_from : (value : List ℕ) (said : List FieldValue) → (bytes : List ℕ) × SpellsBytes value bytes × (said ≡ text bytes ∷ []) → field_values_of_decoded_hex (decode_of value) ≡ Some said
+  hex_said_from : (value : List ℕ) (said : List TextNumberOrDependency) → (bytes : List ℕ) × SpellsBytes value bytes × (said ≡ text bytes ∷ []) → field_values_of_decoded_hex (decode_of value) ≡ Some said
   hex_said_from value said (bytes, spells, says) = ap field_values_of_decoded_hex (decoded_from value bytes spells) ∙ ap Some (sym says)
 
-  pub says_to : (f : Field) (value : List ℕ) (said : List FieldValue) → values_by_kind (kind_of_field f) value ≡ Some said → FieldTextGivesValues f value said
+  pub says_to : (f : Field) (value : List ℕ) (said : List TextNumberOrDependency) → values_by_kind (kind_of_field f) value ≡ Some said → FieldTextGivesValues f value said
   says_to Fields.Name value said e = text_to (is_package_name value) value said e
   says_to Fields.Version value said e = text_to (is_version value) value said e
   says_to Fields.Description value said e = (text_to true value said e).1
@@ -239,7 +239,7 @@ module _ (spelled : (t : List ℕ) (d : Dependency) → dependency_of t ≡ Some
   says_to Fields.Recommends value said e = says_needs_to value said e
   says_to Fields.Tags value said e = tags_to value said e
 
-  pub says_from : (f : Field) (value : List ℕ) (said : List FieldValue) → FieldTextGivesValues f value said → values_by_kind (kind_of_field f) value ≡ Some said
+  pub says_from : (f : Field) (value : List ℕ) (said : List TextNumberOrDependency) → FieldTextGivesValues f value said → values_by_kind (kind_of_field f) value ≡ Some said
   says_from Fields.Name value said s = text_from (is_package_name value) value said s.0 s.1
   says_from Fields.Version value said s = text_from (is_version value) value said s.0 s.1
   says_from Fields.Description value said s = text_from true value said refl s

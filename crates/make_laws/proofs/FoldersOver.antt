@@ -9,7 +9,7 @@ use Rattle.make_core.specs.adb_fields.Repeated.{folders_in, name_of}
 use Rattle.adb_view.specs.Plain.{Plain}
 use Rattle.base_core.specs.Files.{IsFolderOf}
 use Rattle.command_core.specs.Command.{CommandLine}
-use Rattle.command_core.specs.Files.{without_dot_slash}
+use Rattle.command_core.specs.Files.{without_one_leading_dot_slash}
 use Rattle.command_core.specs.declared.values.OptionValue.{OptionValue}
 use Rattle.make_core.specs.make_info.Reads.{Reads}
 use Rattle.make_core.specs.package_files.Folders.{prefixes_before_slashes, all_folders_above, folder_listings_by_tree_names, folders_above, is_slash, folder_listing_by_tree_names, path_relative_to}
@@ -90,16 +90,16 @@ module _ (dir : List ℕ) (names : List (List ℕ)) (all : AreListed dir names) 
       (λ h. over_one f (subst (IsIn f) e h), λ h. subst (IsIn f) (sym e) (one_over f h))
 
 names_read : (read : Reads) (n place : ℕ) (dir : List ℕ) (names : List (List ℕ)) (sources : List SourceFolder) (v : OptionValue) (vs : List OptionValue) → source_folders_of_first_option_only read n (v ∷ vs) names ≡ Ok sources
-    → map (λ (s : SourceFolder). s.name) sources ≡ all_folders_above (map (path_relative_to (without_dot_slash v.text)) names)
+    → map (λ (s : SourceFolder). s.name) sources ≡ all_folders_above (map (path_relative_to (without_one_leading_dot_slash v.text)) names)
 unfolding folder_listings_by_tree_names
 names_read read n place dir names sources v vs e =
-    let fs : List (List ℕ) = all_folders_above (map (path_relative_to (without_dot_slash v.text)) names) in
-    listed_names (without_dot_slash v.text) names fs sources (folders_named v.place read n (map (folder_listing_by_tree_names (without_dot_slash v.text) names) fs) sources e)
+    let fs : List (List ℕ) = all_folders_above (map (path_relative_to (without_one_leading_dot_slash v.text)) names) in
+    listed_names (without_one_leading_dot_slash v.text) names fs sources (folders_named v.place read n (map (folder_listing_by_tree_names (without_one_leading_dot_slash v.text) names) fs) sources e)
 
 pub folders_over_paths : AreFolderNames → (command : CommandLine) (names : List (List ℕ)) (read : Reads) (pkg : Plain) (v : OptionValue) (vs : List OptionValue) → AreSortedNamesBelowFirstFolder (values_of_letter FILES command.values) names
-    → values_of_letter FILES command.values ≡ v ∷ vs → IsMadeFrom command names read pkg → HasJustFoldersAbove (without_dot_slash v.text) names pkg
+    → values_of_letter FILES command.values ≡ v ∷ vs → IsMadeFrom command names read pkg → HasJustFoldersAbove (without_one_leading_dot_slash v.text) names pkg
 folders_over_paths law command names read pkg v vs below given m =
-    let dir : List ℕ = without_dot_slash v.text in
+    let dir : List ℕ = without_one_leading_dot_slash v.text in
     let named : AreSortedNamesBelowFirstFolder (v ∷ vs) names = subst (λ (l : List OptionValue). AreSortedNamesBelowFirstFolder l names) given below in
     let read_of : source_folders_of_first_option_only read (length m.scripts) (v ∷ vs) names ≡ Ok m.sources =
     ap (λ (l : List OptionValue). source_folders_of_first_option_only read (length m.scripts) l names) (sym given) ∙ m.sources_read in

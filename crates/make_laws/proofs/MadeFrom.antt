@@ -3,7 +3,7 @@ use Rattle.command_core.specs.declared.values.TheConstants.{FILES, SCRIPT, TRIGG
 use Rattle.std.proofs.Common.{◌≡◌, ℕ, ◌^◌, ◌<◌, List, [], ◌∷◌, length, map, Ok, refl, ap, sym, ◌∙◌}
 use Rattle.make_core.specs.adb_fields.Repeated.{folders_in, list_of}
 use Rattle.make_core.specs.adb_sound.Container.{package_with_contents_from_parts}
-use Rattle.adb_view.specs.Values.{entries_in, entry_in, text_in}
+use Rattle.adb_view.specs.Values.{entries_in, entry_at_index, text_in}
 use Rattle.adb_view.proofs.ValueEntries.{entries_arr, nth_obj, text_blob}
 use Rattle.adb_view.specs.Plain.{Plain, blob_or_null}
 use Rattle.command_core.specs.Command.{CommandLine}
@@ -66,19 +66,19 @@ module _ (command : CommandLine) (names : List (List ℕ)) (read : Reads) (pkg :
   abbrev triggers : List (List ℕ)
   triggers = texts_of (values_of_letter TRIGGER command.values)
 
-  part : (i : ℕ) → entry_in pkg i ≡ entry_in (value_of_package info m.sources m.scripts triggers (replaces_priority m.items)) i
-  part i = ap (λ (v : Plain). entry_in v i) m.value
+  part : (i : ℕ) → entry_at_index pkg i ≡ entry_at_index (value_of_package info m.sources m.scripts triggers (replaces_priority m.items)) i
+  part i = ap (λ (v : Plain). entry_at_index v i) m.value
 
   pub folders_are : folders_in pkg ≡ map value_of_folder m.sources
   folders_are = ap folders_in m.value ∙ folders_stand info m.sources m.scripts triggers (replaces_priority m.items)
 
-  pub info_is : entry_in pkg 0 ≡ info
+  pub info_is : entry_at_index pkg 0 ≡ info
   info_is = part 0 ∙ nth_obj (package_fields info (map value_of_folder m.sources) m.scripts triggers (replaces_priority m.items)) 0
 
-  pub scripts_are : entry_in pkg 2 ≡ value_of_scripts m.scripts
+  pub scripts_are : entry_at_index pkg 2 ≡ value_of_scripts m.scripts
   scripts_are = part 2 ∙ nth_obj (package_fields info (map value_of_folder m.sources) m.scripts triggers (replaces_priority m.items)) 2
 
-  pub priority_is : entry_in pkg 4 ≡ number_or_null (replaces_priority m.items)
+  pub priority_is : entry_at_index pkg 4 ≡ number_or_null (replaces_priority m.items)
   priority_is = part 4 ∙ nth_obj (package_fields info (map value_of_folder m.sources) m.scripts triggers (replaces_priority m.items)) 4
 
   pub triggers_are : HasTriggersOfOptionsInOrder command.values pkg

@@ -14,9 +14,9 @@ use Rattle.make_core.proofs.adb_fields.Members.{from-map}
 use Rattle.make_core.specs.adb_fields.Paths.{path_of}
 use Rattle.make_core.specs.adb_fields.Repeated.{files_in, name_of}
 use Rattle.adb_view.specs.Plain.{Plain}
-use Rattle.base_core.specs.Listed.{AreSortedDistinctNames}
+use Rattle.base_core.specs.Listed.{AreSortedDistinctTexts}
 use Rattle.command_core.specs.Command.{CommandLine}
-use Rattle.command_core.specs.Files.{without_dot_slash}
+use Rattle.command_core.specs.Files.{without_one_leading_dot_slash}
 use Rattle.command_core.specs.declared.values.OptionValue.{OptionValue}
 use Rattle.make_core.specs.make_info.Reads.{Reads}
 use Rattle.make_core.specs.package_files.Folders.{FolderListing, all_folders_above, folder_listings_by_tree_names, folders_above, last_part_of, folder_listing_by_tree_names, tree_names_in_package_folder, path_relative_to}
@@ -35,7 +35,7 @@ all_from_in : {A : Type 0} (P : A → Type 0) (xs : List A) → ((q : A) → IsI
 all_from_in P [] h = All-nil P
 all_from_in P (x ∷ xs) h = All-cons P x xs (h x (inl refl)) (all_from_in P xs (λ q here. h q (inr here)))
 
-pub pairs_rise : (xs : List (List ℕ)) → Rises xs → AreSortedDistinctNames xs
+pub pairs_rise : (xs : List (List ℕ)) → Rises xs → AreSortedDistinctTexts xs
 pairs_rise [] r = λ i j d lt below. absurd (omega arith)
 pairs_rise (x ∷ xs) r = AllPairs-cons (λ a b. cmp a b ≡ Less) x xs (all_from_in (λ q. cmp x q ≡ Less) xs r.0) (pairs_rise xs r.1)
 
@@ -135,7 +135,7 @@ listed_names dir names (f ∷ fs) [] h = absurd h
 listed_names dir names (f ∷ fs) (s ∷ ss) h = λ k. h.0.0 k ∷ listed_names dir names fs ss h.1 k
 
 abbrev HasFilesRising : Plain → Type 0
-HasFilesRising folder = AreSortedDistinctNames (map name_of (files_in folder))
+HasFilesRising folder = AreSortedDistinctTexts (map name_of (files_in folder))
 
 files_rise : (dir : List ℕ) (names fs : List (List ℕ)) (sources : List SourceFolder) → AreListed dir names → Rises names → AllOf IsFolderNamed (map (folder_listing_by_tree_names dir names) fs) sources → All HasFilesRising (map value_of_folder sources)
 files_rise dir names [] [] all rises h = All-nil HasFilesRising
@@ -143,11 +143,11 @@ files_rise dir names [] (s ∷ ss) all rises h = absurd h
 files_rise dir names (f ∷ fs) [] all rises h = absurd h
 files_rise dir names (f ∷ fs) (s ∷ ss) all rises h =
     All-cons HasFilesRising (value_of_folder s) (map value_of_folder ss)
-    (subst AreSortedDistinctNames (sym (ap (map name_of) (files_stand s) ∙ (file_names_stand s.files ∙ h.0.1))) (pairs_rise _ (parts_rise dir f names all rises)))
+    (subst AreSortedDistinctTexts (sym (ap (map name_of) (files_stand s) ∙ (file_names_stand s.files ∙ h.0.1))) (pairs_rise _ (parts_rise dir f names all rises)))
     (files_rise dir names fs ss all rises h.1)
 
 abbrev AreInOrder : List SourceFolder → Type 0
-AreInOrder sources = AreSortedDistinctNames (names_of sources) × All HasFilesRising (map value_of_folder sources)
+AreInOrder sources = AreSortedDistinctTexts (names_of sources) × All HasFilesRising (map value_of_folder sources)
 
 sources_in_order : (read : Reads) (n : ℕ) (values : List OptionValue) (names : List (List ℕ)) (sources : List SourceFolder) → AreSortedNamesBelowFirstFolder values names → source_folders_of_first_option_only read n values names ≡ Ok sources → AreInOrder sources
 unfolding folder_listings_by_tree_names
@@ -155,10 +155,10 @@ sources_in_order read n [] names sources below e =
     let same : [] ≡ sources = cc (e) in
     subst AreInOrder same (pairs_rise [] tt, All-nil HasFilesRising)
 sources_in_order read n (v ∷ vs) names sources below e =
-    let dir : List ℕ = without_dot_slash v.text in
+    let dir : List ℕ = without_one_leading_dot_slash v.text in
     let fs : List (List ℕ) = all_folders_above (map (path_relative_to dir) names) in
     let are = folders_named v.place read n (map (folder_listing_by_tree_names dir names) fs) sources e in (
-      subst AreSortedDistinctNames (sym (listed_names dir names fs sources are)) (pairs_rise fs (in_order_rises (flat_map folders_above (map (path_relative_to dir) names)))),
+      subst AreSortedDistinctTexts (sym (listed_names dir names fs sources are)) (pairs_rise fs (in_order_rises (flat_map folders_above (map (path_relative_to dir) names)))),
       files_rise dir names fs sources (are_listed dir names below.each) (rises_from_pairs names below.rising) are,
     )
 
@@ -167,6 +167,6 @@ in_byte_order command names read pkg below m =
     let are = folders_are command names read pkg m in
     let order = sources_in_order read (length m.scripts) (values_of_letter FILES command.values) names m.sources below m.sources_read in
     record {
-      folders = subst AreSortedDistinctNames (sym (ap (map name_of) are ∙ folder_names_stand m.sources)) order.0;
+      folders = subst AreSortedDistinctTexts (sym (ap (map name_of) are ∙ folder_names_stand m.sources)) order.0;
       files = subst (All HasFilesRising) (sym are) order.1;
     }

@@ -5,7 +5,7 @@ use Rattle.make_core.specs.adb_fields.FirstPair.{IsIn}
 use Rattle.adb_view.proofs.ValueEntries.{nth_obj}
 use Rattle.adb_view.specs.declared.tables.Which.TheVariants.{Scripts}
 use Rattle.adb_view.specs.Plain.{Plain, blob_or_null}
-use Rattle.command_core.specs.Files.{without_dot_slash}
+use Rattle.command_core.specs.Files.{without_one_leading_dot_slash}
 use Rattle.command_core.specs.Values.{script_file, script_type, script_types}
 use Rattle.command_core.specs.declared.values.OptionValue.{OptionValue}
 use Rattle.make_core.specs.make_info.Reads.{Reads}
@@ -19,14 +19,14 @@ use Rattle.make_laws.specs.ScriptFiles.{IsNotGiven, IsScriptOfOptionsOrNull}
 module _ (read : Reads) where
   -- an option gives a script of its type, with the bytes that are found
   abbrev IsReadFrom : OptionValue → Script → Type 0
-  IsReadFrom v s = (script_type v.text ≡ s.field) × ((n : ℕ) × (read n (without_dot_slash (script_file v.text)) ≡ Some s.bytes))
+  IsReadFrom v s = (script_type v.text ≡ s.field) × ((n : ℕ) × (read n (without_one_leading_dot_slash (script_file v.text)) ≡ Some s.bytes))
 
   script_is : (n : ℕ) (v : OptionValue) (s : Script) → script_at read n v ≡ Ok s → IsReadFrom v s
   script_is n v s e =
-      let one = after_ok (found_bytes_or_missing v.place (read n (without_dot_slash (script_file v.text)))) (λ bytes. Ok (script_with (script_type v.text) bytes)) s e in
+      let one = after_ok (found_bytes_or_missing v.place (read n (without_one_leading_dot_slash (script_file v.text)))) (λ bytes. Ok (script_with (script_type v.text) bytes)) s e in
       let gives = one.gives in
       let same : script_with (script_type v.text) one.x ≡ s = cc (gives) in
-      subst (IsReadFrom v) same (refl, (n, found_is v.place (read n (without_dot_slash (script_file v.text))) one.x one.is))
+      subst (IsReadFrom v) same (refl, (n, found_is v.place (read n (without_one_leading_dot_slash (script_file v.text))) one.x one.is))
 
   further : (type : List ℕ) (v : OptionValue) (vs : List OptionValue) (script : Plain) → (script_type v.text ≡ type → ⊥) → IsScriptOfOptionsOrNull read vs type script → IsScriptOfOptionsOrNull read (v ∷ vs) type script
   further type v vs script other (inl (bytes, g, e)) =

@@ -11,8 +11,8 @@ use Rattle.dep_core.specs.Reading.{dependency_of}
 use Rattle.dep_core.specs.Spelling.{SpellsDependency}
 use Rattle.make_core.specs.make_info.declared.field.Field.{Field}
 use Rattle.make_core.specs.make_info.declared.field.Field.TheVariants as Fields
-use Rattle.make_core.specs.make_info.Fields.{FieldValue, field_word, kind_of_field, may_repeat, values_by_kind}
-use Rattle.make_core.specs.make_info.FieldTexts.{FieldText, field_text_in, is_option_for_field, is_same_field, gives_value_for_field}
+use Rattle.make_core.specs.make_info.Fields.{TextNumberOrDependency, field_word, kind_of_field, may_repeat, values_by_kind}
+use Rattle.make_core.specs.make_info.FieldTexts.{FieldText, field_text_in, has_text_for_field_whatever_letter, is_same_field, is_field_text_for_field}
 use Rattle.make_core.specs.make_info.Information.{items_of_text, offends, gives_single_field_again, items_followed_by_values_of_field}
 use Rattle.make_core.proofs.make_info.Reading.{same_field}
 use Rattle.make_laws.specs.OptionGrammar.{IsGivenFor, IsAcceptedInfoOption, is_list_field, option_text}
@@ -41,30 +41,30 @@ list_is Fields.Tags = refl
 
 -- ---- whether an option is for a field
 
-for_is : (f : Field) (v : OptionValue) → is_option_for_field f v ≡ true → IsGivenFor f v
+for_is : (f : Field) (v : OptionValue) → has_text_for_field_whatever_letter f v ≡ true → IsGivenFor f v
 for_is f v e = by_text (field_text_in v.text) refl e
   where
-    by_text : (o : Option FieldText) → field_text_in v.text ≡ o → gives_value_for_field f o ≡ true → IsGivenFor f v
+    by_text : (o : Option FieldText) → field_text_in v.text ≡ o → is_field_text_for_field f o ≡ true → IsGivenFor f v
     by_text None is e = absurd (cc (e))
     by_text (Some g) is e = (g.value, text_is v.text g is ∙ ap (λ (h : Field). option_text h g.value) (same_field g.field f e))
 
-for_given : (f : Field) (v : OptionValue) → IsGivenFor f v → is_option_for_field f v ≡ true
+for_given : (f : Field) (v : OptionValue) → IsGivenFor f v → has_text_for_field_whatever_letter f v ≡ true
 for_given f v (value, e) =
-    ap (gives_value_for_field f) (ap field_text_in e ∙ given f value) ∙ (bytes_eq-Decides (field_word f) (field_word f)).1 refl
+    ap (is_field_text_for_field f) (ap field_text_in e ∙ given f value) ∙ (bytes_eq-Decides (field_word f) (field_word f)).1 refl
 
-none_before : (f : Field) (before : List OptionValue) → list_any (is_option_for_field f) before ≡ false → (other : OptionValue) → IsIn other before → IsGivenFor f other → ⊥
+none_before : (f : Field) (before : List OptionValue) → list_any (has_text_for_field_whatever_letter f) before ≡ false → (other : OptionValue) → IsIn other before → IsGivenFor f other → ⊥
 none_before f [] e other h g = h
 none_before f (v ∷ vs) e other (inl is) g =
-    let no = (or_parts (is_option_for_field f v) (list_any (is_option_for_field f) vs) e).0 in
-    let yes = ap (is_option_for_field f) (sym is) ∙ for_given f other g in
+    let no = (or_parts (has_text_for_field_whatever_letter f v) (list_any (has_text_for_field_whatever_letter f) vs) e).0 in
+    let yes = ap (has_text_for_field_whatever_letter f) (sym is) ∙ for_given f other g in
     cc (no, yes)
-none_before f (v ∷ vs) e other (inr h) g = none_before f vs (or_parts (is_option_for_field f v) (list_any (is_option_for_field f) vs) e).1 other h g
+none_before f (v ∷ vs) e other (inr h) g = none_before f vs (or_parts (has_text_for_field_whatever_letter f v) (list_any (has_text_for_field_whatever_letter f) vs) e).1 other h g
 
-none_given : (f : Field) (before : List OptionValue) → ((other : OptionValue) → IsIn other before → IsGivenFor f other → ⊥) → list_any (is_option_for_field f) before ≡ false
+none_given : (f : Field) (before : List OptionValue) → ((other : OptionValue) → IsIn other before → IsGivenFor f other → ⊥) → list_any (has_text_for_field_whatever_letter f) before ≡ false
 none_given f [] none = refl
-none_given f (v ∷ vs) none = by_test (is_option_for_field f v) refl (none_given f vs (λ o h g. none o (inr h) g))
+none_given f (v ∷ vs) none = by_test (has_text_for_field_whatever_letter f v) refl (none_given f vs (λ o h g. none o (inr h) g))
   where
-    by_test : (b : Bool) → is_option_for_field f v ≡ b → list_any (is_option_for_field f) vs ≡ false → (b || list_any (is_option_for_field f) vs) ≡ false
+    by_test : (b : Bool) → has_text_for_field_whatever_letter f v ≡ b → list_any (has_text_for_field_whatever_letter f) vs ≡ false → (b || list_any (has_text_for_field_whatever_letter f) vs) ≡ false
     by_test true e further = absurd (none v (inl refl) (for_is f v e))
     by_test false e further = further
 
@@ -72,14 +72,14 @@ none_given f (v ∷ vs) none = by_test (is_option_for_field f v) refl (none_give
 
 abbrev offends_given : Bool → List OptionValue → Option FieldText → Bool
 offends_given too_long before o =
-    not (is_some (option_and_then items_of_text o)) || (gives_single_field_again before o || (too_long && gives_value_for_field Fields.Version o))
+    not (is_some (option_and_then items_of_text o)) || (gives_single_field_again before o || (too_long && is_field_text_for_field Fields.Version o))
 
-some_said : (f : Field) (o : Option (List FieldValue)) → not (is_some (items_followed_by_values_of_field [] f o)) ≡ false → (said : List FieldValue) × (o ≡ Some said)
+some_said : (f : Field) (o : Option (List TextNumberOrDependency)) → not (is_some (items_followed_by_values_of_field [] f o)) ≡ false → (said : List TextNumberOrDependency) × (o ≡ Some said)
 some_said f None e = absurd (cc (e))
 some_said f (Some said) e = (said, refl)
 
-said_some : (f : Field) (o : Option (List FieldValue)) (said : List FieldValue) → o ≡ Some said → not (is_some (items_followed_by_values_of_field [] f o)) ≡ false
-said_some f o said e = ap (λ (x : Option (List FieldValue)). not (is_some (items_followed_by_values_of_field [] f x))) e
+said_some : (f : Field) (o : Option (List TextNumberOrDependency)) (said : List TextNumberOrDependency) → o ≡ Some said → not (is_some (items_followed_by_values_of_field [] f o)) ≡ false
+said_some f o said e = ap (λ (x : Option (List TextNumberOrDependency)). not (is_some (items_followed_by_values_of_field [] f x))) e
 
 single_any : (l a : Bool) → (not l && a) ≡ false → l ≡ false → a ≡ false
 single_any true a e is = absurd (cc (is))
@@ -120,7 +120,7 @@ module _ (spelled : (t : List ℕ) (d : Dependency) → dependency_of t ≡ Some
         given = text_is v.text g is;
         said = said.0;
         allowed = says_to spelled read f g.value said.0 said.1;
-        first = λ single other h for. none_before f before (single_any (may_repeat (kind_of_field f)) (list_any (is_option_for_field f) before) two.0 (list_is f ∙ single)) other h for;
+        first = λ single other h for. none_before f before (single_any (may_repeat (kind_of_field f)) (list_any (has_text_for_field_whatever_letter f) before) two.0 (list_is f ∙ single)) other h for;
         short = version_apart too_long f two.1;
       }
 
@@ -133,7 +133,7 @@ module _ (spelled : (t : List ℕ) (d : Dependency) → dependency_of t ≡ Some
       let g : Option FieldText = Some (record { field = f; value = t.value }) in
       let is : field_text_in v.text ≡ g = ap field_text_in t.given ∙ given f t.value in
       ap (offends_given too_long before) is
-      ∙ all_false (not (is_some (items_followed_by_values_of_field [] f (values_by_kind (kind_of_field f) t.value)))) (not (may_repeat (kind_of_field f)) && list_any (is_option_for_field f) before) (too_long && is_same_field f Fields.Version)
+      ∙ all_false (not (is_some (items_followed_by_values_of_field [] f (values_by_kind (kind_of_field f) t.value)))) (not (may_repeat (kind_of_field f)) && list_any (has_text_for_field_whatever_letter f) before) (too_long && is_same_field f Fields.Version)
       (said_some f (values_by_kind (kind_of_field f) t.value) t.said (says_from spelled read f t.value t.said t.allowed))
-      (any_single (may_repeat (kind_of_field f)) (list_any (is_option_for_field f) before) (λ single. none_given f before (t.first (sym (list_is f) ∙ single))))
+      (any_single (may_repeat (kind_of_field f)) (list_any (has_text_for_field_whatever_letter f) before) (λ single. none_given f before (t.first (sym (list_is f) ∙ single))))
       (apart_version too_long f t.short)

@@ -15,9 +15,9 @@ use Rattle.dep_core.specs.Reading.{dependency_of}
 use Rattle.dep_core.specs.Spelling.{SpellsDependency}
 use Rattle.make_core.specs.make_info.declared.field.Field.{Field}
 use Rattle.make_core.specs.make_info.declared.field.Field.TheVariants as Fields
-use Rattle.make_core.specs.make_info.Fields.{FieldValue, text, number, need, field_word, kind_of_field, values_by_kind}
-use Rattle.make_core.specs.make_info.FieldTexts.{FieldText, field_text_in, is_same_field, is_default_output_too_long, values_of_info_options}
-use Rattle.make_core.specs.make_info.Information.{FieldWithValue, items_of_valid_options, place_of_first_offending_option_after, field_with_value, information_fields_with_installed_size, information_of_options_before_place, information_value_with_installed_size, is_item_for, item_value_or_null, items_of_option, items_of_text, lacks_name_or_version, number_in, offends, plain_value, plain_values_of_field, replaces_priority, unless_offence, value_of_list_field, value_of_single_field, items_followed_by_values_of_field}
+use Rattle.make_core.specs.make_info.Fields.{TextNumberOrDependency, text, number, need, field_word, kind_of_field, values_by_kind}
+use Rattle.make_core.specs.make_info.FieldTexts.{FieldText, field_text_in, is_same_field, is_output_default_and_too_long, values_of_info_options}
+use Rattle.make_core.specs.make_info.Information.{FieldWithValue, items_of_valid_options, first_offence_place_by_output_length_after, field_with_value, information_fields_with_installed_size, information_with_missing_reported_at_place, information_value_with_installed_size, is_item_for, item_value_or_null, items_of_option, items_of_text, lacks_name_or_version, number_in, offends, plain_value, plain_values_of_field, replaces_priority, unless_offence, value_of_list_field, value_of_single_field, items_followed_by_values_of_field}
 use Rattle.make_core.specs.make_info.Values.{number_or_null}
 use Rattle.make_core.proofs.make_info.Reading.{same_field}
 use Rattle.make_laws.specs.NamedFields.{field_named}
@@ -28,7 +28,7 @@ use Rattle.make_laws.proofs.OptionTexts.{given, text_is}
 
 -- ---- the values of a field among items
 
-abbrev pub values_for : Field → List FieldWithValue → List FieldValue
+abbrev pub values_for : Field → List FieldWithValue → List TextNumberOrDependency
 values_for f items = map (λ (i : FieldWithValue). i.value) (filter (is_item_for f) items)
 
 values_append : (f : Field) (xs ys : List FieldWithValue) → values_for f (xs ++ ys) ≡ values_for f xs ++ values_for f ys
@@ -38,16 +38,16 @@ values_append f (x ∷ xs) ys = by_test (is_item_for f x) (values_append f xs ys
     by_test : (b : Bool) → values_for f (xs ++ ys) ≡ values_for f xs ++ values_for f ys
         → map (λ (i : FieldWithValue). i.value) (cond b (x ∷ filter (is_item_for f) (xs ++ ys)) (filter (is_item_for f) (xs ++ ys)))
         ≡ map (λ (i : FieldWithValue). i.value) (cond b (x ∷ filter (is_item_for f) xs) (filter (is_item_for f) xs)) ++ values_for f ys
-    by_test true e = ap (λ (l : List FieldValue). x.value ∷ l) e
+    by_test true e = ap (λ (l : List TextNumberOrDependency). x.value ∷ l) e
     by_test false e = e
 
-own_values : (f g : Field) (said : List FieldValue) → is_same_field g f ≡ true → values_for f (map (field_with_value g) said) ≡ said
+own_values : (f g : Field) (said : List TextNumberOrDependency) → is_same_field g f ≡ true → values_for f (map (field_with_value g) said) ≡ said
 own_values f g [] e = refl
 own_values f g (x ∷ xs) e =
     ap (λ (b : Bool). map (λ (i : FieldWithValue). i.value) (cond b (field_with_value g x ∷ filter (is_item_for f) (map (field_with_value g) xs)) (filter (is_item_for f) (map (field_with_value g) xs)))) e
-    ∙ ap (λ (l : List FieldValue). x ∷ l) (own_values f g xs e)
+    ∙ ap (λ (l : List TextNumberOrDependency). x ∷ l) (own_values f g xs e)
 
-other_values : (f g : Field) (said : List FieldValue) → is_same_field g f ≡ false → values_for f (map (field_with_value g) said) ≡ []
+other_values : (f g : Field) (said : List TextNumberOrDependency) → is_same_field g f ≡ false → values_for f (map (field_with_value g) said) ≡ []
 other_values f g [] e = refl
 other_values f g (x ∷ xs) e =
     ap (λ (b : Bool). map (λ (i : FieldWithValue). i.value) (cond b (field_with_value g x ∷ filter (is_item_for f) (map (field_with_value g) xs)) (filter (is_item_for f) (map (field_with_value g) xs)))) e
@@ -56,7 +56,7 @@ other_values f g (x ∷ xs) e =
 -- ---- what the options say
 
 module _ (spelled : (t : List ℕ) (d : Dependency) → dependency_of t ≡ Some d → SpellsDependency t d) (read : (t : List ℕ) (d : Dependency) → SpellsDependency t d → dependency_of t ≡ Some d) where
-  said_by_text : (f : Field) (v : OptionValue) (g : FieldText) (o : Option (List FieldValue)) (items : List FieldWithValue) → field_text_in v.text ≡ Some g → values_by_kind (kind_of_field g.field) g.value ≡ o
+  said_by_text : (f : Field) (v : OptionValue) (g : FieldText) (o : Option (List TextNumberOrDependency)) (items : List FieldWithValue) → field_text_in v.text ≡ Some g → values_by_kind (kind_of_field g.field) g.value ≡ o
       → items_followed_by_values_of_field [] g.field o ≡ Some items → OptionGivesFieldValues f v (values_for f items)
   said_by_text f v g None items is kind e = absurd (cc (e))
   said_by_text f v g (Some said) items is kind e = by_field (is_same_field g.field f) refl
@@ -94,12 +94,12 @@ module _ (spelled : (t : List ℕ) (d : Dependency) → dependency_of t ≡ Some
   allowed_first true b e = refl
   allowed_first false b e = absurd (cc (e))
 
-  pub say_of_field : (f : Field) (too_long : Bool) (before told : List OptionValue) → place_of_first_offending_option_after too_long before told ≡ None → OptionsGiveFieldValues f told (values_for f (items_of_valid_options told))
+  pub say_of_field : (f : Field) (too_long : Bool) (before told : List OptionValue) → first_offence_place_by_output_length_after too_long before told ≡ None → OptionsGiveFieldValues f told (values_for f (items_of_valid_options told))
   say_of_field f too_long before [] e = refl
   say_of_field f too_long before (v ∷ vs) e = by_offence (offends too_long before v) refl e (say_of_field f too_long (before ++ v ∷ []) vs)
     where
-      by_offence : (b : Bool) → offends too_long before v ≡ b → (if b then Some v.place else place_of_first_offending_option_after too_long (before ++ v ∷ []) vs) ≡ None
-          → (place_of_first_offending_option_after too_long (before ++ v ∷ []) vs ≡ None → OptionsGiveFieldValues f vs (values_for f (items_of_valid_options vs))) → OptionsGiveFieldValues f (v ∷ vs) (values_for f (items_of_valid_options (v ∷ vs)))
+      by_offence : (b : Bool) → offends too_long before v ≡ b → (if b then Some v.place else first_offence_place_by_output_length_after too_long (before ++ v ∷ []) vs) ≡ None
+          → (first_offence_place_by_output_length_after too_long (before ++ v ∷ []) vs ≡ None → OptionsGiveFieldValues f vs (values_for f (items_of_valid_options vs))) → OptionsGiveFieldValues f (v ∷ vs) (values_for f (items_of_valid_options (v ∷ vs)))
       by_offence true o e further = absurd (cc (e))
       by_offence false o e further =
           let one = some_items (items_of_option v) (allowed_first (is_some (items_of_option v)) _ o) in
@@ -162,23 +162,23 @@ told_info Fields.Tags items size other = tells_all Fields.Tags items _ (nth_obj 
 -- ---- the priority in replacing
 
 -- each value of the field is a number
-abbrev AreNumbers : List FieldValue → Type 0
+abbrev AreNumbers : List TextNumberOrDependency → Type 0
 AreNumbers [] = Unit {0}
 AreNumbers (text bytes ∷ said) = ⊥
 AreNumbers (number n ∷ said) = AreNumbers said
 AreNumbers (need d ∷ said) = ⊥
 
-numbers_append : (xs ys : List FieldValue) → AreNumbers xs → AreNumbers ys → AreNumbers (xs ++ ys)
+numbers_append : (xs ys : List TextNumberOrDependency) → AreNumbers xs → AreNumbers ys → AreNumbers (xs ++ ys)
 numbers_append [] ys a b = b
 numbers_append (text bytes ∷ xs) ys a b = absurd a
 numbers_append (number n ∷ xs) ys a b = numbers_append xs ys a b
 numbers_append (need d ∷ xs) ys a b = absurd a
 
-one_number : (v : OptionValue) (said : List FieldValue) → OptionGivesFieldValues Fields.ReplacesPriority v said → AreNumbers said
+one_number : (v : OptionValue) (said : List TextNumberOrDependency) → OptionGivesFieldValues Fields.ReplacesPriority v said → AreNumbers said
 one_number v said (inl (value, t, (n, spells, e))) = subst AreNumbers (sym e) tt
 one_number v said (inr (other, e)) = subst AreNumbers (sym e) tt
 
-all_numbers : (told : List OptionValue) (said : List FieldValue) → OptionsGiveFieldValues Fields.ReplacesPriority told said → AreNumbers said
+all_numbers : (told : List OptionValue) (said : List TextNumberOrDependency) → OptionsGiveFieldValues Fields.ReplacesPriority told said → AreNumbers said
 all_numbers [] said e = subst AreNumbers (sym e) tt
 all_numbers (v ∷ vs) said (here, further, one, rest, e) =
     subst AreNumbers (sym e) (numbers_append here further (one_number v here one) (all_numbers vs further rest))
@@ -187,7 +187,7 @@ first_number : (f : Field) (items : List FieldWithValue) → AreNumbers (values_
 first_number f [] all = refl
 first_number f (x ∷ xs) all = by_test (is_item_for f x) all (first_number f xs)
   where
-    own : (y : FieldValue) (said : List FieldValue) → AreNumbers (y ∷ said) → number_or_null (number_in y) ≡ plain_value y
+    own : (y : TextNumberOrDependency) (said : List TextNumberOrDependency) → AreNumbers (y ∷ said) → number_or_null (number_in y) ≡ plain_value y
     own (text bytes) said a = absurd a
     own (number n) said a = refl
     own (need d) said a = absurd a
@@ -206,16 +206,16 @@ told_priority told items say v e =
 -- ---- the information of a command
 
 pub record AreItemsOf (too_long : Bool) (told : List OptionValue) (items : List FieldWithValue) : Type 0 where
-  pub none : place_of_first_offending_option_after too_long [] told ≡ None
+  pub none : first_offence_place_by_output_length_after too_long [] told ≡ None
   pub all : items ≡ items_of_valid_options told
 
-items_by : (too_long : Bool) (told : List OptionValue) (behind : ℕ) (items : List FieldWithValue) (o : Option ℕ) (lacks : Bool) → place_of_first_offending_option_after too_long [] told ≡ o
+items_by : (too_long : Bool) (told : List OptionValue) (behind : ℕ) (items : List FieldWithValue) (o : Option ℕ) (lacks : Bool) → first_offence_place_by_output_length_after too_long [] told ≡ o
     → unless_offence o (if lacks then Err behind else Ok (items_of_valid_options told)) ≡ Ok items → AreItemsOf too_long told items
 items_by too_long told behind items (Some place) lacks is e = absurd (cc (e))
 items_by too_long told behind items None true is e = absurd (cc (e))
 items_by too_long told behind items None false is e = let same : items_of_valid_options told ≡ items = cc (e) in record { none = is; all = sym same }
 
-pub items_of : (values : List OptionValue) (behind : ℕ) (items : List FieldWithValue) → information_of_options_before_place values behind ≡ Ok items → AreItemsOf (is_default_output_too_long values) (values_of_info_options values) items
-unfolding information_of_options_before_place
+pub items_of : (values : List OptionValue) (behind : ℕ) (items : List FieldWithValue) → information_with_missing_reported_at_place values behind ≡ Ok items → AreItemsOf (is_output_default_and_too_long values) (values_of_info_options values) items
+unfolding information_with_missing_reported_at_place
 items_of values behind items e =
-    items_by (is_default_output_too_long values) (values_of_info_options values) behind items (place_of_first_offending_option_after (is_default_output_too_long values) [] (values_of_info_options values)) (lacks_name_or_version (values_of_info_options values)) refl e
+    items_by (is_output_default_and_too_long values) (values_of_info_options values) behind items (first_offence_place_by_output_length_after (is_output_default_and_too_long values) [] (values_of_info_options values)) (lacks_name_or_version (values_of_info_options values)) refl e

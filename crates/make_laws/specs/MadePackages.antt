@@ -11,7 +11,7 @@ use Rattle.adb_view.specs.Values.{int_in, text_in}
 use Rattle.adb_view.specs.declared.tables.Which.TheVariants.{Dir, File, Package, PkgInfo}
 use Rattle.adb_view.specs.Plain.{Plain}
 use Rattle.base_core.specs.Files.{IsFolderOf}
-use Rattle.base_core.specs.Listed.{AreSortedDistinctNames}
+use Rattle.base_core.specs.Listed.{AreSortedDistinctTexts}
 use Rattle.command_core.specs.Command.{CommandLine}
 use Rattle.command_core.specs.declared.values.OptionValue.{OptionValue}
 use Rattle.make_core.specs.FilesBelow.{path_joined_to_folder}
@@ -40,9 +40,9 @@ package_in_container bytes = root_value_of_payload Package (payload_in bytes)
 -- the folders of a package are in byte order of their names, each once, and so are the files of each
 pub record HasFoldersAndFilesInByteOrder (pkg : Plain) : Type 0 where
   -- the names of the folders are in byte order, each once
-  pub folders : AreSortedDistinctNames (map name_of (folders_in pkg))
+  pub folders : AreSortedDistinctTexts (map name_of (folders_in pkg))
   -- the names of the files of each folder are in byte order, each once
-  pub files : All (λ folder. AreSortedDistinctNames (map name_of (files_in folder))) (folders_in pkg)
+  pub files : All (λ folder. AreSortedDistinctTexts (map name_of (files_in folder))) (folders_in pkg)
 
 -- the folder is above the path: it is the root, or the path is below it, at any depth
 abbrev pub IsAbovePath : List ℕ → List ℕ → Type 0

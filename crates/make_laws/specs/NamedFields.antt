@@ -5,7 +5,7 @@ use Rattle.std.specs.Prelude.{◌≡◌, ℕ, suc, List, [], ◌∷◌, codes, i
 use Rattle.std.specs.Str.{bytes_eq}
 use Rattle.make_core.specs.adb_fields.Repeated.{list_of}
 use Rattle.adb_view.specs.Schema.{field_name_text, table}
-use Rattle.adb_view.specs.Values.{entries_in, entry_in}
+use Rattle.adb_view.specs.Values.{entries_in, entry_at_index}
 use Rattle.adb_view.specs.declared.tables.Field.{Field}
 use Rattle.adb_view.specs.declared.tables.Which.{Which}
 use Rattle.adb_view.specs.declared.tables.Which.TheVariants.{Acl}
@@ -21,7 +21,7 @@ place_of_name name (f ∷ fields) =
 -- the value of the field with this name in the object `v` of this table; Null if the object lacks the
 -- field
 abbrev pub field_named : Which → List ℕ → Plain → Plain
-field_named which name v = entry_in v (place_of_name name (table which))
+field_named which name v = entry_at_index v (place_of_name name (table which))
 
 -- the entries of the field with this name in the object `v` of this table; the field is an array
 abbrev pub entries_of_field_named : Which → List ℕ → Plain → List Plain

@@ -12,7 +12,7 @@ use Rattle.dep_core.specs.Spelling.{SpellsDependency}
 use Rattle.version_core.specs.Order.{is_version}
 use Rattle.make_core.specs.make_info.declared.field.Field.{Field}
 use Rattle.make_core.specs.make_info.declared.field.Field.TheVariants as Fields
-use Rattle.make_core.specs.make_info.Fields.{FieldValue, text, number, need, field_word}
+use Rattle.make_core.specs.make_info.Fields.{TextNumberOrDependency, text, number, need, field_word}
 
 -- the text of a value of `-I`: FIELD:VALUE, with a colon (58) between them
 abbrev pub option_text : Field → List ℕ → List ℕ
@@ -41,7 +41,7 @@ spaced_parts value = filter (λ part. not (length part == 0)) (slice_split (λ b
 
 -- each part encodes the dependency at the same place of the other list, which has no tag; both lists have
 -- the same length
-abbrev pub SpellDependencies : List (List ℕ) → List FieldValue → Type 0
+abbrev pub SpellDependencies : List (List ℕ) → List TextNumberOrDependency → Type 0
 SpellDependencies [] [] = Unit {0}
 SpellDependencies [] (value ∷ values) = ⊥
 SpellDependencies (part ∷ parts) [] = ⊥
@@ -53,20 +53,20 @@ SpellDependencies (part ∷ parts) (need d ∷ values) =
 -- ---- field by field
 
 -- the text `value` of a text field gives one value: the text itself
-abbrev pub SaysText : List ℕ → List FieldValue → Type 0
+abbrev pub SaysText : List ℕ → List TextNumberOrDependency → Type 0
 SaysText value said = said ≡ text value ∷ []
 
 -- the text `value` of a number field gives one value: the number that it encodes
-abbrev pub SaysNumber : List ℕ → List FieldValue → Type 0
+abbrev pub SaysNumber : List ℕ → List TextNumberOrDependency → Type 0
 SaysNumber value said = (n : ℕ) × SpellsNumber value n × (said ≡ number n ∷ [])
 
 -- the text `value` of a field of dependencies gives one dependency for each part between spaces that is
 -- not empty
-abbrev pub SaysDependencies : List ℕ → List FieldValue → Type 0
+abbrev pub SaysDependencies : List ℕ → List TextNumberOrDependency → Type 0
 SaysDependencies value said = SpellDependencies (spaced_parts value) said
 
 -- the text `value` is valid for the field, and gives the field the values `said`
-abbrev pub FieldTextGivesValues : Field → List ℕ → List FieldValue → Type 0
+abbrev pub FieldTextGivesValues : Field → List ℕ → List TextNumberOrDependency → Type 0
 FieldTextGivesValues Fields.Name value said = (is_package_name value ≡ true) × SaysText value said
 FieldTextGivesValues Fields.Version value said = (is_version value ≡ true) × SaysText value said
 FieldTextGivesValues Fields.Description value said = SaysText value said
@@ -115,7 +115,7 @@ pub record IsAcceptedInfoOption (too_long : Bool) (before : List OptionValue) (o
   -- the option is spelled with the field's name and this text
   pub given : option.text ≡ option_text field value
   -- the values that the text gives, several for a list field
-  pub said : List FieldValue
+  pub said : List TextNumberOrDependency
   -- the grammar of the field allows the text, with these values
   pub allowed : FieldTextGivesValues field value said
   -- if the field is no list, no earlier option is given for it

@@ -12,7 +12,7 @@ use Rattle.adb_view.specs.Plain.{Plain, null}
 use Rattle.command_core.specs.declared.values.OptionValue.{OptionValue}
 use Rattle.make_core.specs.make_info.declared.field.Field.{Field}
 use Rattle.make_core.specs.make_info.declared.field.Field.TheVariants as Fields
-use Rattle.make_core.specs.make_info.Fields.{FieldValue, field_word}
+use Rattle.make_core.specs.make_info.Fields.{TextNumberOrDependency, field_word}
 use Rattle.make_core.specs.make_info.Information.{plain_value}
 use Rattle.make_laws.specs.NamedFields.{field_named}
 use Rattle.make_laws.specs.OptionGrammar.{IsGivenFor, FieldTextGivesValues, is_list_field, option_text}
@@ -20,37 +20,37 @@ use Rattle.std.specs.Prelude.{ℕ, codes}
 
 -- a value of `-I` (`option`) gives the field `f` the values `said`: those of its text, if it is for this
 -- field; otherwise none
-abbrev pub OptionGivesFieldValues : Field → OptionValue → List FieldValue → Type 0
+abbrev pub OptionGivesFieldValues : Field → OptionValue → List TextNumberOrDependency → Type 0
 OptionGivesFieldValues f option said =
     ((value : List ℕ) × (option.text ≡ option_text f value) × FieldTextGivesValues f value said)
     ⊎ ((IsGivenFor f option → ⊥) × (said ≡ []))
 
 -- the values of `-I` (`options`) give the field `f` the values `said`, one after the other
-abbrev pub OptionsGiveFieldValues : Field → List OptionValue → List FieldValue → Type 0
+abbrev pub OptionsGiveFieldValues : Field → List OptionValue → List TextNumberOrDependency → Type 0
 OptionsGiveFieldValues f [] said = said ≡ []
 OptionsGiveFieldValues f (option ∷ options) said =
-    (here : List FieldValue) × (further : List FieldValue)
+    (here : List TextNumberOrDependency) × (further : List TextNumberOrDependency)
     × OptionGivesFieldValues f option here × OptionsGiveFieldValues f options further
     × (said ≡ here ++ further)
 
 -- the entries of the plain value are the values of the list, in this order
-abbrev pub HasAllValues : List FieldValue → Plain → Type 0
+abbrev pub HasAllValues : List TextNumberOrDependency → Plain → Type 0
 HasAllValues said v = list_of (entries_in v) ≡ map plain_value said
 
 -- the plain value is the first value of the list, or Null if the list is empty
-abbrev pub HasFirstValue : List FieldValue → Plain → Type 0
+abbrev pub HasFirstValue : List TextNumberOrDependency → Plain → Type 0
 HasFirstValue [] v = v ≡ null
 HasFirstValue (x ∷ said) v = v ≡ plain_value x
 
 -- the plain value has the values of the list: all of them if the field is a list, otherwise the
 -- first
-abbrev pub HasValuesAsList : Bool → List FieldValue → Plain → Type 0
+abbrev pub HasValuesAsList : Bool → List TextNumberOrDependency → Plain → Type 0
 HasValuesAsList true said v = HasAllValues said v
 HasValuesAsList false said v = HasFirstValue said v
 
 -- the plain value of the field has the values of the list: all of them if the field is a list,
 -- otherwise the first
-abbrev pub HasValuesOfField : Field → List FieldValue → Plain → Type 0
+abbrev pub HasValuesOfField : Field → List TextNumberOrDependency → Plain → Type 0
 HasValuesOfField f said v = HasValuesAsList (is_list_field f) said v
 
 -- the value of a field in a package: in its information, except the priority in replacing, which is a
@@ -65,7 +65,7 @@ field_value_in_package f pkg =
 -- options of a command
 pub record HasFieldValuesOfOptions (f : Field) (values : List OptionValue) (pkg : Plain) : Type 0 where
   -- the values that the options give for the field
-  pub said : List FieldValue
+  pub said : List TextNumberOrDependency
   -- the options `-I` give these values
   pub say : OptionsGiveFieldValues f (filter (λ (v : OptionValue). v.letter == INFO) values) said
   -- the field's value in the package has these values

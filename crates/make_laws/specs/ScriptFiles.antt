@@ -5,7 +5,7 @@ use Rattle.std.specs.Prelude.{◌≡◌, ◌⊎◌, ℕ, List, Some}
 use Rattle.make_core.specs.adb_fields.FirstPair.{IsIn}
 use Rattle.adb_view.specs.declared.tables.Which.TheVariants.{Package, Scripts}
 use Rattle.adb_view.specs.Plain.{Plain, null, blob_or_null}
-use Rattle.command_core.specs.Files.{without_dot_slash}
+use Rattle.command_core.specs.Files.{without_one_leading_dot_slash}
 use Rattle.command_core.specs.Values.{script_file, script_type}
 use Rattle.command_core.specs.declared.values.OptionValue.{OptionValue}
 use Rattle.make_core.specs.make_info.Reads.{Reads}
@@ -24,7 +24,7 @@ pub record IsGivenScript (read : Reads) (options : List OptionValue) (type bytes
   -- the number of the read
   pub number : ℕ
   -- this read of the script's file finds these bytes
-  pub found : read number (without_dot_slash (script_file option.text)) ≡ Some bytes
+  pub found : read number (without_one_leading_dot_slash (script_file option.text)) ≡ Some bytes
 
 -- no option gives a script of this type
 abbrev pub IsNotGiven : List OptionValue → List ℕ → Type 0

@@ -4,7 +4,7 @@
 //! The rules are in `docs/commands.md`, "`mkpkg`" (the table of fields) and "`mkndx PACKAGE..`";
 //! the names of fields in `docs/formats.md`, "Schemas".
 ghost use Rattle.make_core.specs.adb_copy.Zeros.{without_zeros};
-ghost use Rattle.adb_view.specs.Values.{entry_in, int_in, text_in};
+ghost use Rattle.adb_view.specs.Values.{entry_at_index, int_in, text_in};
 ghost use Rattle.adb_view.specs.declared.tables.Which.TheVariants.{Dep, File, Index, Package, PkgInfo};
 ghost use Rattle.adb_view.specs.Plain.{Plain, array_or_null, blob_or_null, int, null};
 ghost use Rattle.command_core.specs.Values.{script_file, script_type};
@@ -14,7 +14,7 @@ ghost use Rattle.dep_core.specs.Value.{dep_value};
 ghost use Rattle.make_core.specs.make_index.Entries.{index_entry_of_package_file};
 ghost use Rattle.make_core.specs.make_index.Index.{value_of_index};
 ghost use Rattle.make_core.specs.make_info.FieldTexts.{field_text_in};
-ghost use Rattle.make_core.specs.make_info.Fields.{FieldValue, kind_of_field, values_by_kind, text, number, need};
+ghost use Rattle.make_core.specs.make_info.Fields.{TextNumberOrDependency, kind_of_field, values_by_kind, text, number, need};
 ghost use Rattle.make_core.specs.make_info.Information.{offends, plain_value};
 ghost use Rattle.make_core.specs.make_info.Values.{number_or_null, plains_of_list};
 ghost use Rattle.make_core.specs.make_info.declared.field.Field.{Field};
@@ -23,7 +23,7 @@ ghost use Rattle.make_laws.specs.NamedFields.{field_named};
 ghost use Rattle.make_laws.specs.OptionGrammar.{IsAcceptedInfoOption, FieldTextGivesValues, option_text};
 ghost use Rattle.make_laws.specs.SourceBytes.{IsLinkTo, AreBytesOfNoLink};
 ghost use Rattle.make_core.specs.package_files.Package.{value_of_file};
-ghost use Rattle.make_core.specs.pkg_core.Whole.{package_id};
+ghost use Rattle.make_core.specs.pkg_core.Whole.{payload_sha256_of_package_file};
 ghost use Rattle.sha2.specs.Sha256.{sha256};
 ghost use Rattle.std.specs.List.{list_any};
 ghost use Rattle.std.specs.Prelude.{◌≡◌, ◌↔◌, ◌==◌, ◌++◌, ◌∷◌, ℕ, Bool, false, List, Some, ◌≢◌, codes, length};
@@ -40,7 +40,7 @@ pub fn a_text_gives_a_value_to_a_field()
 /// A text gives the values `said` to a field by *values_by_kind* exactly if it does so by the
 /// grammar of the field, which is defined here without the program's parsers.
 pub fn a_value_is_taken_by_the_grammar_of_its_field()
-    ensures { (f : Field) (value : List ℕ) (said : List FieldValue)
+    ensures { (f : Field) (value : List ℕ) (said : List TextNumberOrDependency)
         → values_by_kind (kind_of_field f) value ≡ Some said ↔ FieldTextGivesValues f value said }
 {
     // Laws that the proof needs; they compute nothing.
@@ -105,7 +105,7 @@ pub fn an_entry_has_the_values_of_its_package()
     // The field `hashes` is the package's id.
     ensures id { (file : List ℕ)
         → field_named PkgInfo (codes "hashes") (index_entry_of_package_file file)
-        ≡ blob_or_null (package_id file) }
+        ≡ blob_or_null (payload_sha256_of_package_file file) }
     // The field `file-size` is the length of the package's file.
     ensures length { (file : List ℕ)
         → int_in (field_named PkgInfo (codes "file-size") (index_entry_of_package_file file))
@@ -126,7 +126,7 @@ pub fn values_without_zeros_tell_the_same()
     ensures text { (v : Plain) → text_in (without_zeros v) ≡ text_in v }
     // Each entry is that of the value `v`, without zeros.
     ensures entries { (v : Plain) (i : ℕ)
-        → entry_in (without_zeros v) i ≡ without_zeros (entry_in v i) }
+        → entry_at_index (without_zeros v) i ≡ without_zeros (entry_at_index v i) }
     // The result is not the number 0; a 0 has become Null.
     ensures none_zero { (v : Plain) → without_zeros v ≢ int 0 }
 {}

@@ -11,18 +11,18 @@ use Rattle.std.specs.declared.alloc.Global.{Global}
 use Rattle.std.proofs.lemmas.Bool.{and_parts, eq-eqb, eqb-true}
 use Rattle.std.proofs.lemmas.List.Concat.{flat_map-cons}
 use Rattle.std.proofs.lemmas.List.Sums.{sum_by-cons}
-use Rattle.adb_block.specs.Piece.{Piece}
+use Rattle.adb_block.specs.BlockWithoutOffset.{BlockWithoutOffset}
 use Rattle.adb_block.specs.Written.{block_bytes}
 use Rattle.adb_view.specs.Plain.{Plain}
 use Rattle.package_files.specs.adb_schema.declared.read.TheConstants.{PACKAGE_WORD}
-use Rattle.package_files.specs.adb_write.Canonical.{ByteAndValueCounts, canonical, payload_unless_overflow, overflow_of, payload_or_overflow}
+use Rattle.package_files.specs.adb_write.Canonical.{ByteAndValueCounts, canonical, payload_unless_overflow, counts_at_first_overflow, payload_or_counts_at_overflow}
 use Rattle.package_files.specs.adb_write.File.{adb_block_of_payload, file_of}
 use Rattle.package_files.specs.pkg_core.Contents.{Contents}
 use Rattle.command_core.specs.Sound.{value_rules, IsValidCommand, may_both_be_given, value_rule_of_letter, is_allowed_value, are_allowed_values}
 use Rattle.command_core.specs.declared.values.ValueRule.{ValueRule}
 use Rattle.command_core.specs.Command.{CommandLine}
 use Rattle.command_core.specs.Values.{first_value_with_letter, script_file, script_type, script_types}
-use Rattle.command_core.specs.Files.{is_file_argument, without_dot_slash}
+use Rattle.command_core.specs.Files.{is_file_argument, without_one_leading_dot_slash}
 use Rattle.command_core.specs.declared.command.Applet.{Applet}
 use Rattle.command_core.specs.declared.command.Applet.TheVariants.{Mkpkg}
 use Rattle.command_core.specs.declared.values.OptionValue.{OptionValue}
@@ -81,9 +81,9 @@ script_there vs i v h at e =
     subst P (sym at) (e, script_allowed vs i v h at e)
 
 pub script_name : (vs : List OptionValue) (i : ℕ) (v : OptionValue) (name : List ℕ) → slice_get vs i ≡ Some v
-    → option_map (λ (w : OptionValue). without_dot_slash (script_file w.text)) (slice_get vs i) ≡ Some name → name ≡ without_dot_slash (script_file v.text)
+    → option_map (λ (w : OptionValue). without_one_leading_dot_slash (script_file w.text)) (slice_get vs i) ≡ Some name → name ≡ without_one_leading_dot_slash (script_file v.text)
 script_name vs i v name at e =
-    let both : Some name ≡ Some (without_dot_slash (script_file v.text)) = sym e ∙ ap (option_map (λ (w : OptionValue). without_dot_slash (script_file w.text))) at in
+    let both : Some name ≡ Some (without_one_leading_dot_slash (script_file v.text)) = sym e ∙ ap (option_map (λ (w : OptionValue). without_one_leading_dot_slash (script_file w.text))) at in
     cc (both)
 
 -- and that of the option for a folder names one
@@ -121,7 +121,7 @@ first_value_is letter vs first e = first_as first (first_value_with_letter lette
 
 -- the folder that is given
 abbrev folder_in : OptionValue → List ℕ
-folder_in v = without_dot_slash v.text
+folder_in v = without_one_leading_dot_slash v.text
 
 pub record IsFolder (vs : List OptionValue) (folder : List ℕ) : Type 0 where
   pub value : OptionValue
@@ -215,7 +215,7 @@ sizes_held held blocks folders sources h =
 
 pub laid_is : (v : Plain) (contents : List Contents) → file_of PACKAGE_WORD (canonical v) ++ contents_blocks contents ≡ container_of_value_and_contents PACKAGE_WORD v contents
 laid_is v contents =
-    let piece : Piece = adb_block_of_payload (canonical v) in
+    let piece : BlockWithoutOffset = adb_block_of_payload (canonical v) in
     let mark : List ℕ = codes "ADB." in
     let schema : List ℕ = to_le_bytes w32 PACKAGE_WORD in
     let payload : List ℕ = flat_map block_bytes (piece ∷ []) in
@@ -232,10 +232,10 @@ file_ok v contents payload file blocks None w b e =
     ap Ok (sym (e ∙ ap (λ (p : List ℕ). file_of PACKAGE_WORD p ++ blocks) (sym same) ∙ ap (λ (l : List ℕ). file_of PACKAGE_WORD (canonical v) ++ l) b ∙ laid_is v contents))
 file_ok v contents payload file blocks (Some counts) w b e = absurd (cc)
 
-pub package_ok : (v : Plain) (contents : List Contents) (payload file blocks : List ℕ) → payload_or_overflow v ≡ Ok payload → blocks ≡ contents_blocks contents → file ≡ file_of PACKAGE_WORD payload ++ blocks
+pub package_ok : (v : Plain) (contents : List Contents) (payload file blocks : List ℕ) → payload_or_counts_at_overflow v ≡ Ok payload → blocks ≡ contents_blocks contents → file ≡ file_of PACKAGE_WORD payload ++ blocks
     → package_container v contents ≡ Ok file
-unfolding payload_or_overflow package_container
-package_ok v contents payload file blocks w b e = file_ok v contents payload file blocks (overflow_of v) w b e
+unfolding payload_or_counts_at_overflow package_container
+package_ok v contents payload file blocks w b e = file_ok v contents payload file blocks (counts_at_first_overflow v) w b e
 
 file_large : (v : Plain) (contents : List Contents) (bytes values : ℕ) (o : Option ByteAndValueCounts) → payload_unless_overflow (canonical v) o ≡ Err (bytes, values) → container_unless_too_large o v contents ≡ Err (TooLarge bytes values)
 file_large v contents bytes values None w = absurd (cc)
@@ -243,9 +243,9 @@ file_large v contents bytes values (Some counts) w =
     let same : counts ≡ (bytes, values) = cc in
     ap (λ (c : ByteAndValueCounts). Err (TooLarge c.0 c.1)) same
 
-pub package_err : (v : Plain) (contents : List Contents) (fault : MakeFault) → IsOverflowFault fault (payload_or_overflow v) → AgreesOrIsFault IsBytes (Err fault) (package_container v contents)
-unfolding payload_or_overflow package_container
-package_err v contents (TooLarge bytes values) h = file_large v contents bytes values (overflow_of v) h
+pub package_err : (v : Plain) (contents : List Contents) (fault : MakeFault) → IsOverflowFault fault (payload_or_counts_at_overflow v) → AgreesOrIsFault IsBytes (Err fault) (package_container v contents)
+unfolding payload_or_counts_at_overflow package_container
+package_err v contents (TooLarge bytes values) h = file_large v contents bytes values (counts_at_first_overflow v) h
 package_err v contents Disk h = tt
 package_err v contents Memory h = tt
 package_err v contents (FileMissing p) h = absurd h

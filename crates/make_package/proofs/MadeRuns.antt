@@ -11,7 +11,7 @@ use Rattle.base_core.specs.Faults.{Counts}
 use Rattle.base_core.specs.Tree.{TreeState}
 use Rattle.command_core.specs.Command.{CommandLine}
 use Rattle.command_core.specs.Values.{script_file}
-use Rattle.command_core.specs.Files.{without_dot_slash}
+use Rattle.command_core.specs.Files.{without_one_leading_dot_slash}
 use Rattle.command_core.specs.declared.values.OptionValue.{OptionValue}
 use Rattle.package_files.specs.Folders.{folder_listings_by_tree_names}
 use Rattle.package_files.specs.make_info.Faults.{IsInfoFault}
@@ -41,7 +41,7 @@ abbrev pub one_read : OptionValue → ℕ
 one_read v = 1
 
 pub script_own : RestsOnOwn one_read script_at
-script_own f g n v h = ap (λ (o : Option (List ℕ)). and_then (found_bytes_or_missing v.place o) (next_of v)) (h n (without_dot_slash (script_file v.text)) (omega arith) (omega arith))
+script_own f g n v h = ap (λ (o : Option (List ℕ)). and_then (found_bytes_or_missing v.place o) (next_of v)) (h n (without_one_leading_dot_slash (script_file v.text)) (omega arith) (omega arith))
 
 pub scripts_none : (scripts : Vec Script Global) → scripts.items ≡ [] → AreScripts scripts []
 scripts_none scripts e = ap (map script_view) e
@@ -93,7 +93,7 @@ ones (x ∷ xs) = let further = ones xs in omega arith
 
 folders_rest : (k : ℕ) (ds : List OptionValue) (names : List (List ℕ)) (f g : Reads) → ((m : ℕ) (name : List ℕ) → k ≤ m → f m name ≡ g m name) → source_folders_of_first_option_only f k ds names ≡ source_folders_of_first_option_only g k ds names
 folders_rest k [] names f g h = refl
-folders_rest k (v ∷ vs) names f g h = each_rests reads_in (source_folder_at_place_by_read v.place) (folder_own v.place) f g k (folder_listings_by_tree_names (without_dot_slash v.text) names) (λ m name lo hi. h m name lo)
+folders_rest k (v ∷ vs) names f g h = each_rests reads_in (source_folder_at_place_by_read v.place) (folder_own v.place) f g k (folder_listings_by_tree_names (without_one_leading_dot_slash v.text) names) (λ m name lo hi. h m name lo)
 
 -- scripts and folders are explained together
 pub record AreParts (ss ds : List OptionValue) (names : List (List ℕ)) (scripts : Vec Script Global) (r : Result Packing MakeFault) (read : Reads) : Type 0 where
@@ -254,7 +254,7 @@ named_for vs folder names f h =
     subst P (sym f.first) (subst Q (sym f.name) h)
 
 pub packed_for : (told : List TreeState) (dirs : List OptionValue) (v : OptionValue) (others : List OptionValue) (dir : List ℕ) (names : List (List ℕ)) (r : Result Packing MakeFault) (n : ℕ) → dirs ≡ v ∷ others
-    → dir ≡ without_dot_slash v.text → HoldsOfSomeReadsOfTree told (λ read. AgreesOrIsFault IsPacking r (source_folders_at_place_from_read v.place read n (folder_listings_by_tree_names dir names))) → HoldsOfSomeReadsOfTree told (λ read. AgreesOrIsFault IsPacking r (source_folders_of_first_option_only read n dirs names))
+    → dir ≡ without_one_leading_dot_slash v.text → HoldsOfSomeReadsOfTree told (λ read. AgreesOrIsFault IsPacking r (source_folders_at_place_from_read v.place read n (folder_listings_by_tree_names dir names))) → HoldsOfSomeReadsOfTree told (λ read. AgreesOrIsFault IsPacking r (source_folders_of_first_option_only read n dirs names))
 packed_for told dirs v others dir names r n e d h =
     let P : List OptionValue → Type 0 = λ l. HoldsOfSomeReadsOfTree told (λ read. AgreesOrIsFault IsPacking r (source_folders_of_first_option_only read n l names)) in
     let Q : List ℕ → Type 0 = λ f. HoldsOfSomeReadsOfTree told (λ read. AgreesOrIsFault IsPacking r (source_folders_at_place_from_read v.place read n (folder_listings_by_tree_names f names))) in

@@ -1,7 +1,7 @@
 -- One script of what was read.
 use Rattle.std.proofs.Common.{◌≡◌, ◌∙◌, ℕ, List, Result, Ok, Err, sym, ap, subst}
 use Rattle.command_core.specs.Values.{script_type, script_file}
-use Rattle.command_core.specs.Files.{without_dot_slash}
+use Rattle.command_core.specs.Files.{without_one_leading_dot_slash}
 use Rattle.command_core.specs.declared.values.OptionValue.{OptionValue}
 use Rattle.package_files.specs.Package as packages
 use Rattle.package_files.specs.Runs.{AgreesOrIsFault}
@@ -14,7 +14,7 @@ use Rattle.package_files.proofs.ReadLemmas.{fault_of_part}
 use Rattle.package_files.proofs.PackLemmas.{IsFound}
 
 abbrev pub file_of : OptionValue → List ℕ
-file_of v = without_dot_slash (script_file v.text)
+file_of v = without_one_leading_dot_slash (script_file v.text)
 
 abbrev pub next_of : OptionValue → List ℕ → Result packages.Script MakeFault
 next_of v bytes = Ok (record { field = script_type v.text; bytes = bytes })

@@ -9,7 +9,7 @@ use Rattle.base_core.specs.Calls.{IfObservable}
 use Rattle.base_core.specs.Listed.{IsSortedListingOfFolder}
 use Rattle.base_core.specs.Tree.{TreeState, files_of}
 use Rattle.command_core.specs.Command.{CommandLine}
-use Rattle.command_core.specs.Files.{without_dot_slash}
+use Rattle.command_core.specs.Files.{without_one_leading_dot_slash}
 use Rattle.command_core.specs.declared.values.OptionValue.{OptionValue}
 use Rattle.package_files.specs.make_info.Reads.{Reads}
 use Rattle.package_files.specs.make_info.declared.fault.MakeFault.{MakeFault}
@@ -46,7 +46,7 @@ IsNotDisk result = Unit {0}
 abbrev pub IsSortedListingOfFirstFolder : List OptionValue → TreeState → List (List ℕ) → Type 0
 IsSortedListingOfFirstFolder [] v names = Unit {0}
 IsSortedListingOfFirstFolder (dir ∷ dirs) v names =
-    IsSortedListingOfFolder (without_dot_slash dir.text) v names
+    IsSortedListingOfFolder (without_one_leading_dot_slash dir.text) v names
 
 -- `P` holds of the refusal with this error. If the error is an I/O error of the tree or out of memory,
 -- nothing is stated

@@ -6,7 +6,7 @@ use Rattle.command_core.specs.declared.values.TheConstants.{FILES, SCRIPT, TRIGG
 use Rattle.std.specs.Prelude.{ℕ, List, length, Option, Some, None, Result, Ok, Err}
 use Rattle.adb_view.specs.Plain.{Plain}
 use Rattle.package_files.specs.adb_schema.declared.read.TheConstants.{PACKAGE_WORD}
-use Rattle.package_files.specs.adb_write.Canonical.{ByteAndValueCounts, overflow_of}
+use Rattle.package_files.specs.adb_write.Canonical.{ByteAndValueCounts, counts_at_first_overflow}
 use Rattle.package_files.specs.pkg_core.Contents.{Contents}
 use Rattle.command_core.specs.Command.{CommandLine}
 use Rattle.package_files.specs.adb_sound.Container.{container_of_value_and_contents}
@@ -29,7 +29,7 @@ container_unless_too_large (Some counts) v contents = Err (TooLarge counts.0 cou
 -- the container of a package's value and of the contents of its files; an error if the value
 -- exceeds a limit of the writer
 unfoldable pub package_container : Plain → List Contents → Result (List ℕ) MakeFault
-package_container v contents = container_unless_too_large (overflow_of v) v contents
+package_container v contents = container_unless_too_large (counts_at_first_overflow v) v contents
 
 -- ---- the package
 

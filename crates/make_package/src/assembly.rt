@@ -5,7 +5,7 @@
 ghost use Rattle.command_core.specs.declared.values.TheConstants.{TRIGGER};
 ghost use Rattle.std.specs.Prelude.{ℕ, ◌≡◌, ◌≤◌, ◌<◌, ◌^◌, ◌++◌, Ok, List, length, map, IfOk, IfErr};
 ghost use Rattle.package_files.specs.adb_schema.declared.read.TheConstants.{PACKAGE_WORD};
-ghost use Rattle.package_files.specs.adb_write.Canonical.{MOST_BYTES, payload_or_overflow};
+ghost use Rattle.package_files.specs.adb_write.Canonical.{MOST_BYTES, payload_or_counts_at_overflow};
 ghost use Rattle.package_files.specs.adb_write.File.{file_of};
 ghost use Rattle.package_files.specs.make_info.Faults.{IsOverflowFault};
 ghost use Rattle.package_files.specs.make_info.Information.{information_value_with_installed_size, replaces_priority};
@@ -95,7 +95,7 @@ fn payload(
     size: u64,
 ) -> Result<Vec<u8>, MakeFault>
     // On Ok, the payload is that of the package with these parts.
-    ensures made { IfOk result (λ payload. payload_or_overflow
+    ensures made { IfOk result (λ payload. payload_or_counts_at_overflow
         (package_with (information_value_with_installed_size about.now size)
         (map packed_folder folders.now)
         (scripts_view scripts.now) (texts_of (values_of_letter TRIGGER values.now))
@@ -104,7 +104,7 @@ fn payload(
     ensures small { IfOk result (λ payload. length payload.items ≤ MOST_BYTES) }
     // An error is the limit of a payload that is exceeded, or out of memory.
     ensures err { IfErr result (λ fault. IsOverflowFault fault
-        (payload_or_overflow (package_with (information_value_with_installed_size about.now size)
+        (payload_or_counts_at_overflow (package_with (information_value_with_installed_size about.now size)
         (map packed_folder folders.now) (scripts_view scripts.now)
         (texts_of (values_of_letter TRIGGER values.now)) (replaces_priority about.now)))) }
 {

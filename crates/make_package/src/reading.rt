@@ -5,7 +5,7 @@
 ghost use Rattle.base_core.specs.Calls.{IfObservable};
 ghost use Rattle.base_core.specs.Read.{OnlyReads};
 ghost use Rattle.command_core.specs.Sound.{value_rules, are_allowed_values};
-ghost use Rattle.command_core.specs.Files.{without_dot_slash};
+ghost use Rattle.command_core.specs.Files.{without_one_leading_dot_slash};
 ghost use Rattle.command_core.specs.Values.{script_file};
 ghost use Rattle.command_core.specs.declared.command.Applet.TheVariants.{Mkpkg};
 ghost use Rattle.command_core.specs.declared.values.TheConstants.{FILES, SCRIPT};
@@ -18,7 +18,7 @@ ghost use Rattle.std.specs.Prelude.{◌≡◌, ◌++◌, ◌∷◌, [], ℕ, IfO
 
 use crate::writing::Script;
 use base_core::{Name, Names, Tree};
-use command_core::{FILES, OptionValue, SCRIPT, Values, without_dot_slash};
+use command_core::{FILES, OptionValue, SCRIPT, Values, without_one_leading_dot_slash};
 use package_files::{MakeFault, Packing, pack_names, read_file};
 use std::alloc::{AllocError, Global};
 
@@ -72,7 +72,7 @@ pub(crate) fn pack_below<'a, T: Tree>(
 {
     match first_folder(values) {
         Some(value) => {
-            let folder = without_dot_slash(value.text.as_bytes());
+            let folder = without_one_leading_dot_slash(value.text.as_bytes());
             pack_names(alloc, tree, value.place, folder, names)
         }
         None => Ok(Packing {
@@ -135,7 +135,7 @@ fn read_script<'a, T: Tree>(
     file: &Name,
 ) -> Result<Script<'a>, MakeFault>
     // The name is that of the file in the value of `-s`.
-    requires { file.now ≡ without_dot_slash (script_file value.now.text) }
+    requires { file.now ≡ without_one_leading_dot_slash (script_file value.now.text) }
     // The tree is only read: no file changes, no I/O error is hidden, and no call is a misuse.
     ensures tree { OnlyReads MakeFault.Disk (T.history tree.old) (T.history tree.new)
         (T.counts tree.old) (T.counts tree.new) result }

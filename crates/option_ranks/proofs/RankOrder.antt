@@ -3,7 +3,7 @@ use Rattle.std.specs.Cmp.{IsTotalOrder, on_total, back_total, then_total, nat_cm
 use Rattle.std.specs.Cmp.Lexicographic.{nat_list_cmp_total, options_total}
 use Rattle.version_core.specs.Order.{version_cmp}
 use Rattle.candidate_core.specs.Candidates.{Candidate, Need, version_meeting_need}
-use Rattle.candidate_core.specs.Rank.{SealedPool, UpgradedNames, rank_cmp, quality_first, is_pinned, is_untagged, has_needed_name, is_kept_installed, untagged_then_named_then_kept_cmp, met_version_priority_name_own_version_cmp, version_text_and_repository_cmp, candidate_at, greater_version_first_cmp}
+use Rattle.candidate_core.specs.Rank.{SelectionProblem, UpgradedNames, rank_cmp, quality_first, is_pinned, is_untagged, has_needed_name, is_kept_installed, untagged_then_named_then_kept_cmp, met_version_priority_name_own_version_cmp, version_text_and_repository_cmp, candidate_at, greater_version_first_cmp}
 use Rattle.option_ranks.specs.Ranking.{Ranking, ranking_cmp, truth_first, version_key_cmp, version_order}
 use Rattle.option_ranks.specs.declared.rank.VersionKey.{VersionKey}
 use Rattle.option_ranks.specs.declared.rank.VersionKey.TheVariants.{ByRank, ByText}
@@ -35,7 +35,7 @@ module _ (versions : IsTotalOrder version_cmp) where
       then_total (on_total (λ (c : Candidate). c.version) (options_total nat_list_cmp_total))
       (on_total (λ (c : Candidate). c.repository) (back_total (options_total (back_total nat_cmp_total))))
 
-  pub rank_total : (pool : SealedPool) (need : Need) → IsTotalOrder (rank_cmp pool need)
+  pub rank_total : (pool : SelectionProblem) (need : Need) → IsTotalOrder (rank_cmp pool need)
   unfolding rank_cmp
   rank_total pool need =
       then_total (on_total (candidate_at pool) (options_total (then_total (quality_first_total (is_pinned pool.world)) (then_total (quality_total pool.upgraded need) (then_total (merit_total need) text_total))))) nat_cmp_total

@@ -13,7 +13,7 @@ use Rattle.std.proofs.lemmas.List.Sorted.{All-permutation, IsPermutation-map, Is
 use Rattle.version_core.specs.Order.{version_cmp}
 use Rattle.candidate_core.specs.Candidates.{Candidate, Need, version_meeting_need}
 use Rattle.candidate_core.specs.Options.{rank_order_of}
-use Rattle.candidate_core.specs.Rank.{SealedPool, bytes_cmp, candidate_at, earlier_repository_first_cmp, greater_version_first_cmp, is_better, is_pinned, quality_first, rank_cmp, untagged_then_named_then_kept_cmp}
+use Rattle.candidate_core.specs.Rank.{SelectionProblem, bytes_cmp, candidate_at, earlier_repository_first_cmp, greater_version_first_cmp, is_better, is_pinned, quality_first, rank_cmp, untagged_then_named_then_kept_cmp}
 use Rattle.option_ranks.specs.Ranking.{IsRankingIn, Ranking, ranking_from_parts, ranking_cmp, version_order, with_values_of_candidate}
 use Rattle.option_ranks.specs.VersionRanks.{AreRankedTwice, AreComparableByKey, rank_among, version_of, with_version_rank}
 use Rattle.option_ranks.specs.declared.rank.VersionKey.{VersionKey}
@@ -60,12 +60,12 @@ same_by_rank versions kind vs a b p q =
     ∙ (ap (nat_cmp (rank_among kind vs (version_of kind a).version)) q.rank
     ∙ counts_order (version_order kind) (order_of_kind versions kind) vs (version_of kind a).version (version_of kind b).version p.listed q.listed)
 
-pub ranking_kept : (pool : SealedPool) (need : Need) (kind : VersionKind) (n : ℕ) (r : Ranking) → IsRankingIn pool need r → IsRankingIn pool need (with_version_rank kind n r)
+pub ranking_kept : (pool : SelectionProblem) (need : Need) (kind : VersionKind) (n : ℕ) (r : Ranking) → IsRankingIn pool need r → IsRankingIn pool need (with_version_rank kind n r)
 ranking_kept pool need Under n r p = (p.0, (p.1.0, ap (with_version_rank Under n) p.1.1))
 ranking_kept pool need Own n r p = (p.0, (p.1.0, ap (with_version_rank Own n) p.1.1))
 
 -- what is sorted by a key that orders places as the rank does
-sorted_places : (pool : SealedPool) (need : Need) (key : VersionKey) (P : Ranking → Type 0) → ((a b : Ranking) → P a → P b → ranking_cmp key a b ≡ rank_cmp pool need a.place b.place)
+sorted_places : (pool : SelectionProblem) (need : Need) (key : VersionKey) (P : Ranking → Type 0) → ((a b : Ranking) → P a → P b → ranking_cmp key a b ≡ rank_cmp pool need a.place b.place)
     → (rs : List Ranking) → All P rs → IsSortedBy (comes_before key) rs → IsSortedBy (is_better pool need) (map place_of rs)
 sorted_places pool need key P same rs all up = λ k d low high.
     let len : length (map place_of rs) ≡ length rs = length-map rs place_of in
@@ -81,7 +81,7 @@ sorted_places pool need key P same rs all up = λ k d low high.
 
 -- ---- by texts
 
-module _ (pool : SealedPool) (need : Need) where
+module _ (pool : SelectionProblem) (need : Need) where
   read_by_text : (a b : Ranking) (x y : Candidate) → candidate_at pool a.place ≡ Some x → candidate_at pool b.place ≡ Some y → ranking_cmp ByText (with_values_of_candidate pool need x a) (with_values_of_candidate pool need y b) ≡ rank_cmp pool need a.place b.place
   unfolding ranking_cmp rank_cmp
   read_by_text a b x y h g =
@@ -95,7 +95,7 @@ module _ (pool : SealedPool) (need : Need) where
 
 -- ---- by ranks
 
-module _ (versions : IsTotalOrder version_cmp) (pool : SealedPool) (need : Need) (unders owns : List (Option (List ℕ))) where
+module _ (versions : IsTotalOrder version_cmp) (pool : SelectionProblem) (need : Need) (unders owns : List (Option (List ℕ))) where
   pub record IsRanked (r : Ranking) : Type 0 where
     pub read : IsRankingIn pool need r
     pub under : HasRank Under unders r
@@ -122,7 +122,7 @@ module _ (versions : IsTotalOrder version_cmp) (pool : SealedPool) (need : Need)
 
 -- ---- by either
 
-module _ (versions : IsTotalOrder version_cmp) (pool : SealedPool) (need : Need) (read : List Ranking) (each : All (IsRankingIn pool need) read) where
+module _ (versions : IsTotalOrder version_cmp) (pool : SelectionProblem) (need : Need) (read : List Ranking) (each : All (IsRankingIn pool need) read) where
   ranked_twice : (second : List Ranking) (twice : AreRankedTwice read second) → All (IsRanked versions pool need twice.under.versions twice.own.versions) second
   ranked_twice second twice =
       let first : List Ranking = twice.between in

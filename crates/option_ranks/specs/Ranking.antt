@@ -7,7 +7,7 @@ use Rattle.std.specs.Option.{option_cmp}
 use Rattle.std.specs.Ordering.{bool_cmp, flip_args, nat_cmp, on, then_cmp}
 use Rattle.std.specs.declared.cmp.Ordering.{Ordering}
 use Rattle.candidate_core.specs.Candidates.{Candidate, Need, version_meeting_need}
-use Rattle.candidate_core.specs.Rank.{SealedPool, bytes_cmp, candidate_at, earlier_repository_first_cmp, greater_version_first_cmp, has_needed_name, is_kept_installed, is_pinned, is_untagged}
+use Rattle.candidate_core.specs.Rank.{SelectionProblem, bytes_cmp, candidate_at, earlier_repository_first_cmp, greater_version_first_cmp, has_needed_name, is_kept_installed, is_pinned, is_untagged}
 use Rattle.option_ranks.specs.declared.rank.VersionKey.{VersionKey}
 use Rattle.option_ranks.specs.declared.rank.VersionKey.TheVariants.{ByRank, ByText}
 use Rattle.candidate_core.specs.declared.versions.RankedVersion.{RankedVersion}
@@ -60,7 +60,7 @@ with_version ranked version = record ranked { version = version }
 
 -- the ranking of the candidate `c` for a need, by the candidate's keys and versions. Of the ranking `r`, only the
 -- places of the two texts, the two ranks, and the place of the candidate are kept
-abbrev pub with_values_of_candidate : SealedPool → Need → Candidate → Ranking → Ranking
+abbrev pub with_values_of_candidate : SelectionProblem → Need → Candidate → Ranking → Ranking
 with_values_of_candidate pool need c r =
     ranking_from_parts (is_pinned pool.world c) (is_untagged c) (has_needed_name need c)
     (is_kept_installed pool.upgraded c)
@@ -68,7 +68,7 @@ with_values_of_candidate pool need c r =
     (with_version r.version c.version) c.repository r.place
 
 -- there is a candidate at the place of the ranking, and the ranking has the keys of this candidate for the need
-abbrev pub IsRankingIn : SealedPool → Need → Ranking → Type 0
+abbrev pub IsRankingIn : SelectionProblem → Need → Ranking → Type 0
 IsRankingIn pool need r = (c : Candidate) × ((candidate_at pool r.place ≡ Some c)
     × (r ≡ with_values_of_candidate pool need c r))
 

@@ -15,7 +15,7 @@ pub use candidate_core::{
     CandId, Candidate, CandidateList, Deps, Details, IndexView, KnownMatches, MOST_CANDIDATES,
     Need, NeedRef, Options, PackageDep, PackageMatches, Packages, PkgInfo, PoolFault,
     RankedVersion, Source, Table, Upgrade, entries_keep_the_rule_of_their_list, is_long,
-    is_same_id, objects_field,
+    is_same_id_by_nonempty_prefix, objects_field,
 };
 pub use rank::{RankedOption, VersionKey};
 pub use version_ranks::rank_long_versions;

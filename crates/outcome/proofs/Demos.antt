@@ -11,7 +11,7 @@ use Rattle.command_core.specs.Command.{CommandLine}
 use Rattle.command_core.specs.declared.command.Applet.{Applet}
 use Rattle.command_core.specs.declared.command.Applet.TheVariants.{Help, Mkndx, Mkpkg, ProgramVersion}
 use Rattle.demo_lines.specs.Lines.{add_words, demo_file, demo_repositories, contents_of_demo_file, mkndx_words, mkpkg_words}
-use Rattle.demo_lines.specs.Report.{demo_line}
+use Rattle.demo_lines.specs.Report.{demo_line_of_count_and_add_report}
 use Rattle.engine_core.specs.journal_core.Replacing.{scratch_name_of}
 use Rattle.make_core.specs.make_index.Index.{made_index}
 use Rattle.make_core.specs.make_info.Output.{output_name}
@@ -21,7 +21,7 @@ use Rattle.make_core.specs.make_package.Making.{made_package}
 use Rattle.report_core.specs.declared.refusal.Refusal.{Refusal}
 use Rattle.report_core.specs.declared.refusal.Refusal.TheVariants.{Reserved, ResultTooLarge}
 use Rattle.root_names.specs.RootNames.{repositories_name}
-use Rattle.words_core.specs.Grammar.{help_or_version_option_at, help_or_version_or_err, command_of, command_of_reading_with_end_place, spelled_command, next_word_of_command_line, applet_site_of_word, spelled_command_or_help_or_version, can_be_option, unless_refused_at}
+use Rattle.words_core.specs.Grammar.{help_or_version_option_at, help_or_version_or_err, command_of, command_of_reading_with_end_place, spelled_command, next_word_of_command_line, applet_site_of_word, command_else_help_or_version_at_error, can_be_option, unless_refused_at}
 use Rattle.words_core.specs.Options.{applet_of_help_or_version_option}
 use Rattle.outcome.proofs.Existing.{work_within}
 use Rattle.outcome.proofs.Looking.{read_leaves}
@@ -124,7 +124,7 @@ asked_makes : (words : List (List ℕ)) (place : ℕ) (asked : Option Applet) �
 asked_makes words place None computes = tt
 asked_makes words place (Some applet) computes = inr computes
 
-line_makes : (words : List (List ℕ)) (line : Result CommandLine ℕ) → DoMake line → DoMake (spelled_command_or_help_or_version words line)
+line_makes : (words : List (List ℕ)) (line : Result CommandLine ℕ) → DoMake line → DoMake (command_else_help_or_version_at_error words line)
 line_makes words (Ok command) makes = makes
 line_makes words (Err place) makes = asked_makes words place (help_or_version_option_at words place) (place_asks (can_be_option (next_word_of_command_line (take (place - 1) words))) (slice_get words (place - 1)))
 
@@ -188,7 +188,7 @@ installed_exists have n =
 pub demo_exists : HaveOutcome → (n : ℕ) (files : Files) → (o : Outcome) × IsDemoOutcome n files o
 demo_exists have n files =
     let (last, is) = installed_exists have n in
-    (just_report_unless_refusal files last.refusal (demo_line n last.out), (last, is, refl))
+    (just_report_unless_refusal files last.refusal (demo_line_of_count_and_add_report n last.out), (last, is, refl))
 
 -- ---- there is no second one
 
@@ -218,7 +218,7 @@ installed_one one n a b (p, is_p, x) (q, is_q, y) = behind_one one (add_words n)
 
 pub demo_one : HaveOneOutcome → (n : ℕ) (files : Files) (a b : Outcome) → IsDemoOutcome n files a → IsDemoOutcome n files b → a ≡ b
 demo_one one n files a b (p, is_p, x) (q, is_q, y) =
-    x ∙ ap (λ (last : Outcome). just_report_unless_refusal files last.refusal (demo_line n last.out)) (installed_one one n p q is_p is_q) ∙ sym y
+    x ∙ ap (λ (last : Outcome). just_report_unless_refusal files last.refusal (demo_line_of_count_and_add_report n last.out)) (installed_one one n p q is_p is_q) ∙ sym y
 
 -- ---- it leaves the files, whichever these are
 
@@ -227,7 +227,7 @@ unless_leaves files None report = (refl, refl)
 unless_leaves files (Some refusal) report = (refl, refl)
 
 pub demo_leaves : (n : ℕ) (files : Files) (o : Outcome) → IsDemoOutcome n files o → (o.files ≡ files) × (o.commits ≡ false)
-demo_leaves n files o (last, is_last, is) = subst (λ (p : Outcome). (p.files ≡ files) × (p.commits ≡ false)) (sym is) (unless_leaves files last.refusal (demo_line n last.out))
+demo_leaves n files o (last, is_last, is) = subst (λ (p : Outcome). (p.files ≡ files) × (p.commits ≡ false)) (sym is) (unless_leaves files last.refusal (demo_line_of_count_and_add_report n last.out))
 
 unless_same : (files others : Files) (refusal : Option Refusal) (report : List ℕ)
     → outcome_without_commit (just_report_unless_refusal files refusal report).refusal (just_report_unless_refusal files refusal report).out others ≡ just_report_unless_refusal others refusal report
@@ -236,4 +236,4 @@ unless_same files others (Some refusal) report = refl
 
 pub demo_everywhere : (n : ℕ) (files others : Files) (o : Outcome) → IsDemoOutcome n files o → IsDemoOutcome n others (outcome_without_commit o.refusal o.out others)
 demo_everywhere n files others o (last, is_last, is) =
-    (last, is_last, subst (λ (p : Outcome). outcome_without_commit p.refusal p.out others ≡ just_report_unless_refusal others last.refusal (demo_line n last.out)) (sym is) (unless_same files others last.refusal (demo_line n last.out)))
+    (last, is_last, subst (λ (p : Outcome). outcome_without_commit p.refusal p.out others ≡ just_report_unless_refusal others last.refusal (demo_line_of_count_and_add_report n last.out)) (sym is) (unless_same files others last.refusal (demo_line_of_count_and_add_report n last.out)))

@@ -15,7 +15,7 @@ use Rattle.command_core.specs.Command.{CommandLine}
 use Rattle.dep_core.specs.Repositories.{Repository, repositories_of}
 use Rattle.dep_core.specs.World.{world_of}
 use Rattle.make_core.specs.make_info.Reads.{Reads}
-use Rattle.tell_core.specs.candidate_core.Rank.{UpgradedNames, sealed_pool_from_parts}
+use Rattle.tell_core.specs.candidate_core.Rank.{UpgradedNames, selection_problem_from_parts}
 use Rattle.tell_core.specs.candidate_core.declared.candidate_list.TheConstants.{MOST_CANDIDATES}
 use Rattle.report_core.specs.declared.refusal.Refusal.{Refusal}
 use Rattle.report_core.specs.declared.refusal.Refusal.TheVariants.{DatabaseBad, IndexBad, RepositoriesBad, TooMany, WorldBad}
@@ -101,6 +101,6 @@ pub pool_stated : (inputs : Inputs) (upgraded : UpgradedNames) → HasKnownRefus
 unfolding root_pool
 pool_stated inputs upgraded = by_count (nat_lt MOST_CANDIDATES (length (candidates_of inputs)))
   where
-    by_count : (b : Bool) → HasKnownRefusal is_input_refusal (if b then Err (TooMany (MOST_CANDIDATES + 1)) else Ok (sealed_pool_from_parts (candidates_of inputs) inputs.root.new_world upgraded))
+    by_count : (b : Bool) → HasKnownRefusal is_input_refusal (if b then Err (TooMany (MOST_CANDIDATES + 1)) else Ok (selection_problem_from_parts (candidates_of inputs) inputs.root.new_world upgraded))
     by_count true = refl
     by_count false = tt

@@ -5,18 +5,18 @@ use Rattle.std.specs.List.{list_any, starts_with}
 use Rattle.std.specs.Str.{bytes_eq}
 use Rattle.std.proofs.lemmas.Bool.{false≢true}
 use Rattle.base_core.specs.Files.{Files, HasOnlyNamesAmong}
-use Rattle.base_core.specs.Listed.{AreSortedNamesInMap}
+use Rattle.base_core.specs.Listed.{IsSortedListOfAllNamesInMap}
 use Rattle.base_core.specs.declared.cause.Cause.{Cause}
 use Rattle.engine_core.specs.Choice.{IsPreferredChoiceUnlessRefused}
 use Rattle.engine_core.specs.Selecting.{pool_of_command}
 use Rattle.make_core.specs.make_info.Reads.{Reads}
-use Rattle.tell_core.specs.candidate_core.Rank.{SealedPool}
+use Rattle.tell_core.specs.candidate_core.Rank.{SelectionProblem}
 use Rattle.report_core.specs.declared.refusal.Refusal.{Refusal}
 use Rattle.report_core.specs.declared.refusal.Refusal.TheVariants.{IntentBad, Usage}
 use Rattle.command_core.specs.Command.{CommandLine}
-use Rattle.command_core.specs.Files.{without_dot_slash}
+use Rattle.command_core.specs.Files.{without_one_leading_dot_slash}
 use Rattle.command_core.specs.declared.values.TheConstants.{FILES}
-use Rattle.command_core.specs.Files.{without_dot_slash}
+use Rattle.command_core.specs.Files.{without_one_leading_dot_slash}
 use Rattle.command_core.specs.declared.command.Applet.{Applet}
 use Rattle.command_core.specs.declared.command.Applet.TheVariants.{Mkpkg}
 use Rattle.command_core.specs.declared.values.OptionValue.{OptionValue}
@@ -32,10 +32,10 @@ use Rattle.outcome.specs.Work.{recovery_fault, files_recovered_if_needed}
 
 -- files under finitely many names have a list of them, and no second one
 abbrev pub HaveList : Type 0
-HaveList = (files : Files) (within : List (List ℕ)) → HasOnlyNamesAmong within files → (names : List (List ℕ)) × AreSortedNamesInMap files names
+HaveList = (files : Files) (within : List (List ℕ)) → HasOnlyNamesAmong within files → (names : List (List ℕ)) × IsSortedListOfAllNamesInMap files names
 
 abbrev pub HaveOneList : Type 0
-HaveOneList = (files : Files) (a b : List (List ℕ)) → AreSortedNamesInMap files a → AreSortedNamesInMap files b → a ≡ b
+HaveOneList = (files : Files) (a b : List (List ℕ)) → IsSortedListOfAllNamesInMap files a → IsSortedListOfAllNamesInMap files b → a ≡ b
 
 -- what is below a folder is within the files
 within_below : (folder : List ℕ) (files : Files) (within : List (List ℕ)) → HasOnlyNamesAmong within files → HasOnlyNamesAmong within (files_below folder files)
@@ -47,7 +47,7 @@ within_below folder files within h q some =
 
 listing_exists : HaveList → (values : List OptionValue) (files : Files) (within : List (List ℕ)) → HasOnlyNamesAmong within files → (names : List (List ℕ)) × AreNamesBelowOptionFolder values files names
 listing_exists have [] files within h = ([], refl)
-listing_exists have (v ∷ values) files within h = have (files_below (without_dot_slash v.text) files) within (within_below (without_dot_slash v.text) files within h)
+listing_exists have (v ∷ values) files within h = have (files_below (without_one_leading_dot_slash v.text) files) within (within_below (without_one_leading_dot_slash v.text) files within h)
 
 names_exist : HaveList → (applet : Applet) (command : CommandLine) (files : Files) (within : List (List ℕ)) → HasOnlyNamesAmong within files → (names : List (List ℕ)) × AreNamesListedForApplet applet command files names
 names_exist have Mkpkg command files within h = listing_exists have (values_of_letter FILES command.values) files within h
@@ -62,10 +62,10 @@ work_within Changes files within h = unstaged_within files within h
 
 -- something is chosen, whatever the candidates are, and just one thing
 abbrev pub HaveChoice : Type 0
-HaveChoice = (pool : Result SealedPool Refusal) → (chosen : Option (List ℕ)) × IsPreferredChoiceUnlessRefused pool chosen
+HaveChoice = (pool : Result SelectionProblem Refusal) → (chosen : Option (List ℕ)) × IsPreferredChoiceUnlessRefused pool chosen
 
 abbrev pub HaveOneChoice : Type 0
-HaveOneChoice = (pool : Result SealedPool Refusal) (a b : Option (List ℕ)) → IsPreferredChoiceUnlessRefused pool a → IsPreferredChoiceUnlessRefused pool b → a ≡ b
+HaveOneChoice = (pool : Result SelectionProblem Refusal) (a b : Option (List ℕ)) → IsPreferredChoiceUnlessRefused pool a → IsPreferredChoiceUnlessRefused pool b → a ≡ b
 
 chosen_exists : HaveChoice → (effect : Effect) (command : CommandLine) (read : Reads) → (chosen : Option (List ℕ)) × IsChoiceForCommand effect command read chosen
 chosen_exists choose Changes command read = choose (pool_of_command command read)
@@ -96,7 +96,7 @@ outcome_by have choose clashes (Ok command) files within h = outcome_unless have
 
 pub listing_one : HaveOneList → (values : List OptionValue) (files : Files) (a b : List (List ℕ)) → AreNamesBelowOptionFolder values files a → AreNamesBelowOptionFolder values files b → a ≡ b
 listing_one one [] files a b x y = x ∙ sym y
-listing_one one (v ∷ values) files a b x y = one (files_below (without_dot_slash v.text) files) a b x y
+listing_one one (v ∷ values) files a b x y = one (files_below (without_one_leading_dot_slash v.text) files) a b x y
 
 names_one : HaveOneList → (applet : Applet) (command : CommandLine) (files : Files) (a b : List (List ℕ)) → AreNamesListedForApplet applet command files a → AreNamesListedForApplet applet command files b → a ≡ b
 names_one one Mkpkg command files a b x y = listing_one one (values_of_letter FILES command.values) files a b x y

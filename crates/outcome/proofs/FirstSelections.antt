@@ -20,7 +20,7 @@ use Rattle.make_core.specs.make_info.Reads.{Reads}
 use Rattle.engine_core.specs.package_changes.Changes.{Replacement, changes_of}
 use Rattle.engine_core.specs.package_changes.Report.{selected_sum_line, simulated_report, lines_on_names_that_stay}
 use Rattle.tell_core.specs.path_clashes.Clash.{NamePair}
-use Rattle.tell_core.specs.candidate_core.Rank.{SealedPool}
+use Rattle.tell_core.specs.candidate_core.Rank.{SelectionProblem}
 use Rattle.report_core.specs.Reports.{change_lines}
 use Rattle.report_core.specs.declared.refusal.Refusal.{Refusal}
 use Rattle.report_core.specs.declared.refusal.Refusal.TheVariants.{NotInstalled}
@@ -99,7 +99,7 @@ module _ (known : IsMadeKnown) (command : CommandLine) (files : Files) where
   abbrev end_of : Option NamePair → Result InputsAndReplacement Refusal → Outcome
   end_of clash selected = change_outcome files (and_then selected (change_of_selected command (reads_in files) files clash))
 
-  by_choice : (inputs : Inputs) (pool : SealedPool) (chosen : Option (List ℕ)) (clash : Option NamePair)
+  by_choice : (inputs : Inputs) (pool : SelectionProblem) (chosen : Option (List ℕ)) (clash : Option NamePair)
       → inputs_of command (reads_in files) ≡ Ok inputs → pool_of_inputs command inputs ≡ Ok pool → unknown_operand_place command.applet inputs command.operands ≡ None
       → IsPreferredChoiceUnlessRefused (Ok pool) chosen → IsFirstClashOfCommand command (reads_in files) files chosen clash
       → IsChangeEnd command files (end_of clash (selected_from_pool_by_choice command inputs pool chosen))
@@ -114,7 +114,7 @@ module _ (known : IsMadeKnown) (command : CommandLine) (files : Files) where
         first = choice;
         selected = s;
         selects = ap (λ (r : Result Inputs Refusal). and_then r (selected_from_inputs_by_choice command (Some trace))) are
-            ∙ ap (λ (r : Result SealedPool Refusal). and_then r (λ pool. unless_unknown_operand (unknown_operand_place command.applet inputs command.operands) (selected_from_pool_by_choice command inputs pool (Some trace)))) is
+            ∙ ap (λ (r : Result SelectionProblem Refusal). and_then r (λ pool. unless_unknown_operand (unknown_operand_place command.applet inputs command.operands) (selected_from_pool_by_choice command inputs pool (Some trace)))) is
             ∙ ap (λ (place : Option ℕ). unless_unknown_operand place (selected_from_pool_by_choice command inputs pool (Some trace))) known_names;
         candidates = refl;
         clash = clash;
@@ -124,7 +124,7 @@ module _ (known : IsMadeKnown) (command : CommandLine) (files : Files) where
 
   -- ---- by what is read
 
-  by_place : (inputs : Inputs) (pool : SealedPool) (place : Option ℕ) (chosen : Option (List ℕ)) (clash : Option NamePair)
+  by_place : (inputs : Inputs) (pool : SelectionProblem) (place : Option ℕ) (chosen : Option (List ℕ)) (clash : Option NamePair)
       → inputs_of command (reads_in files) ≡ Ok inputs → pool_of_inputs command inputs ≡ Ok pool → unknown_operand_place command.applet inputs command.operands ≡ place
       → IsPreferredChoiceUnlessRefused (Ok pool) chosen → IsFirstClashOfCommand command (reads_in files) files chosen clash
       → IsChangeEnd command files (end_of clash (unless_unknown_operand place (selected_from_pool_by_choice command inputs pool chosen)))
@@ -136,11 +136,11 @@ module _ (known : IsMadeKnown) (command : CommandLine) (files : Files) where
         outcome = refl;
         unchosen = λ other.
             ap (λ (r : Result Inputs Refusal). and_then r (selected_from_inputs_by_choice command other)) are
-            ∙ ap (λ (r : Result SealedPool Refusal). and_then r (λ pool. unless_unknown_operand (unknown_operand_place command.applet inputs command.operands) (selected_from_pool_by_choice command inputs pool other))) is
+            ∙ ap (λ (r : Result SelectionProblem Refusal). and_then r (λ pool. unless_unknown_operand (unknown_operand_place command.applet inputs command.operands) (selected_from_pool_by_choice command inputs pool other))) is
             ∙ ap (λ (p : Option ℕ). unless_unknown_operand p (selected_from_pool_by_choice command inputs pool other)) at;
       })
 
-  by_pool : (inputs : Inputs) (pool : Result SealedPool Refusal) (chosen : Option (List ℕ)) (clash : Option NamePair)
+  by_pool : (inputs : Inputs) (pool : Result SelectionProblem Refusal) (chosen : Option (List ℕ)) (clash : Option NamePair)
       → inputs_of command (reads_in files) ≡ Ok inputs → pool_of_inputs command inputs ≡ pool
       → IsPreferredChoiceUnlessRefused pool chosen → IsFirstClashOfCommand command (reads_in files) files chosen clash
       → IsChangeEnd command files (end_of clash (and_then pool (λ pool. unless_unknown_operand (unknown_operand_place command.applet inputs command.operands) (selected_from_pool_by_choice command inputs pool chosen))))
@@ -152,7 +152,7 @@ module _ (known : IsMadeKnown) (command : CommandLine) (files : Files) where
         outcome = refl;
         unchosen = λ other.
             ap (λ (r : Result Inputs Refusal). and_then r (selected_from_inputs_by_choice command other)) are
-            ∙ ap (λ (r : Result SealedPool Refusal). and_then r (λ pool. unless_unknown_operand (unknown_operand_place command.applet inputs command.operands) (selected_from_pool_by_choice command inputs pool other))) is;
+            ∙ ap (λ (r : Result SelectionProblem Refusal). and_then r (λ pool. unless_unknown_operand (unknown_operand_place command.applet inputs command.operands) (selected_from_pool_by_choice command inputs pool other))) is;
       })
 
   by_inputs : (inputs : Result Inputs Refusal) (chosen : Option (List ℕ)) (clash : Option NamePair) → inputs_of command (reads_in files) ≡ inputs

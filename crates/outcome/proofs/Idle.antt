@@ -9,7 +9,7 @@ use Rattle.tell_core.specs.change_inputs.Inputs.{Inputs, inputs_of}
 use Rattle.engine_core.specs.change_outcome.Premises.{AreDatabaseAndWorldReadFromFiles}
 use Rattle.engine_core.specs.change_outcome.ChangeOutcome.{ChangeDone, ChangeWishes, change_or_refusal}
 use Rattle.command_core.specs.Command.{CommandLine}
-use Rattle.command_core.specs.Files.{without_dot_slash}
+use Rattle.command_core.specs.Files.{without_one_leading_dot_slash}
 use Rattle.command_core.specs.declared.command.Applet.{Applet}
 use Rattle.command_core.specs.declared.command.Applet.TheVariants.{Adbdump, Adbgen, Mkndx, Mkpkg, Verify, Version}
 use Rattle.command_core.specs.declared.command.Flags.{Flags}
@@ -28,7 +28,7 @@ use Rattle.make_core.specs.make_info.declared.fault.MakeFault.TheVariants.{FileM
 use Rattle.make_core.specs.make_package.Making.{made_package}
 use Rattle.engine_core.specs.package_changes.Changes.{Replacement}
 use Rattle.tell_core.specs.path_clashes.Clash.{NamePair}
-use Rattle.tell_core.specs.candidate_core.Rank.{SealedPool}
+use Rattle.tell_core.specs.candidate_core.Rank.{SelectionProblem}
 use Rattle.report_core.specs.declared.refusal.Refusal.{Refusal}
 use Rattle.report_core.specs.declared.refusal.Refusal.TheVariants.{Reserved, ResultTooLarge}
 use Rattle.tell_core.specs.ReportForCommand.{report_for_command}
@@ -72,7 +72,7 @@ dump_idle files place (Some bytes) idle = text_idle files place (dump_of bytes) 
 
 adbdump_idle : (read : Reads) (files : Files) (operands : List Operand) → LeavesIdle files (adbdump read files operands)
 adbdump_idle read files [] idle = refl
-adbdump_idle read files (o ∷ operands) idle = dump_idle files o.place (read 0 (without_dot_slash o.text)) idle
+adbdump_idle read files (o ∷ operands) idle = dump_idle files o.place (read 0 (without_one_leading_dot_slash o.text)) idle
 
 container_idle : (files : Files) (place : ℕ) (made : Result (List ℕ) GenFault) → LeavesIdle files (container_outcome files place made)
 container_idle files place (Ok file) idle = refl
@@ -86,7 +86,7 @@ generate_idle files place (Some text) idle = container_idle files place (generat
 
 adbgen_idle : (read : Reads) (files : Files) (operands : List Operand) → LeavesIdle files (adbgen read files operands)
 adbgen_idle read files [] idle = refl
-adbgen_idle read files (o ∷ operands) idle = generate_idle files o.place (read 0 (without_dot_slash o.text)) idle
+adbgen_idle read files (o ∷ operands) idle = generate_idle files o.place (read 0 (without_one_leading_dot_slash o.text)) idle
 
 computing_idle : (applet : Applet) (command : CommandLine) (files : Files) → LeavesIdle files (outcome_from_arguments_alone applet command files)
 computing_idle Version command files = version_idle files command.flags command.operands
@@ -141,7 +141,7 @@ place_ok : {A : Type 0} (place : Option ℕ) (next : Result A Refusal) (a : A) �
 place_ok None next a e = e
 place_ok (Some place) next a e = absurd (cc (e))
 
-chosen_inputs : (command : CommandLine) (inputs : Inputs) (pool : SealedPool) (chosen : Option (List ℕ)) (s : InputsAndReplacement) → selected_from_pool_by_choice command inputs pool chosen ≡ Ok s → s.inputs ≡ inputs
+chosen_inputs : (command : CommandLine) (inputs : Inputs) (pool : SelectionProblem) (chosen : Option (List ℕ)) (s : InputsAndReplacement) → selected_from_pool_by_choice command inputs pool chosen ≡ Ok s → s.inputs ≡ inputs
 chosen_inputs command inputs pool None s e = absurd (cc (e))
 chosen_inputs command inputs pool (Some trace) s e = ap (λ (r : Result InputsAndReplacement Refusal). inputs_or r) (sym e)
   where

@@ -2,7 +2,7 @@
 use Rattle.std.proofs.Common.{◌≡◌, ℕ, Bool, true, false, List, Option, Some, None, Result, Ok, Err, refl}
 use Rattle.gen_core.specs.adb_schema.Soundness.{container_fault_except_contents, payload_fault}
 use Rattle.adb_view.specs.declared.tables.Which.TheVariants.{Idb}
-use Rattle.gen_core.specs.adb_write.Canonical.{ByteAndValueCounts, payload_or_overflow}
+use Rattle.gen_core.specs.adb_write.Canonical.{ByteAndValueCounts, payload_or_counts_at_overflow}
 use Rattle.base_core.specs.Files.{Files}
 use Rattle.base_core.specs.declared.cause.Cause.{Cause}
 use Rattle.tell_core.specs.change_inputs.Chains.{unless_cause}
@@ -30,7 +30,7 @@ large_remembers (Ok payload) e = cc (e)
 large_remembers (Err counts) e = cc (e)
 
 pub written_remembers : (r : Result (List Record) ℕ) → payload_of_records r ≡ Err Memory → ⊥
-written_remembers (Ok records) e = large_remembers (payload_or_overflow (database_value_of_records records)) e
+written_remembers (Ok records) e = large_remembers (payload_or_counts_at_overflow (database_value_of_records records)) e
 written_remembers (Err line) e = cc (e)
 
 pub tested_remembers : (r : Result (List ℕ) V2Fault) → (r ≡ Err Memory → ⊥) → payload_if_sound r ≡ Err Memory → ⊥

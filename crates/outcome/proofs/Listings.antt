@@ -2,7 +2,7 @@
 use Rattle.std.proofs.Common.{◌≡◌, ℕ, Bool, true, false, List, ◌++◌, codes, Option, Some, None, IsSome, refl, sym, subst}
 use Rattle.std.specs.Prelude.{if◌then◌else◌, nat_eq}
 use Rattle.std.specs.List.{starts_with}
-use Rattle.base_core.specs.Listed.{IsSortedListingOfFolder, AreSortedNamesInMap}
+use Rattle.base_core.specs.Listed.{IsSortedListingOfFolder, IsSortedListOfAllNamesInMap}
 use Rattle.base_core.specs.Tree.{TreeState, bytes_of_file_number, files_of}
 use Rattle.engine_core.proofs.journal_core.Below.{begins, is_below}
 use Rattle.outcome.specs.Make.{files_below}
@@ -19,7 +19,7 @@ pub if_some : (b : Bool) (o : Option (List ℕ)) → IsSome (if b then o else No
 if_some true o h = (refl, h)
 if_some false o h = cc
 
-pub listing_of_files : (folder : List ℕ) (v : TreeState) (names : List (List ℕ)) → IsSortedListingOfFolder folder v names → AreSortedNamesInMap (files_below folder (files_of v)) names
+pub listing_of_files : (folder : List ℕ) (v : TreeState) (names : List (List ℕ)) → IsSortedListingOfFolder folder v names → IsSortedListOfAllNamesInMap (files_below folder (files_of v)) names
 listing_of_files folder v names listed = record {
   rising = listed.rising;
   each = λ q. (

@@ -5,7 +5,7 @@ use Rattle.std.proofs.lemmas.Bool.{false≢true}
 use Rattle.base_core.specs.Files.{Files}
 use Rattle.base_core.specs.declared.cause.Cause.{Cause}
 use Rattle.command_core.specs.Command.{CommandLine}
-use Rattle.command_core.specs.Files.{without_dot_slash}
+use Rattle.command_core.specs.Files.{without_one_leading_dot_slash}
 use Rattle.command_core.specs.declared.command.Applet.{Applet}
 use Rattle.command_core.specs.declared.command.Applet.TheVariants.{Adbdump, Adbgen, Verify, Version}
 use Rattle.command_core.specs.declared.operands.Operand.{Operand}
@@ -43,7 +43,7 @@ dump_leaves files place (Some bytes) = text_leaves files place (dump_of bytes)
 
 adbdump_leaves : (read : Reads) (files : Files) (os : List Operand) → LeavesFiles files (adbdump read files os)
 adbdump_leaves read files [] = (refl, refl)
-adbdump_leaves read files (o ∷ os) = dump_leaves files o.place (read 0 (without_dot_slash o.text))
+adbdump_leaves read files (o ∷ os) = dump_leaves files o.place (read 0 (without_one_leading_dot_slash o.text))
 
 container_leaves : (files : Files) (place : ℕ) (made : Result (List ℕ) GenFault) → LeavesFiles files (container_outcome files place made)
 container_leaves files place (Ok file) = (refl, refl)
@@ -57,7 +57,7 @@ generate_leaves files place (Some text) = container_leaves files place (generate
 
 adbgen_leaves : (read : Reads) (files : Files) (os : List Operand) → LeavesFiles files (adbgen read files os)
 adbgen_leaves read files [] = (refl, refl)
-adbgen_leaves read files (o ∷ os) = generate_leaves files o.place (read 0 (without_dot_slash o.text))
+adbgen_leaves read files (o ∷ os) = generate_leaves files o.place (read 0 (without_one_leading_dot_slash o.text))
 
 pub computing_leaves : (applet : Applet) (command : CommandLine) (files : Files) → LeavesFiles files (outcome_from_arguments_alone applet command files)
 computing_leaves Version command files =

@@ -6,9 +6,9 @@ use Rattle.std.proofs.lemmas.List.Elements.{All-contains_itself, All-weaker}
 use Rattle.std.proofs.lemmas.Slice.Eq.{bytes_eq-Decides}
 use Rattle.gen_core.specs.adb_schema.Reserved.{is_reserved}
 use Rattle.adb_view.specs.Plain.{Plain}
-use Rattle.gen_core.specs.adb_write.Canonical.{ByteAndValueCounts, overflow_of, payload_or_overflow}
+use Rattle.gen_core.specs.adb_write.Canonical.{ByteAndValueCounts, counts_at_first_overflow, payload_or_counts_at_overflow}
 use Rattle.base_core.specs.Files.{HaveValidNamesAndBytes, Files, drop_name}
-use Rattle.base_core.specs.Listed.{AreSortedNamesBelowFolder, IsValidNameBelowFolder, AreSortedNamesInMap}
+use Rattle.base_core.specs.Listed.{AreSortedNamesBelowFolder, IsValidNameBelowFolder, IsSortedListOfAllNamesInMap}
 use Rattle.base_core.specs.Tree.{IsWellFormed, TreeState, files_of}
 use Rattle.base_core.specs.declared.cause.Cause.{Cause}
 use Rattle.command_core.specs.declared.values.TheConstants.{FILES, SCRIPT, TRIGGER}
@@ -32,7 +32,7 @@ use Rattle.make_core.specs.pkg_core.Whole.{container_fault, package_fault}
 use Rattle.report_core.specs.declared.refusal.Refusal.{Refusal}
 use Rattle.report_core.specs.declared.refusal.Refusal.TheVariants.{IntentBad, Reserved, ResultTooLarge}
 use Rattle.command_core.specs.Command.{CommandLine}
-use Rattle.command_core.specs.Files.{without_dot_slash}
+use Rattle.command_core.specs.Files.{without_one_leading_dot_slash}
 use Rattle.words_core.specs.Grammar.{command_of}
 use Rattle.command_core.specs.Values.{script_file, script_type}
 use Rattle.command_core.specs.declared.command.Applet.{Applet}
@@ -63,7 +63,7 @@ name_below folder files good q some =
     let found = if_some (starts_with nat_eq q (folder ++ codes "/")) (files q) some in
     record { named = good.named q found.1; below = is_below folder q found.0 }
 
-names_below : (folder : List ℕ) (files : Files) (names : List (List ℕ)) → HaveValidNamesAndBytes files → AreSortedNamesInMap (files_below folder files) names → AreSortedNamesBelowFolder folder names
+names_below : (folder : List ℕ) (files : Files) (names : List (List ℕ)) → HaveValidNamesAndBytes files → IsSortedListOfAllNamesInMap (files_below folder files) names → AreSortedNamesBelowFolder folder names
 names_below folder files names good are = record {
   rising = are.rising;
   each = All-weaker (Contains names) (IsValidNameBelowFolder folder) (λ q here. name_below folder files good q ((are.each q).0 here)) names (All-contains_itself names);
@@ -71,13 +71,13 @@ names_below folder files names good are = record {
 
 names_for : (values : List OptionValue) (files : Files) (names : List (List ℕ)) → HaveValidNamesAndBytes files → AreNamesBelowOptionFolder values files names → AreSortedNamesBelowFirstFolder values names
 names_for [] files names good are = tt
-names_for (folder ∷ values) files names good are = names_below (without_dot_slash folder.text) files names good are
+names_for (folder ∷ values) files names good are = names_below (without_one_leading_dot_slash folder.text) files names good are
 
 -- ---- what reads find in the files are files
 
 files_found : (files : Files) → HaveValidNamesAndBytes files → (n : ℕ) (operands : List Operand) → EachOperandReadFindsNoFileOrFileBytes (reads_in files) n operands
 files_found files good n [] = tt
-files_found files good n (o ∷ operands) = (good.each (without_dot_slash o.text), files_found files good (n + 1) operands)
+files_found files good n (o ∷ operands) = (good.each (without_one_leading_dot_slash o.text), files_found files good (n + 1) operands)
 
 -- ---- the definitions of what is made give no fault of the tree, and no want of memory
 
@@ -121,7 +121,7 @@ script_of v bytes = Ok (record { field = script_type v.text; bytes = bytes })
 
 script_fine : (read : Reads) (n : ℕ) (v : OptionValue) → IsRefusalOrMade (script_at read n v)
 unfolding script_of
-script_fine read n v = after_fine (found_bytes_or_missing v.place (read n (without_dot_slash (script_file v.text)))) (script_of v) (found_fine v.place (read n (without_dot_slash (script_file v.text)))) (λ bytes. tt)
+script_fine read n v = after_fine (found_bytes_or_missing v.place (read n (without_one_leading_dot_slash (script_file v.text)))) (script_of v) (found_fine v.place (read n (without_one_leading_dot_slash (script_file v.text)))) (λ bytes. tt)
 
 source_of : List ℕ → List ℕ → Result SourceFile MakeFault
 source_of name bytes = Ok (record { name = last_part_of name; bytes = bytes })
@@ -141,7 +141,7 @@ folder_fine place read n folder =
 folders_fine : (read : Reads) (n : ℕ) (values : List OptionValue) (names : List (List ℕ)) → IsRefusalOrMade (source_folders_of_first_option_only read n values names)
 folders_fine read n [] names = tt
 folders_fine read n (v ∷ values) names =
-    each_fine (λ (folder : FolderListing). length folder.files) (source_folder_at_place_by_read v.place read) (folder_fine v.place read) n (folder_listings_by_tree_names (without_dot_slash v.text) names)
+    each_fine (λ (folder : FolderListing). length folder.files) (source_folder_at_place_by_read v.place read) (folder_fine v.place read) n (folder_listings_by_tree_names (without_one_leading_dot_slash v.text) names)
 
 unless_fine : (counts : Option ByteAndValueCounts) (v : Plain) (contents : List Contents) → IsRefusalOrMade (container_unless_too_large counts v contents)
 unless_fine None v contents = tt
@@ -149,7 +149,7 @@ unless_fine (Some counts) v contents = tt
 
 file_of_fine : (v : Plain) (contents : List Contents) → IsRefusalOrMade (package_container v contents)
 unfolding package_container
-file_of_fine v contents = unless_fine (overflow_of v) v contents
+file_of_fine v contents = unless_fine (counts_at_first_overflow v) v contents
 
 pub package_fine : (command : CommandLine) (names : List (List ℕ)) (read : Reads) → IsRefusalOrMade (made_package command names read)
 unfolding made_package
@@ -184,8 +184,8 @@ and_fine (Ok entry) (Ok entries) h further = tt
 entries_fine : (read : Reads) (n : ℕ) (operands : List Operand) → IsRefusalOrMade (found_entries read n operands)
 entries_fine read n [] = tt
 entries_fine read n (o ∷ operands) =
-    and_fine (found_entry o.place (read n (without_dot_slash o.text))) (found_entries read (n + 1) operands)
-    (entry_fine o.place (read n (without_dot_slash o.text))) (entries_fine read (n + 1) operands)
+    and_fine (found_entry o.place (read n (without_one_leading_dot_slash o.text))) (found_entries read (n + 1) operands)
+    (entry_fine o.place (read n (without_one_leading_dot_slash o.text))) (entries_fine read (n + 1) operands)
 
 written_fine : (payload : Result (List ℕ) ByteAndValueCounts) → IsRefusalOrMade (index_container payload)
 written_fine (Ok payload) = tt
@@ -193,7 +193,7 @@ written_fine (Err counts) = tt
 
 of_found_fine : (description : List ℕ) (entries : Result (List Plain) MakeFault) → IsRefusalOrMade entries → IsRefusalOrMade (index_of_entries_or_fault description entries)
 unfolding index_of_entries
-of_found_fine description (Ok entries) h = written_fine (payload_or_overflow (value_of_index description (sorted_by index_entry_cmp entries)))
+of_found_fine description (Ok entries) h = written_fine (payload_or_counts_at_overflow (value_of_index description (sorted_by index_entry_cmp entries)))
 of_found_fine description (Err why) h = fine_err (List Plain) (List ℕ) why h
 
 pub index_fine : (command : CommandLine) (read : Reads) → IsRefusalOrMade (made_index command read)

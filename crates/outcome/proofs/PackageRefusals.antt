@@ -3,7 +3,7 @@ use Rattle.std.proofs.Common.{◌≡◌, ℕ, suc, Bool, true, false, not, List,
 use Rattle.std.specs.Prelude.{if◌then◌else◌, bytes_eq}
 use Rattle.adb_view.specs.Plain.{Plain}
 use Rattle.make_core.specs.adb_fields.Repeated.{package_name}
-use Rattle.gen_core.specs.adb_write.Canonical.{ByteAndValueCounts, overflow_of}
+use Rattle.gen_core.specs.adb_write.Canonical.{ByteAndValueCounts, counts_at_first_overflow}
 use Rattle.base_core.specs.Files.{Files}
 use Rattle.base_core.specs.declared.cause.Cause.{Cause}
 use Rattle.engine_core.specs.change_files.PlanLists.{first_reserved_added_path_in_byte_order}
@@ -22,7 +22,7 @@ use Rattle.make_core.specs.make_info.Reads.{Reads}
 use Rattle.engine_core.specs.package_changes.Changes.{Replacement}
 use Rattle.tell_core.specs.path_claims.Claims.{ContestedPath}
 use Rattle.tell_core.specs.path_clashes.Clash.{NamePair}
-use Rattle.tell_core.specs.candidate_core.Candidates.{Candidate, is_same_id}
+use Rattle.tell_core.specs.candidate_core.Candidates.{Candidate, is_same_id_by_nonempty_prefix}
 use Rattle.report_core.specs.Reports.{Change}
 use Rattle.report_core.specs.declared.refusal.Refusal.{Refusal}
 use Rattle.outcome.proofs.Ends.{HasKnownRefusal, then_stated}
@@ -39,7 +39,7 @@ test_stated false refusal next stated h = h
 
 different_stated : (c : Candidate) (pkg : AddedPackage) → IsPackagesResult (package_unless_other_than_candidate c pkg)
 different_stated c pkg =
-    test_stated (not (is_same_id c.id pkg.id)) _ _ refl
+    test_stated (not (is_same_id_by_nonempty_prefix c.id pkg.id)) _ _ refl
     (test_stated (not (bytes_eq c.name (package_name pkg.value))) _ _ refl
     (test_stated _ _ (Ok pkg) refl tt))
 
@@ -125,12 +125,12 @@ too_large_stated inputs r wishes found files =
     (λ database.
     let records = database_and_world_after_change inputs database in
     let actions = intent_of_change inputs (packages_before_and_after_with_purge inputs wishes found) files records in
-    unless_overflow (overflow_of (value_of_intent (intent_of_lists actions.removals actions.writes))) (change_done inputs r wishes found files records))
+    unless_overflow (counts_at_first_overflow (value_of_intent (intent_of_lists actions.removals actions.writes))) (change_done inputs r wishes found files records))
     (large_stated (database_of members (owned_flags_of members)))
     (λ database.
     let records = database_and_world_after_change inputs database in
     let actions = intent_of_change inputs (packages_before_and_after_with_purge inputs wishes found) files records in
-    overflow_stated (overflow_of (value_of_intent (intent_of_lists actions.removals actions.writes))) (change_done inputs r wishes found files records))
+    overflow_stated (counts_at_first_overflow (value_of_intent (intent_of_lists actions.removals actions.writes))) (change_done inputs r wishes found files records))
 
 with_members_stated : (inputs : Inputs) (r : Replacement) (wishes : ChangeWishes) (clash : Option NamePair) (files : Files) (found : List MemberFound) → IsPackagesResult (change_with_members inputs r wishes clash files found)
 with_members_stated inputs r wishes clash files found =

@@ -10,9 +10,9 @@ use Rattle.make_core.specs.adb_fields.Repeated.{list_of}
 use Rattle.gen_core.specs.adb_schema.Reserved.{is_intent_or_stage_name}
 use Rattle.gen_core.specs.adb_schema.Rules.{is_name_allowed_in_intent}
 use Rattle.gen_core.specs.adb_schema.SoundValues.{IsNameAllowedInIntent}
-use Rattle.gen_core.specs.adb_schema.SoundContainers.{IsSoundContainer, IsSoundValue}
+use Rattle.gen_core.specs.adb_schema.SoundContainers.{IsSoundContainerExceptContents, IsSoundValue}
 use Rattle.gen_core.specs.adb_schema.Soundness.{container_fault_except_contents, payload_in, root_value_of_payload}
-use Rattle.adb_view.specs.Values.{entries_in, entry_in, text_in}
+use Rattle.adb_view.specs.Values.{entries_in, entry_at_index, text_in}
 use Rattle.adb_view.specs.declared.tables.Which.{Which}
 use Rattle.adb_view.specs.declared.tables.Which.TheVariants.{Intent as IntentTable}
 use Rattle.adb_view.specs.Plain.{Plain, Plains, none, more}
@@ -118,7 +118,7 @@ abbrev pub ReadNone : Type 0
 ReadNone = (file : List ℕ) (cause : Cause) → container_fault_except_contents IntentTable file ≡ Some cause → read_intent file ≡ None
 
 abbrev pub HoldsSound : Type 0
-HoldsSound = (which : Which) (file : List ℕ) → IsSoundContainer which file → IsSoundValue which (root_value_of_payload which (payload_in file))
+HoldsSound = (which : Which) (file : List ℕ) → IsSoundContainerExceptContents which file → IsSoundValue which (root_value_of_payload which (payload_in file))
 
 -- a name and the content of a file
 abbrev NamedFile : Property
@@ -137,7 +137,7 @@ file_named read none_read sound file intent is = by_fault (container_fault_excep
     by_fault : (fault : Option Cause) → container_fault_except_contents IntentTable file ≡ fault → Carries NamedFile intent.writes
     by_fault None good =
         let v : Plain = root_value_of_payload IntentTable (payload_in file) in
-        subst (λ (i : Intent). Carries NamedFile i.writes) (same_Some (intent_of_value v) intent (sym (read file good) ∙ is)) (named_carries (entries_in (entry_in v 1)) (sound IntentTable file good).rules.writes)
+        subst (λ (i : Intent). Carries NamedFile i.writes) (same_Some (intent_of_value v) intent (sym (read file good) ∙ is)) (named_carries (entries_in (entry_at_index v 1)) (sound IntentTable file good).rules.writes)
     by_fault (Some cause) bad = absurd (let e : None ≡ Some intent = sym (none_read file cause bad) ∙ is in cc)
 
 at_named : ReadSound → ReadNone → HoldsSound → (found : Option (List ℕ)) (intent : Intent) → intent_in_file found ≡ Some intent → Carries NamedFile intent.writes

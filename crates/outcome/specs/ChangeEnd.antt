@@ -12,7 +12,7 @@ use Rattle.engine_core.specs.Selecting.{pool_of_command}
 use Rattle.engine_core.specs.package_changes.Changes.{changes_of}
 use Rattle.engine_core.specs.package_changes.Placed.{candidates_at}
 use Rattle.tell_core.specs.path_clashes.Clash.{NamePair}
-use Rattle.tell_core.specs.candidate_core.Rank.{SealedPool}
+use Rattle.tell_core.specs.candidate_core.Rank.{SelectionProblem}
 use Rattle.report_core.specs.Reports.{change_lines}
 use Rattle.report_core.specs.declared.refusal.Refusal.{Refusal}
 use Rattle.report_core.specs.declared.refusal.Refusal.TheVariants.{DatabaseBad, IndexBad, IndexMissing, IntentBad, NoDatabase, NotInstalled, Owned, PackageBad, PackageDiffers, PackageMissing, PathClash, RepositoriesBad, Reserved, ResultTooLarge, ScriptNeeded, TooMany, TriggerNeeded, Unsatisfied, Untrusted, WorldBad}
@@ -66,7 +66,7 @@ is_refusal_after_choice other = false
 -- ---- without a selection
 
 -- a command is refused for its input, whichever candidates might be chosen
-pub record IsInputRefused (command : CommandLine) (files : Files) (o : Outcome) : Type 0 where
+pub record IsRefusedWhicheverCandidatesAreChosen (command : CommandLine) (files : Files) (o : Outcome) : Type 0 where
   -- the refusal
   pub refusal : Refusal
   -- the refusal is one of those for the input
@@ -80,7 +80,7 @@ pub record IsInputRefused (command : CommandLine) (files : Files) (o : Outcome) 
 -- no selection of the candidates satisfies the new world, and exactly this is reported
 pub record IsRefusedAsUnsatisfiable (command : CommandLine) (files : Files) (o : Outcome) : Type 0 where
   -- the candidates of the command, under its new world
-  pub pool : SealedPool
+  pub pool : SelectionProblem
   -- the command has these candidates
   pub is_pool : pool_of_command command (reads_in files) ≡ Ok pool
   -- no selection of them satisfies the new world
@@ -116,7 +116,7 @@ IsEndOfSelectedChange command files selected (Err refusal) o =
 -- ends with this selection: made (or simulated), or refused
 pub record TakesFirstPreferredSelection (command : CommandLine) (files : Files) (o : Outcome) : Type 0 where
   -- the candidates of the command
-  pub pool : SealedPool
+  pub pool : SelectionProblem
   -- the command has these candidates, under its new world
   pub is_pool : pool_of_command command (reads_in files) ≡ Ok pool
   -- the places of the chosen candidates, in the order chosen
@@ -143,7 +143,7 @@ pub record TakesFirstPreferredSelection (command : CommandLine) (files : Files) 
 -- new world, or the preferred selection is taken
 abbrev pub IsChangeEnd : CommandLine → Files → Outcome → Type 0
 IsChangeEnd command files o =
-    IsInputRefused command files o
+    IsRefusedWhicheverCandidatesAreChosen command files o
     ⊎ (IsRefusedAsUnsatisfiable command files o ⊎ TakesFirstPreferredSelection command files o)
 
 -- a run refuses a bad intent (journal entry) before all else; `files` are those at its start

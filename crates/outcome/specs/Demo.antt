@@ -6,7 +6,7 @@ use Rattle.report_core.specs.declared.refusal.Refusal.{Refusal}
 use Rattle.words_core.specs.Grammar.{command_of}
 use Rattle.outcome.specs.Commands.{IsOutcomeWithoutDemo}
 use Rattle.demo_lines.specs.Lines.{add_words, demo_file, demo_repositories, contents_of_demo_file, mkndx_words, mkpkg_words}
-use Rattle.demo_lines.specs.Report.{demo_line}
+use Rattle.demo_lines.specs.Report.{demo_line_of_count_and_add_report}
 use Rattle.outcome.specs.Outcome.{Outcome, just_report, just_report_unless_refusal}
 
 -- ---- one run after another
@@ -66,4 +66,4 @@ abbrev pub IsDemoOutcome : ℕ → Files → Outcome → Type 0
 IsDemoOutcome n files outcome =
     (last : Outcome)
     × IsDemoOutcomeAfterInstalling n last
-    × (outcome ≡ just_report_unless_refusal files last.refusal (demo_line n last.out))
+    × (outcome ≡ just_report_unless_refusal files last.refusal (demo_line_of_count_and_add_report n last.out))

@@ -6,10 +6,10 @@ use Rattle.base_core.specs.Files.{Files}
 use Rattle.base_core.specs.declared.cause.Cause.{Cause}
 use Rattle.base_core.specs.declared.cause.Cause.TheVariants.{WrongSchema}
 use Rattle.report_core.specs.declared.refusal.Refusal.TheVariants.{FileMissing, FileBad}
-use Rattle.command_core.specs.Files.{without_dot_slash}
+use Rattle.command_core.specs.Files.{without_one_leading_dot_slash}
 use Rattle.command_core.specs.declared.operands.Operand.{Operand}
 use Rattle.adb_block.specs.Header.{schema_of_header}
-use Rattle.adb_block.specs.ReaderPosition.{first_block_position_of_schema_and_file}
+use Rattle.adb_block.specs.PositionBetweenBlocks.{first_block_position_of_schema_and_file}
 use Rattle.adb_block.specs.Reading.{Reading, done, fault, more, block_stream_from}
 use Rattle.adb_view.specs.Head.{payload_head_fault, root_word_of_payload}
 use Rattle.adb_view.specs.Schema.{shape_of}
@@ -86,4 +86,4 @@ dump_outcome files place (Some bytes) = text_outcome files place (dump_of bytes)
 -- the outcome of `adbdump`: the dump text of the first operand's file; the grammar allows exactly one operand
 abbrev pub adbdump : Reads → Files → List Operand → Outcome
 adbdump read files [] = just_report files []
-adbdump read files (o ∷ operands) = dump_outcome files o.place (read 0 (without_dot_slash o.text))
+adbdump read files (o ∷ operands) = dump_outcome files o.place (read 0 (without_one_leading_dot_slash o.text))

@@ -2,7 +2,7 @@
 -- "`adbgen FILE`", and in `docs/formats.md`, "Dump text".
 use Rattle.std.specs.Prelude.{ℕ, List, [], ◌∷◌, Option, Some, None, Result, Ok, Err}
 use Rattle.base_core.specs.Files.{Files}
-use Rattle.command_core.specs.Files.{without_dot_slash}
+use Rattle.command_core.specs.Files.{without_one_leading_dot_slash}
 use Rattle.command_core.specs.declared.operands.Operand.{Operand}
 use Rattle.gen_core.specs.Generated.{generated_file}
 use Rattle.gen_core.specs.declared.generate.GenFault.{GenFault}
@@ -29,4 +29,4 @@ generate_outcome files place (Some text) = container_outcome files place (genera
 -- the outcome of `adbgen`: the container of the first operand's text; the grammar allows exactly one operand
 abbrev pub adbgen : Reads → Files → List Operand → Outcome
 adbgen read files [] = just_report files []
-adbgen read files (o ∷ operands) = generate_outcome files o.place (read 0 (without_dot_slash o.text))
+adbgen read files (o ∷ operands) = generate_outcome files o.place (read 0 (without_one_leading_dot_slash o.text))

@@ -5,7 +5,7 @@ use Rattle.std.specs.Fmt.{decimal}
 use Rattle.std.specs.List.{starts_with}
 use Rattle.gen_core.specs.adb_schema.Reserved.{is_reserved}
 use Rattle.base_core.specs.Files.{Files}
-use Rattle.base_core.specs.Listed.{AreSortedNamesInMap}
+use Rattle.base_core.specs.Listed.{IsSortedListOfAllNamesInMap}
 use Rattle.engine_core.specs.journal_core.Replacing.{files_after_replacement}
 use Rattle.make_core.specs.make_index.Index.{made_index}
 use Rattle.make_core.specs.make_package.Making.{made_package}
@@ -15,7 +15,7 @@ use Rattle.make_core.specs.make_info.declared.fault.MakeFault.{MakeFault}
 use Rattle.make_core.specs.make_info.declared.fault.MakeFault.TheVariants.{FileMissing as NoFile, FileBad as BadFile, InfoBad as BadInfo, TooLarge, Disk, Memory}
 use Rattle.report_core.specs.declared.refusal.Refusal.TheVariants.{FileMissing, FileBad, InfoBad, Reserved, ResultTooLarge}
 use Rattle.command_core.specs.Command.{CommandLine}
-use Rattle.command_core.specs.Files.{without_dot_slash}
+use Rattle.command_core.specs.Files.{without_one_leading_dot_slash}
 use Rattle.command_core.specs.declared.values.OptionValue.{OptionValue}
 use Rattle.outcome.specs.Outcome.{Outcome, commit_report, just_refusal, just_report}
 
@@ -31,7 +31,7 @@ files_below folder files name =
 abbrev pub AreNamesBelowOptionFolder : List OptionValue → Files → List (List ℕ) → Type 0
 AreNamesBelowOptionFolder [] files names = names ≡ []
 AreNamesBelowOptionFolder (folder ∷ values) files names =
-    AreSortedNamesInMap (files_below (without_dot_slash folder.text) files) names
+    IsSortedListOfAllNamesInMap (files_below (without_one_leading_dot_slash folder.text) files) names
 
 -- ---- the outcome
 

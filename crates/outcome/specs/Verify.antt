@@ -7,7 +7,7 @@ use Rattle.base_core.specs.declared.cause.Cause.{Cause}
 use Rattle.make_core.specs.make_info.Reads.{Reads}
 use Rattle.report_core.specs.declared.refusal.Refusal.{Refusal}
 use Rattle.report_core.specs.declared.refusal.Refusal.TheVariants.{FileMissing, FileBad}
-use Rattle.command_core.specs.Files.{without_dot_slash}
+use Rattle.command_core.specs.Files.{without_one_leading_dot_slash}
 use Rattle.command_core.specs.declared.operands.Operand.{Operand}
 use Rattle.make_core.specs.pkg_core.Whole.{container_fault}
 use Rattle.outcome.specs.Outcome.{Outcome, just_report_unless_refusal}
@@ -26,7 +26,7 @@ file_refusal place (Some bytes) = refusal_if_file_bad place (container_fault byt
 abbrev pub verify_refusal : Reads → ℕ → List Operand → Option Refusal
 verify_refusal read n [] = None
 verify_refusal read n (o ∷ operands) =
-    option_or (file_refusal o.place (read n (without_dot_slash o.text)))
+    option_or (file_refusal o.place (read n (without_one_leading_dot_slash o.text)))
     (verify_refusal read (n + 1) operands)
 
 -- the line `FILE: OK` that is printed for a sound file with this name
@@ -36,7 +36,7 @@ sound_line file = file ++ codes ": OK\n"
 -- the report if all files are sound: a line for each operand
 abbrev pub sound_lines : List Operand → List ℕ
 sound_lines [] = []
-sound_lines (o ∷ operands) = sound_line (without_dot_slash o.text) ++ sound_lines operands
+sound_lines (o ∷ operands) = sound_line (without_one_leading_dot_slash o.text) ++ sound_lines operands
 
 -- the outcome of `verify`: a line for each file, unless one is refused
 abbrev pub verify : Reads → Files → List Operand → Outcome

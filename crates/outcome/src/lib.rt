@@ -20,7 +20,7 @@
 
 ghost use Rattle.std.specs.Prelude.{◌≡◌, ◌⊎◌, ℕ, true, false, List, None, Some, Result, Ok, Err, IsSome, IsTrue, is_some, not};
 ghost use Rattle.base_core.specs.Files.{Files, HasOnlyNamesAmong};
-ghost use Rattle.base_core.specs.Listed.{IsSortedListingOfFolder, AreSortedNamesInMap};
+ghost use Rattle.base_core.specs.Listed.{IsSortedListingOfFolder, IsSortedListOfAllNamesInMap};
 ghost use Rattle.base_core.specs.Tree.{IsWellFormed, TreeState, files_of};
 ghost use Rattle.base_core.specs.declared.cause.Cause.{Cause};
 ghost use Rattle.tell_core.specs.change_inputs.Inputs.{database_for};
@@ -298,7 +298,7 @@ fn words_alone_are_the_same_everywhere()
 pub fn a_listing_of_a_tree_is_that_of_its_files()
     ensures { (folder : List ℕ) (v : TreeState) (names : List (List ℕ))
         → IsSortedListingOfFolder folder v names
-        → AreSortedNamesInMap (files_below folder (files_of v)) names }
+        → IsSortedListOfAllNamesInMap (files_below folder (files_of v)) names }
 {}
 
 /// The file that `mkpkg` or `mkndx` leaves as its output passes all tests of a container, if it has
@@ -318,7 +318,7 @@ pub fn what_is_made_is_sound()
 
 // Functions and laws of crates on which this one depends, for crates that depend on this one.
 pub use demo_lines::{
-    add_words, contents_of_demo_file, demo_count, demo_file, demo_line, demo_repositories,
+    add_words, contents_of_demo_file, demo_count, demo_file, demo_line_of_count_and_add_report, demo_repositories,
     mkndx_words, mkpkg_words,
 };
 pub use gen_core::{

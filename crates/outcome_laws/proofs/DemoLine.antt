@@ -14,8 +14,8 @@ use Rattle.base_core.specs.Lists.{IsIn}
 use Rattle.command_core.specs.declared.operands.Operand.{Operand}
 use Rattle.dep_core.specs.World.{is_line_end}
 use Rattle.outcome.specs.demo_lines.Count.{demo_count}
-use Rattle.outcome.specs.demo_lines.Lines.{demo_package_name, name_unless_needed_by_first_n, names_not_needed_by_first_n}
-use Rattle.outcome.specs.demo_lines.Report.{demo_line, last_line}
+use Rattle.outcome.specs.demo_lines.Lines.{demo_package_name, name_if_unneeded_by_first_n_at, names_unneeded_by_first_n_up_to}
+use Rattle.outcome.specs.demo_lines.Report.{demo_line_of_count_and_add_report, last_line}
 use Rattle.outcome_laws.specs.DemoLines.{AreWholeLines, IsDemoPackageNeededByNone, HasNoLineEnd}
 use Rattle.report_core.specs.Reports.{report_line}
 
@@ -69,7 +69,7 @@ last_is front line whole one =
     ∙ after_front front line whole one
 
 pub line_printed : (n : ℕ) (front line : List ℕ) → AreWholeLines front → HasNoLineEnd line
-    → demo_line n (front ++ report_line line) ≡ report_line (codes "demo " ++ decimal n ++ codes ": " ++ line)
+    → demo_line_of_count_and_add_report n (front ++ report_line line) ≡ report_line (codes "demo " ++ decimal n ++ codes ": " ++ line)
 line_printed n front line whole one =
     ap (λ (l : List ℕ). codes "demo " ++ decimal n ++ codes ": " ++ l ++ codes "\n") (last_is front line whole one)
 
@@ -118,9 +118,9 @@ one_of true x name (inl is) = (refl, is)
 one_of true x name (inr more) = absurd more
 one_of false x name h = absurd h
 
-told : (n k : ℕ) (name : List ℕ) → IsIn name (names_not_needed_by_first_n n k) → IsTopUpTo n k name
+told : (n k : ℕ) (name : List ℕ) → IsIn name (names_unneeded_by_first_n_up_to n k) → IsTopUpTo n k name
 told n zero name h = absurd h
-told n (suc k) name h = elim (in_back (names_not_needed_by_first_n n k) (name_unless_needed_by_first_n n (suc k)) name h) [
+told n (suc k) name h = elim (in_back (names_unneeded_by_first_n_up_to n k) (name_if_unneeded_by_first_n_at n (suc k)) name h) [
   | inl earlier ↦
       let (i, least, most, is, top) = told n k name earlier in (i, least, omega (arith, most), is, top)
   | inr here ↦
@@ -131,23 +131,23 @@ top_at : (b : Bool) (x name : List ℕ) → b ≡ true → name ≡ x → IsIn n
 top_at true x name e is = inl is
 top_at false x name e is = absurd (cc (e))
 
-found : (n k : ℕ) (name : List ℕ) → IsTopUpTo n k name → IsIn name (names_not_needed_by_first_n n k)
+found : (n k : ℕ) (name : List ℕ) → IsTopUpTo n k name → IsIn name (names_unneeded_by_first_n_up_to n k)
 found n zero name (i, least, most, is, top) = absurd (omega (arith, least, most))
 found n (suc k) name (i, least, most, is, top) = elim (cases_Bool (nat_lt k i)) [
   | inl e ↦
       let low = ltb-true k i e in
       let here : i ≡ suc k = omega (arith, low, most) in
-      in_right (names_not_needed_by_first_n n k) (name_unless_needed_by_first_n n (suc k)) name
+      in_right (names_unneeded_by_first_n_up_to n k) (name_if_unneeded_by_first_n_at n (suc k)) name
       (top_at (nat_lt n (2 * suc k)) (demo_package_name (suc k)) name (subst (λ (m : ℕ). nat_lt n (2 * m) ≡ true) here top) (is ∙ ap demo_package_name here))
   | inr e ↦
       let high = ltb-false k i e in
-      in_left (names_not_needed_by_first_n n k) (name_unless_needed_by_first_n n (suc k)) name (found n k name (i, least, omega (arith, high), is, top))
+      in_left (names_unneeded_by_first_n_up_to n k) (name_if_unneeded_by_first_n_at n (suc k)) name (found n k name (i, least, omega (arith, high), is, top))
 ]
 
-pub added : (n : ℕ) (name : List ℕ) → IsIn name (names_not_needed_by_first_n n n) ↔ IsDemoPackageNeededByNone n name
+pub added : (n : ℕ) (name : List ℕ) → IsIn name (names_unneeded_by_first_n_up_to n n) ↔ IsDemoPackageNeededByNone n name
 added n name = (there, back)
   where
-    there : IsIn name (names_not_needed_by_first_n n n) → IsDemoPackageNeededByNone n name
+    there : IsIn name (names_unneeded_by_first_n_up_to n n) → IsDemoPackageNeededByNone n name
     there h =
         let (i, least, most, is, top) = told n n name h in
         let low = ltb-true n (2 * i) top in
@@ -159,7 +159,7 @@ added n name = (there, back)
           none = λ j two below half. half_below n i low j below half;
         }
 
-    back : IsDemoPackageNeededByNone n name → IsIn name (names_not_needed_by_first_n n n)
+    back : IsDemoPackageNeededByNone n name → IsIn name (names_unneeded_by_first_n_up_to n n)
     back x = elim (cases_Bool (nat_lt n (2 * x.number))) [
       | inl e ↦ found n n name (x.number, x.least, x.most, x.named, e)
       | inr e ↦

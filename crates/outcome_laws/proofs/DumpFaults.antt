@@ -4,7 +4,7 @@ use Rattle.std.specs.Prelude.{is_some, slice_get}
 use Rattle.std.specs.Option.{option_or}
 use Rattle.adb_block.specs.Header.{schema_of_header}
 use Rattle.adb_block.specs.Reading.{Reading, done, fault, more, block_stream_from}
-use Rattle.adb_block.specs.ReaderPosition.{first_block_position_of_schema_and_file}
+use Rattle.adb_block.specs.PositionBetweenBlocks.{first_block_position_of_schema_and_file}
 use Rattle.adb_view.specs.Head.{payload_head_fault, root_word_of_payload}
 use Rattle.adb_view.specs.Schema.{shape_of}
 use Rattle.adb_view.specs.Walk.{shape_fault}
@@ -13,7 +13,7 @@ use Rattle.adb_view.specs.declared.tables.Which.{Which}
 use Rattle.base_core.specs.Files.{Files}
 use Rattle.base_core.specs.declared.cause.Cause.{Cause}
 use Rattle.base_core.specs.declared.cause.Cause.TheVariants.{WrongSchema}
-use Rattle.command_core.specs.Files.{without_dot_slash}
+use Rattle.command_core.specs.Files.{without_one_leading_dot_slash}
 use Rattle.command_core.specs.declared.operands.Operand.{Operand}
 use Rattle.container_laws.specs.TestsInOrder.{IsFirstFailing}
 use Rattle.container_laws.specs.adb_schema.Soundness.{first_block_payload, root_value_of_payload}
@@ -137,11 +137,11 @@ refused_by : (files : Files) (place : ℕ) (r : Result (List ℕ) Cause) (c : Ca
 refused_by files place (Ok text) c e = absurd (cc (e))
 refused_by files place (Err d) c e = let same : d ≡ c = cc (e) in ap Err same
 
-of_found : (read : Reads) (files : Files) (o : Operand) (file : List ℕ) → read 0 (without_dot_slash o.text) ≡ Some file
+of_found : (read : Reads) (files : Files) (o : Operand) (file : List ℕ) → read 0 (without_one_leading_dot_slash o.text) ≡ Some file
     → (adbdump read files (o ∷ [])).refusal ≡ (text_outcome files o.place (dump_of file)).refusal
 of_found read files o file found = ap (λ (f : Option (List ℕ)). (dump_outcome files o.place f).refusal) found
 
-pub fault_refused : (read : Reads) (files : Files) (o : Operand) (file : List ℕ) (c : Cause) → read 0 (without_dot_slash o.text) ≡ Some file
+pub fault_refused : (read : Reads) (files : Files) (o : Operand) (file : List ℕ) (c : Cause) → read 0 (without_one_leading_dot_slash o.text) ≡ Some file
     → ((adbdump read files (o ∷ [])).refusal ≡ Some (FileBad o.place c)) ↔ IsDumpRefusalCause file c
 fault_refused read files o file c found =
     let same = of_found read files o file found in (
@@ -154,7 +154,7 @@ cause_of : (files : Files) (place : ℕ) (r : Result (List ℕ) Cause) (refusal 
 cause_of files place (Ok text) refusal e = absurd (cc (e))
 cause_of files place (Err d) refusal e = let same : FileBad place d ≡ refusal = cc (e) in (d, sym same)
 
-pub only_faults : (read : Reads) (files : Files) (o : Operand) (file : List ℕ) (refusal : Refusal) → read 0 (without_dot_slash o.text) ≡ Some file
+pub only_faults : (read : Reads) (files : Files) (o : Operand) (file : List ℕ) (refusal : Refusal) → read 0 (without_one_leading_dot_slash o.text) ≡ Some file
     → (adbdump read files (o ∷ [])).refusal ≡ Some refusal → (c : Cause) × (refusal ≡ FileBad o.place c)
 only_faults read files o file refusal found e =
     cause_of files o.place (dump_of file) refusal (sym (of_found read files o file found) ∙ e)
@@ -168,7 +168,7 @@ silent_found files place None e = refl
 silent_found files place (Some file) e = silent_by files place (dump_of file) e
 
 pub refused_silently : (read : Reads) (files : Files) (o : Operand) → is_some (adbdump read files (o ∷ [])).refusal ≡ true → (adbdump read files (o ∷ [])).out ≡ []
-refused_silently read files o e = silent_found files o.place (read 0 (without_dot_slash o.text)) e
+refused_silently read files o e = silent_found files o.place (read 0 (without_one_leading_dot_slash o.text)) e
 
 same_by : (files : Files) (place : ℕ) (r : Result (List ℕ) Cause) → (text_outcome files place r).files ≡ files
 same_by files place (Ok text) = refl
@@ -179,4 +179,4 @@ same_found files place None = refl
 same_found files place (Some file) = same_by files place (dump_of file)
 
 pub files_kept : (read : Reads) (files : Files) (o : Operand) → (adbdump read files (o ∷ [])).files ≡ files
-files_kept read files o = same_found files o.place (read 0 (without_dot_slash o.text))
+files_kept read files o = same_found files o.place (read 0 (without_one_leading_dot_slash o.text))

@@ -4,11 +4,11 @@ use Rattle.std.specs.Prelude.{if◌then◌else◌, nat_lt}
 use Rattle.std.specs.Option.{option_or}
 use Rattle.adb_block.specs.Header.{schema_of_header}
 use Rattle.adb_block.specs.Reading.{Reading, done, fault, more, block_stream_from}
-use Rattle.adb_block.specs.ReaderPosition.{first_block_position_of_schema_and_file}
+use Rattle.adb_block.specs.PositionBetweenBlocks.{first_block_position_of_schema_and_file}
 use Rattle.adb_block.specs.declared.block.BlockKind.{BlockKind}
 use Rattle.adb_block.specs.declared.block.BlockKind.TheVariants as Kinds
 use Rattle.outcome.specs.adb_dump.Dump.{dump_text}
-use Rattle.container_laws.specs.adb_schema.Soundness.{unexpected_contents_block_fault, contents_positions, first_block_payload, further_blocks_fault, payload_after_header, payload_in, root_value_of_payload}
+use Rattle.container_laws.specs.adb_schema.Soundness.{truncated_or_unexpected_contents_fault, folder_and_file_positions_from_payload, first_block_payload, remaining_blocks_fault, payload_by_header_schema_or_fault, payload_in, root_value_of_payload}
 use Rattle.adb_view.specs.Head.{root_word_of_payload}
 use Rattle.adb_view.specs.Plain.{Plain}
 use Rattle.adb_view.specs.Schema.{shape_of}
@@ -20,13 +20,13 @@ use Rattle.base_core.specs.Files.{Files}
 use Rattle.base_core.specs.declared.cause.Cause.{Cause}
 use Rattle.base_core.specs.declared.cause.Cause.TheVariants.{DataOrder, Truncated}
 use Rattle.base_core.proofs.Causes.{both_none}
-use Rattle.command_core.specs.Files.{without_dot_slash}
+use Rattle.command_core.specs.Files.{without_one_leading_dot_slash}
 use Rattle.command_core.specs.declared.operands.Operand.{Operand}
 use Rattle.container_laws.specs.TestsInOrder.{PassesEveryContainerTest}
 use Rattle.outcome.specs.make_info.Reads.{Reads}
 use Rattle.outcome.specs.Dump.{adbdump, dump_fault_of_blocks, dump_of, dump_of_blocks, dump_outcome, dump_by_root_table, dump_by_schema, framing_fault, text_unless_fault, text_outcome}
-use Rattle.container_laws.specs.pkg_core.Contents.{ExpectedFile, POSITIONS_LEN, contents_block_fault, expected_files_of_package, fault_of_files_read, files_read_from_block_and_further, files_read_from_blocks, files_unless_fault, with_contents_of_next}
-use Rattle.container_laws.specs.pkg_core.Whole.{fault_of_further_blocks, table_of_schema}
+use Rattle.container_laws.specs.pkg_core.Contents.{ExpectedFile, POSITIONS_LEN, contents_block_fault_at_offset, expected_files_of_package, fault_of_files_read, files_from_block_at_offset_if_contents, files_read_from_blocks, files_or_fault_alone, with_contents_of_next}
+use Rattle.container_laws.specs.pkg_core.Whole.{fault_of_contents_blocks_by_root_table, table_of_schema}
 use Rattle.report_core.specs.declared.refusal.Refusal.TheVariants.{FileBad, FileMissing}
 use Rattle.outcome_laws.specs.DumpedFiles.{HasDumpTextOfRootValue}
 
@@ -49,7 +49,7 @@ text_by_root file text schema (Some which) header root e =
       which = which;
       root = root;
       text_is = told_text which (block_stream_from (first_block_position_of_schema_and_file schema file)) text e
-          ∙ ap (λ (o : Result ℕ Cause). dump_text which (root_value_of_payload which (payload_after_header file o))) (sym header);
+          ∙ ap (λ (o : Result ℕ Cause). dump_text which (root_value_of_payload which (payload_by_header_schema_or_fault file o))) (sym header);
     }
 
 text_by_header : (file text : List ℕ) (h : Result ℕ Cause) → schema_of_header file ≡ h → dump_by_schema file h ≡ Ok text → HasDumpTextOfRootValue file text
@@ -60,11 +60,11 @@ text_of : (file text : List ℕ) → dump_of file ≡ Ok text → HasDumpTextOfR
 unfolding dump_of
 text_of file text e = text_by_header file text (schema_of_header file) refl e
 
-pub text_printed : (read : Reads) (files : Files) (o : Operand) (file : List ℕ) → read 0 (without_dot_slash o.text) ≡ Some file
+pub text_printed : (read : Reads) (files : Files) (o : Operand) (file : List ℕ) → read 0 (without_one_leading_dot_slash o.text) ≡ Some file
     → (adbdump read files (o ∷ [])).refusal ≡ None → HasDumpTextOfRootValue file (adbdump read files (o ∷ [])).out
 text_printed read files o file found e = go (dump_of file) refl
   where
-    go : (r : Result (List ℕ) Cause) → dump_of file ≡ r → HasDumpTextOfRootValue file (dump_outcome files o.place (read 0 (without_dot_slash o.text))).out
+    go : (r : Result (List ℕ) Cause) → dump_of file ≡ r → HasDumpTextOfRootValue file (dump_outcome files o.place (read 0 (without_one_leading_dot_slash o.text))).out
     go (Ok text) is =
         subst (HasDumpTextOfRootValue file)
         (sym (ap (λ (f : Option (List ℕ)). (dump_outcome files o.place f).out) found ∙ ap (λ (r : Result (List ℕ) Cause). (text_outcome files o.place r).out) is))
@@ -75,11 +75,11 @@ text_printed read files o file found e = go (dump_of file) refl
 
 -- ---- the framing of the blocks
 
-framed_further : (r : Reading) → further_blocks_fault r ≡ None → framing_fault r ≡ None
-unfolding further_blocks_fault
+framed_further : (r : Reading) → remaining_blocks_fault r ≡ None → framing_fault r ≡ None
+unfolding remaining_blocks_fault
 framed_further done e = refl
 framed_further (fault c) e = absurd cc
-framed_further (more b at r) e = framed_further r (both_none (unexpected_contents_block_fault b.kind b.payload at) (further_blocks_fault r) e).1
+framed_further (more b at r) e = framed_further r (both_none (truncated_or_unexpected_contents_fault b.kind b.payload at) (remaining_blocks_fault r) e).1
 
 never_none : {A : Type 0} (b : Bool) (x y : A) → (if b then Some x else Some y) ≡ None → ⊥
 never_none true x y e = absurd cc
@@ -91,19 +91,19 @@ framed_contents es done e = refl
 framed_contents es (fault c) e = absurd cc
 framed_contents es (more b at r) e = by_kind b.kind e (λ left. framed_contents left r)
   where
-    by_fault : (o : Option Cause) (left : List ExpectedFile) → contents_block_fault b.payload at left ≡ o → fault_of_files_read (files_unless_fault o (with_contents_of_next b.payload (λ rest. files_read_from_blocks rest r) left)) ≡ None
+    by_fault : (o : Option Cause) (left : List ExpectedFile) → contents_block_fault_at_offset b.payload at left ≡ o → fault_of_files_read (files_or_fault_alone o (with_contents_of_next b.payload (λ rest. files_read_from_blocks rest r) left)) ≡ None
         → ((rest : List ExpectedFile) → fault_of_files_read (files_read_from_blocks rest r) ≡ None → framing_fault r ≡ None) → framing_fault r ≡ None
     by_fault (Some c) left is e further = absurd cc
-    by_fault None [] is e further = absurd (never_none (nat_lt (length b.payload) POSITIONS_LEN) (Truncated at) (DataOrder (0, 0) (contents_positions b.payload)) is)
+    by_fault None [] is e further = absurd (never_none (nat_lt (length b.payload) POSITIONS_LEN) (Truncated at) (DataOrder (0, 0) (folder_and_file_positions_from_payload b.payload)) is)
     by_fault None (x ∷ xs) is e further = further xs e
 
-    by_kind : (k : BlockKind) → fault_of_files_read (files_read_from_block_and_further k b.payload at (λ left. files_read_from_blocks left r) es) ≡ None
+    by_kind : (k : BlockKind) → fault_of_files_read (files_from_block_at_offset_if_contents k b.payload at (λ left. files_read_from_blocks left r) es) ≡ None
         → ((rest : List ExpectedFile) → fault_of_files_read (files_read_from_blocks rest r) ≡ None → framing_fault r ≡ None) → framing_fault r ≡ None
-    by_kind Kinds.Contents e further = by_fault (contents_block_fault b.payload at es) es refl e further
+    by_kind Kinds.Contents e further = by_fault (contents_block_fault_at_offset b.payload at es) es refl e further
     by_kind Kinds.Adb e further = further es e
     by_kind Kinds.Signature e further = further es e
 
-framed : (which : Which) (value : Plain) (r : Reading) → fault_of_further_blocks which value r ≡ None → framing_fault r ≡ None
+framed : (which : Which) (value : Plain) (r : Reading) → fault_of_contents_blocks_by_root_table which value r ≡ None → framing_fault r ≡ None
 framed Tables.Package value r e = framed_contents (expected_files_of_package value) r e
 framed Tables.Dep value r e = framed_further r e
 framed Tables.Acl value r e = framed_further r e
@@ -134,11 +134,11 @@ dumped file p =
           ∙ ap (λ (o : Option Cause). text_unless_fault o text) good,
     )
 
-pub sound_dumped : (read : Reads) (files : Files) (o : Operand) (file : List ℕ) → read 0 (without_dot_slash o.text) ≡ Some file → PassesEveryContainerTest file
+pub sound_dumped : (read : Reads) (files : Files) (o : Operand) (file : List ℕ) → read 0 (without_one_leading_dot_slash o.text) ≡ Some file → PassesEveryContainerTest file
     → (adbdump read files (o ∷ [])).refusal ≡ None
 sound_dumped read files o file found p =
     ap (λ (f : Option (List ℕ)). (dump_outcome files o.place f).refusal) found
     ∙ ap (λ (r : Result (List ℕ) Cause). (text_outcome files o.place r).refusal) (dumped file p).1
 
-pub absent_refused : (read : Reads) (files : Files) (o : Operand) → read 0 (without_dot_slash o.text) ≡ None → (adbdump read files (o ∷ [])).refusal ≡ Some (FileMissing o.place)
+pub absent_refused : (read : Reads) (files : Files) (o : Operand) → read 0 (without_one_leading_dot_slash o.text) ≡ None → (adbdump read files (o ∷ [])).refusal ≡ Some (FileMissing o.place)
 absent_refused read files o found = ap (λ (f : Option (List ℕ)). (dump_outcome files o.place f).refusal) found

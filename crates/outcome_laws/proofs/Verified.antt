@@ -5,7 +5,7 @@ use Rattle.std.specs.Option.{option_or}
 use Rattle.std.proofs.lemmas.List.{append_assoc}
 use Rattle.base_core.specs.Files.{Files}
 use Rattle.base_core.specs.declared.cause.Cause.{Cause}
-use Rattle.command_core.specs.Files.{without_dot_slash}
+use Rattle.command_core.specs.Files.{without_one_leading_dot_slash}
 use Rattle.command_core.specs.declared.operands.Operand.{Operand}
 use Rattle.container_laws.proofs.EveryTest.{every_test}
 use Rattle.container_laws.proofs.FirstTests.{any_told}
@@ -61,7 +61,7 @@ refusal_of place (Some file) refusal e = go (container_fault file) refl e
 
 abbrev AreSoundFrom : Reads → ℕ → List Operand → Type 0
 AreSoundFrom read n operands =
-    (i : ℕ) (o : Operand) → slice_get operands i ≡ Some o → IsFoundSound (read (n + i) (without_dot_slash o.text))
+    (i : ℕ) (o : Operand) → slice_get operands i ≡ Some o → IsFoundSound (read (n + i) (without_one_leading_dot_slash o.text))
 
 both_none : (a b : Option Refusal) → option_or a b ≡ None → (a ≡ None) × (b ≡ None)
 both_none None b e = (refl, e)
@@ -80,26 +80,26 @@ all_sound : (read : Reads) (n : ℕ) (operands : List Operand) → verify_refusa
 all_sound read n [] e i o is = absurd cc
 all_sound read n (p ∷ operands) e zero o is =
     let same : p ≡ o = cc in
-    let here = sound_found p.place (read n (without_dot_slash p.text)) (both_none _ _ e).0 in
-    subst (λ (k : ℕ). IsFoundSound (read k (without_dot_slash o.text))) (sym (no_number n))
-    (subst (λ (q : Operand). IsFoundSound (read n (without_dot_slash q.text))) same here)
+    let here = sound_found p.place (read n (without_one_leading_dot_slash p.text)) (both_none _ _ e).0 in
+    subst (λ (k : ℕ). IsFoundSound (read k (without_one_leading_dot_slash o.text))) (sym (no_number n))
+    (subst (λ (q : Operand). IsFoundSound (read n (without_one_leading_dot_slash q.text))) same here)
 all_sound read n (p ∷ operands) e (suc i) o is =
-    subst (λ (k : ℕ). IsFoundSound (read k (without_dot_slash o.text))) (sym (same_number n i))
+    subst (λ (k : ℕ). IsFoundSound (read k (without_one_leading_dot_slash o.text))) (sym (same_number n i))
     (all_sound read (n + 1) operands (both_none _ _ e).1 i o is)
 
 sound_all : (read : Reads) (n : ℕ) (operands : List Operand) → AreSoundFrom read n operands → verify_refusal read n operands ≡ None
 sound_all read n [] each = refl
 sound_all read n (p ∷ operands) each =
-    let here : IsFoundSound (read n (without_dot_slash p.text)) = subst (λ (k : ℕ). IsFoundSound (read k (without_dot_slash p.text))) (no_number n) (each 0 p refl) in
-    ap (λ (o : Option Refusal). option_or o (verify_refusal read (n + 1) operands)) (found_sound p.place (read n (without_dot_slash p.text)) here)
-    ∙ sound_all read (n + 1) operands (λ i o is. subst (λ (k : ℕ). IsFoundSound (read k (without_dot_slash o.text))) (same_number n i) (each (suc i) o is))
+    let here : IsFoundSound (read n (without_one_leading_dot_slash p.text)) = subst (λ (k : ℕ). IsFoundSound (read k (without_one_leading_dot_slash p.text))) (no_number n) (each 0 p refl) in
+    ap (λ (o : Option Refusal). option_or o (verify_refusal read (n + 1) operands)) (found_sound p.place (read n (without_one_leading_dot_slash p.text)) here)
+    ∙ sound_all read (n + 1) operands (λ i o is. subst (λ (k : ℕ). IsFoundSound (read k (without_one_leading_dot_slash o.text))) (same_number n i) (each (suc i) o is))
 
 pub sound_exactly : (read : Reads) (files : Files) (operands : List Operand) → ((verify read files operands).refusal ≡ None) ↔ AreFilesSound read operands
 sound_exactly read files operands = (
-  λ e i o is. subst (λ (k : ℕ). IsFoundSound (read k (without_dot_slash o.text))) (from_zero i)
+  λ e i o is. subst (λ (k : ℕ). IsFoundSound (read k (without_one_leading_dot_slash o.text))) (from_zero i)
       (all_sound read 0 operands (sym (refusal_is files (verify_refusal read 0 operands) (sound_lines operands)) ∙ e) i o is),
   λ each. refusal_is files (verify_refusal read 0 operands) (sound_lines operands)
-      ∙ sound_all read 0 operands (λ i o is. subst (λ (k : ℕ). IsFoundSound (read k (without_dot_slash o.text))) (sym (from_zero i)) (each i o is)),
+      ∙ sound_all read 0 operands (λ i o is. subst (λ (k : ℕ). IsFoundSound (read k (without_one_leading_dot_slash o.text))) (sym (from_zero i)) (each i o is)),
 )
 
 -- ---- the first refused one
@@ -109,23 +109,23 @@ record IsFirstFrom (read : Reads) (n : ℕ) (operands : List Operand) (refusal :
   number : ℕ
   operand : Operand
   at : slice_get operands number ≡ Some operand
-  refused : IsFileRefusal (read (n + number) (without_dot_slash operand.text)) operand.place refusal
-  earlier : (i : ℕ) → i < number → (o : Operand) → slice_get operands i ≡ Some o → IsFoundSound (read (n + i) (without_dot_slash o.text))
+  refused : IsFileRefusal (read (n + number) (without_one_leading_dot_slash operand.text)) operand.place refusal
+  earlier : (i : ℕ) → i < number → (o : Operand) → slice_get operands i ≡ Some o → IsFoundSound (read (n + i) (without_one_leading_dot_slash o.text))
 
 first_from : (read : Reads) (n : ℕ) (operands : List Operand) (refusal : Refusal) → verify_refusal read n operands ≡ Some refusal → IsFirstFrom read n operands refusal
 first_from read n [] refusal e = absurd cc
 first_from read n (p ∷ operands) refusal e =
-    go (file_refusal p.place (read n (without_dot_slash p.text))) refl e (first_from read (n + 1) operands refusal)
+    go (file_refusal p.place (read n (without_one_leading_dot_slash p.text))) refl e (first_from read (n + 1) operands refusal)
   where
-    later : IsFoundSound (read n (without_dot_slash p.text)) → (f : IsFirstFrom read (n + 1) operands refusal) → (i : ℕ) → i < suc f.number → (o : Operand) → slice_get (p ∷ operands) i ≡ Some o → IsFoundSound (read (n + i) (without_dot_slash o.text))
+    later : IsFoundSound (read n (without_one_leading_dot_slash p.text)) → (f : IsFirstFrom read (n + 1) operands refusal) → (i : ℕ) → i < suc f.number → (o : Operand) → slice_get (p ∷ operands) i ≡ Some o → IsFoundSound (read (n + i) (without_one_leading_dot_slash o.text))
     later here f zero below o is =
         let same : p ≡ o = cc in
-        subst (λ (k : ℕ). IsFoundSound (read k (without_dot_slash o.text))) (sym (no_number n))
-        (subst (λ (q : Operand). IsFoundSound (read n (without_dot_slash q.text))) same here)
+        subst (λ (k : ℕ). IsFoundSound (read k (without_one_leading_dot_slash o.text))) (sym (no_number n))
+        (subst (λ (q : Operand). IsFoundSound (read n (without_one_leading_dot_slash q.text))) same here)
     later here f (suc i) below o is =
-        subst (λ (k : ℕ). IsFoundSound (read k (without_dot_slash o.text))) (sym (same_number n i)) (f.earlier i (omega (arith, below)) o is)
+        subst (λ (k : ℕ). IsFoundSound (read k (without_one_leading_dot_slash o.text))) (sym (same_number n i)) (f.earlier i (omega (arith, below)) o is)
 
-    go : (o : Option Refusal) → file_refusal p.place (read n (without_dot_slash p.text)) ≡ o → option_or o (verify_refusal read (n + 1) operands) ≡ Some refusal
+    go : (o : Option Refusal) → file_refusal p.place (read n (without_one_leading_dot_slash p.text)) ≡ o → option_or o (verify_refusal read (n + 1) operands) ≡ Some refusal
         → (verify_refusal read (n + 1) operands ≡ Some refusal → IsFirstFrom read (n + 1) operands refusal) → IsFirstFrom read n (p ∷ operands) refusal
     go (Some r) is e more =
         let same : r ≡ refusal = cc in
@@ -133,7 +133,7 @@ first_from read n (p ∷ operands) refusal e =
           number = 0;
           operand = p;
           at = refl;
-          refused = subst (λ (k : ℕ). IsFileRefusal (read k (without_dot_slash p.text)) p.place refusal) (sym (no_number n)) (refusal_of p.place (read n (without_dot_slash p.text)) refusal (is ∙ ap Some same));
+          refused = subst (λ (k : ℕ). IsFileRefusal (read k (without_one_leading_dot_slash p.text)) p.place refusal) (sym (no_number n)) (refusal_of p.place (read n (without_one_leading_dot_slash p.text)) refusal (is ∙ ap Some same));
           earlier = λ i below. absurd (omega (arith, below));
         }
     go None is e more =
@@ -142,8 +142,8 @@ first_from read n (p ∷ operands) refusal e =
           number = suc f.number;
           operand = f.operand;
           at = f.at;
-          refused = subst (λ (k : ℕ). IsFileRefusal (read k (without_dot_slash f.operand.text)) f.operand.place refusal) (sym (same_number n f.number)) f.refused;
-          earlier = later (sound_found p.place (read n (without_dot_slash p.text)) is) f;
+          refused = subst (λ (k : ℕ). IsFileRefusal (read k (without_one_leading_dot_slash f.operand.text)) f.operand.place refusal) (sym (same_number n f.number)) f.refused;
+          earlier = later (sound_found p.place (read n (without_one_leading_dot_slash p.text)) is) f;
         }
 
 pub first_unsound : (read : Reads) (files : Files) (operands : List Operand) (refusal : Refusal) → (verify read files operands).refusal ≡ Some refusal → IsRefusalOfFirstUnsoundFile read operands refusal
@@ -153,20 +153,20 @@ first_unsound read files operands refusal e =
       number = f.number;
       operand = f.operand;
       at = f.at;
-      refused = subst (λ (k : ℕ). IsFileRefusal (read k (without_dot_slash f.operand.text)) f.operand.place refusal) (from_zero f.number) f.refused;
-      earlier = λ i below o is. subst (λ (k : ℕ). IsFoundSound (read k (without_dot_slash o.text))) (from_zero i) (f.earlier i below o is);
+      refused = subst (λ (k : ℕ). IsFileRefusal (read k (without_one_leading_dot_slash f.operand.text)) f.operand.place refusal) (from_zero f.number) f.refused;
+      earlier = λ i below o is. subst (λ (k : ℕ). IsFoundSound (read k (without_one_leading_dot_slash o.text))) (from_zero i) (f.earlier i below o is);
     }
 
 -- ---- the report
 
-ok_lines : (operands : List Operand) → sound_lines operands ≡ report_lines (map (λ (o : Operand). without_dot_slash o.text ++ codes ": OK") operands)
+ok_lines : (operands : List Operand) → sound_lines operands ≡ report_lines (map (λ (o : Operand). without_one_leading_dot_slash o.text ++ codes ": OK") operands)
 ok_lines [] = refl
 ok_lines (o ∷ operands) =
-    ap (λ (t : List ℕ). t ++ sound_lines operands) (sym (append_assoc (without_dot_slash o.text) (codes ": OK") (codes "\n")))
-    ∙ ap (λ (t : List ℕ). report_line (without_dot_slash o.text ++ codes ": OK") ++ t) (ok_lines operands)
+    ap (λ (t : List ℕ). t ++ sound_lines operands) (sym (append_assoc (without_one_leading_dot_slash o.text) (codes ": OK") (codes "\n")))
+    ∙ ap (λ (t : List ℕ). report_line (without_one_leading_dot_slash o.text ++ codes ": OK") ++ t) (ok_lines operands)
 
 pub ok_printed : (read : Reads) (files : Files) (operands : List Operand) → (verify read files operands).refusal ≡ None
-    → (verify read files operands).out ≡ report_lines (map (λ (o : Operand). without_dot_slash o.text ++ codes ": OK") operands)
+    → (verify read files operands).out ≡ report_lines (map (λ (o : Operand). without_one_leading_dot_slash o.text ++ codes ": OK") operands)
 ok_printed read files operands e =
     printed_by files (verify_refusal read 0 operands) (sound_lines operands) (sym (refusal_is files (verify_refusal read 0 operands) (sound_lines operands)) ∙ e)
     ∙ ok_lines operands

@@ -4,9 +4,9 @@ use Rattle.std.specs.Prelude.{ℕ, ◌≡◌, ◌⊎◌, List, [], ◌∷◌, Op
 use Rattle.base_core.specs.declared.cause.Cause.{Cause}
 use Rattle.base_core.specs.declared.cause.Cause.TheVariants.{WrongSchema}
 use Rattle.adb_block.specs.Header.{schema_of_header}
-use Rattle.adb_block.specs.Piece.{Piece}
+use Rattle.adb_block.specs.BlockWithoutOffset.{BlockWithoutOffset}
 use Rattle.adb_block.specs.Reading.{Reading, fault, more, block_stream_from}
-use Rattle.adb_block.specs.ReaderPosition.{first_block_position_of_schema_and_file}
+use Rattle.adb_block.specs.PositionBetweenBlocks.{first_block_position_of_schema_and_file}
 use Rattle.adb_view.specs.Head.{payload_head_fault, root_word_of_payload}
 use Rattle.adb_view.specs.Schema.{shape_of}
 use Rattle.adb_view.specs.Walk.{shape_fault}
@@ -46,7 +46,7 @@ tests_of_printed which payload behind =
 abbrev pub IsFaultOfPrinted : Which → Reading → Cause → Type 0
 IsFaultOfPrinted which r c =
     (r ≡ fault c)
-    ⊎ ((b : Piece) × (at : ℕ) × (behind : Reading) × (r ≡ more b at behind)
+    ⊎ ((b : BlockWithoutOffset) × (at : ℕ) × (behind : Reading) × (r ≡ more b at behind)
     × IsFirstFailing (tests_of_printed which b.payload behind) c)
 
 -- `c` is the fault for which `adbdump` refuses a file: that of its header; or else that its schema is none of the four;

@@ -2,7 +2,7 @@
 -- in `docs/formats.md`, "Tests of a container". Serves the laws of `src/verify.rt`.
 use Rattle.std.specs.Prelude.{◌≡◌, ◌<◌, ℕ, List, Option, Some, None, slice_get}
 use Rattle.base_core.specs.declared.cause.Cause.{Cause}
-use Rattle.command_core.specs.Files.{without_dot_slash}
+use Rattle.command_core.specs.Files.{without_one_leading_dot_slash}
 use Rattle.command_core.specs.declared.operands.Operand.{Operand}
 use Rattle.container_laws.specs.TestsInOrder.{IsContainerFault, PassesEveryContainerTest}
 use Rattle.outcome.specs.make_info.Reads.{Reads}
@@ -21,7 +21,7 @@ pub record IsFoundSound (found : Option (List ℕ)) : Type 0 where
 -- if there is an operand with index i, counted from 0, read number i finds under its name a file that passes every test
 abbrev pub IsOperandSound : Reads → List Operand → ℕ → Type 0
 IsOperandSound read operands i =
-    (o : Operand) → slice_get operands i ≡ Some o → IsFoundSound (read i (without_dot_slash o.text))
+    (o : Operand) → slice_get operands i ≡ Some o → IsFoundSound (read i (without_one_leading_dot_slash o.text))
 
 -- the files of all operands pass every test
 abbrev pub AreFilesSound : Reads → List Operand → Type 0
@@ -44,6 +44,6 @@ pub record IsRefusalOfFirstUnsoundFile (read : Reads) (operands : List Operand)
   -- the operand has this index among all operands
   pub at : slice_get operands number ≡ Some operand
   -- the refusal is that of the file under this operand
-  pub refused : IsFileRefusal (read number (without_dot_slash operand.text)) operand.place refusal
+  pub refused : IsFileRefusal (read number (without_one_leading_dot_slash operand.text)) operand.place refusal
   -- the file of each operand before it passes every test
   pub earlier : (i : ℕ) → i < number → IsOperandSound read operands i

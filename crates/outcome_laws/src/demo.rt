@@ -6,8 +6,8 @@ ghost use Rattle.std.specs.Fmt.{decimal};
 ghost use Rattle.base_core.specs.Lists.{IsIn};
 ghost use Rattle.command_core.specs.declared.operands.Operand.{Operand};
 ghost use Rattle.outcome.specs.demo_lines.Count.{demo_count};
-ghost use Rattle.outcome.specs.demo_lines.Lines.{names_not_needed_by_first_n};
-ghost use Rattle.outcome.specs.demo_lines.Report.{demo_line};
+ghost use Rattle.outcome.specs.demo_lines.Lines.{names_unneeded_by_first_n_up_to};
+ghost use Rattle.outcome.specs.demo_lines.Report.{demo_line_of_count_and_add_report};
 ghost use Rattle.outcome_laws.specs.DemoLines.{AreWholeLines, IsDemoPackageNeededByNone, HasNoLineEnd};
 ghost use Rattle.report_core.specs.Reports.{report_line};
 
@@ -15,7 +15,7 @@ ghost use Rattle.report_core.specs.Reports.{report_line};
 /// the report before its last one.
 pub fn demo_prints_the_last_line_of_a_report()
     ensures { (n : ℕ) (front line : List ℕ) → AreWholeLines front → HasNoLineEnd line
-        → demo_line n (front ++ report_line line)
+        → demo_line_of_count_and_add_report n (front ++ report_line line)
         ≡ report_line (codes "demo " ++ decimal n ++ codes ": " ++ line) }
 {}
 
@@ -26,6 +26,6 @@ pub fn demo_makes_as_many_packages_as_its_operand_says()
 
 /// Of n packages, `demo` adds exactly those on which no other package depends.
 pub fn demo_adds_the_packages_on_which_no_other_depends()
-    ensures { (n : ℕ) (name : List ℕ) → IsIn name (names_not_needed_by_first_n n n)
+    ensures { (n : ℕ) (name : List ℕ) → IsIn name (names_unneeded_by_first_n_up_to n n)
         ↔ IsDemoPackageNeededByNone n name }
 {}

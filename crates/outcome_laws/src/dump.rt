@@ -4,7 +4,7 @@
 ghost use Rattle.std.specs.Prelude.{ℕ, ◌≡◌, ◌↔◌, ◌∷◌, [], List, Some, None, is_some, true};
 ghost use Rattle.base_core.specs.Files.{Files};
 ghost use Rattle.base_core.specs.declared.cause.Cause.{Cause};
-ghost use Rattle.command_core.specs.Files.{without_dot_slash};
+ghost use Rattle.command_core.specs.Files.{without_one_leading_dot_slash};
 ghost use Rattle.command_core.specs.declared.operands.Operand.{Operand};
 ghost use Rattle.container_laws.specs.TestsInOrder.{PassesEveryContainerTest};
 ghost use Rattle.outcome.specs.make_info.Reads.{Reads};
@@ -17,7 +17,7 @@ ghost use Rattle.report_core.specs.declared.refusal.Refusal.TheVariants.{FileBad
 /// file's first block, by the schema in the file's header.
 pub fn adbdump_prints_the_text_of_the_value()
     ensures { (read : Reads) (files : Files) (o : Operand) (file : List ℕ)
-        → read 0 (without_dot_slash o.text) ≡ Some file
+        → read 0 (without_one_leading_dot_slash o.text) ≡ Some file
         → (adbdump read files (o ∷ [])).refusal ≡ None
         → HasDumpTextOfRootValue file (adbdump read files (o ∷ [])).out }
 {}
@@ -27,11 +27,11 @@ pub fn adbdump_prints_the_text_of_the_value()
 pub fn adbdump_prints_what_passes_every_test()
     // A file that passes every test is not refused.
     ensures sound { (read : Reads) (files : Files) (o : Operand) (file : List ℕ)
-        → read 0 (without_dot_slash o.text) ≡ Some file → PassesEveryContainerTest file
+        → read 0 (without_one_leading_dot_slash o.text) ≡ Some file → PassesEveryContainerTest file
         → (adbdump read files (o ∷ [])).refusal ≡ None }
     // An absent file is refused as missing.
     ensures absent { (read : Reads) (files : Files) (o : Operand)
-        → read 0 (without_dot_slash o.text) ≡ None
+        → read 0 (without_one_leading_dot_slash o.text) ≡ None
         → (adbdump read files (o ∷ [])).refusal ≡ Some (FileMissing o.place) }
 {}
 
@@ -42,12 +42,12 @@ pub fn adbdump_prints_what_passes_every_test()
 pub fn adbdump_refuses_the_first_failed_test()
     // The cause is the first test that the file fails.
     ensures refused { (read : Reads) (files : Files) (o : Operand) (file : List ℕ) (cause : Cause)
-        → read 0 (without_dot_slash o.text) ≡ Some file
+        → read 0 (without_one_leading_dot_slash o.text) ≡ Some file
         → ((adbdump read files (o ∷ [])).refusal ≡ Some (FileBad o.place cause))
         ↔ IsDumpRefusalCause file cause }
     // A file that is found is refused only as bad, with a cause.
     ensures only { (read : Reads) (files : Files) (o : Operand) (file : List ℕ)
-        (refusal : Refusal) → read 0 (without_dot_slash o.text) ≡ Some file
+        (refusal : Refusal) → read 0 (without_one_leading_dot_slash o.text) ≡ Some file
         → (adbdump read files (o ∷ [])).refusal ≡ Some refusal
         → (cause : Cause) × (refusal ≡ FileBad o.place cause) }
     // With a refusal nothing is printed on standard output.

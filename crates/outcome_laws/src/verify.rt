@@ -3,7 +3,7 @@
 
 ghost use Rattle.std.specs.Prelude.{◌≡◌, ◌↔◌, ◌++◌, [], List, Some, None, codes, is_some, map, true};
 ghost use Rattle.base_core.specs.Files.{Files};
-ghost use Rattle.command_core.specs.Files.{without_dot_slash};
+ghost use Rattle.command_core.specs.Files.{without_one_leading_dot_slash};
 ghost use Rattle.command_core.specs.declared.operands.Operand.{Operand};
 ghost use Rattle.outcome.specs.make_info.Reads.{Reads};
 ghost use Rattle.outcome.specs.Verify.{verify};
@@ -32,7 +32,7 @@ pub fn verify_prints_ok_for_each_file()
     ensures printed { (read : Reads) (files : Files) (operands : List Operand)
         → (verify read files operands).refusal ≡ None
         → (verify read files operands).out
-        ≡ report_lines (map (λ (o : Operand). without_dot_slash o.text ++ codes ": OK") operands) }
+        ≡ report_lines (map (λ (o : Operand). without_one_leading_dot_slash o.text ++ codes ": OK") operands) }
     // With a refusal nothing is printed on standard output.
     ensures refused { (read : Reads) (files : Files) (operands : List Operand)
         → is_some (verify read files operands).refusal ≡ true

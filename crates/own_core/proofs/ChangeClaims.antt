@@ -6,7 +6,7 @@ use Rattle.std.specs.List.Sorted.{IsSorted}
 use Rattle.std.specs.Ordering.{is_lt, ordering_reverse}
 use Rattle.std.proofs.lemmas.Cmp.{nat_list_cmp_total}
 use Rattle.std.proofs.lemmas.Bool.{le-leb}
-use Rattle.base_core.specs.Listed.{AreSortedDistinctNames}
+use Rattle.base_core.specs.Listed.{AreSortedDistinctTexts}
 use Rattle.base_core.specs.ByteOrder.{bytes_cmp}
 use Rattle.base_core.proofs.Sorting.{sorted_up}
 use Rattle.change_files.specs.db_core.Members.{members_of_kept}
@@ -19,7 +19,7 @@ use Rattle.path_claim_lists.proofs.path_claims.Places.{map_len, seen_at}
 use Rattle.change_files.specs.file_guard.Listed.{DescribesEntry}
 use Rattle.change_files.specs.file_guard.declared.compare.ListedFile.{ListedFile}
 use Rattle.change_files.specs.file_owners.Owners.{claims_in}
-use Rattle.change_files.specs.FileChange.{is_listed_after_change, old_entry, old_listings}
+use Rattle.change_files.specs.FileChange.{is_listed_after_change, old_file_entry, old_listings}
 use Rattle.own_core.specs.ClaimEntries.{claim_entry}
 use Rattle.own_core.specs.Fates.{DescribesEntryIfAny}
 use Rattle.own_core.specs.Sides.{HasClaimsOfPackages, claims_after, claims_before, file_change_of}
@@ -28,9 +28,9 @@ use Rattle.own_core.proofs.Listings.{claimed_is, old_entry_is, same_found}
 
 -- claims whose paths rise are in order
 abbrev rising : List PathClaim → Type 0
-rising cs = AreSortedDistinctNames (map (λ c. c.path) cs)
+rising cs = AreSortedDistinctTexts (map (λ c. c.path) cs)
 
-pub rising_sorted : (cs : List PathClaim) → AreSortedDistinctNames (map (λ c. c.path) cs) → IsSorted claim_cmp cs
+pub rising_sorted : (cs : List PathClaim) → AreSortedDistinctTexts (map (λ c. c.path) cs) → IsSorted claim_cmp cs
 unfolding claim_cmp
 rising_sorted cs up k d low high = not_back (slice_index_or cs k d).path (slice_index_or cs (k + 1) d).path (next cs up k d high)
   where
@@ -43,7 +43,7 @@ rising_sorted cs up k d low high = not_back (slice_index_or cs k d).path (slice_
     path_at (c ∷ cs) zero d = refl
     path_at (c ∷ cs) (suc i) d = path_at cs i d
 
-    next : (cs : List PathClaim) → AreSortedDistinctNames (map (λ c. c.path) cs) → (k : ℕ) (d : PathClaim) → k + 1 < length cs → bytes_cmp (slice_index_or cs k d).path (slice_index_or cs (k + 1) d).path ≡ Less
+    next : (cs : List PathClaim) → AreSortedDistinctTexts (map (λ c. c.path) cs) → (k : ℕ) (d : PathClaim) → k + 1 < length cs → bytes_cmp (slice_index_or cs k d).path (slice_index_or cs (k + 1) d).path ≡ Less
     next cs up k d h =
         let n : length (map (λ c. c.path) cs) ≡ length cs = paths_len cs in
         (λ j. bytes_cmp (sym (path_at cs k d) j) (sym (path_at cs (k + 1) d) j)) ∙ up k (k + 1) d.path (omega arith) (omega (arith, n, h))
@@ -59,7 +59,7 @@ after_sorted change h = subst (IsSorted claim_cmp) (sym h.after) (sorted_up clai
 
 -- ---- before
 
-pub old_entries : (change : ClaimChange) → HasClaimsOfPackages change → (path : List ℕ) → option_map (claim_entry (members_of_kept (packages_of change.db.now))) (find (is_claim_of_path path) (claims_before change)) ≡ old_entry (file_change_of change) path
+pub old_entries : (change : ClaimChange) → HasClaimsOfPackages change → (path : List ℕ) → option_map (claim_entry (members_of_kept (packages_of change.db.now))) (find (is_claim_of_path path) (claims_before change)) ≡ old_file_entry (file_change_of change) path
 unfolding old_listings
 old_entries change h path =
     ap (option_map (claim_entry (members_of_kept (packages_of change.db.now)))) (h.before.each path ∙ same_found (claims_in (members_of_kept (packages_of change.db.now))) path)
@@ -68,12 +68,12 @@ old_entries change h path =
 -- the entry of the claim that was found
 pub entry_found : (change : ClaimChange) → HasClaimsOfPackages change → (path : List ℕ) (listed : ListedFile) (xs : List Claim) (i : ℕ) (d : Claim) → xs ≡ change.before.now → i < length xs
     → option_and_then (slice_get (claims_before change)) (Some i) ≡ find (is_claim_of_path path) (claims_before change)
-    → DescribesEntry listed (claim_entry (members_of_kept (packages_of change.db.now)) (claim_seen (slice_index_or xs i d))) → DescribesEntryIfAny (Some listed) (old_entry (file_change_of change) path)
+    → DescribesEntry listed (claim_entry (members_of_kept (packages_of change.db.now)) (claim_seen (slice_index_or xs i d))) → DescribesEntryIfAny (Some listed) (old_file_entry (file_change_of change) path)
 entry_found change h path listed xs i d is l f e =
     subst (DescribesEntryIfAny (Some listed))
     (ap (option_map (claim_entry (members_of_kept (packages_of change.db.now)))) (sym (seen_at claim_seen xs i d l) ∙ (ap (λ ys. slice_get (map claim_seen ys) i) is ∙ f)) ∙ old_entries change h path) e
 
-pub none_found : (change : ClaimChange) → HasClaimsOfPackages change → (path : List ℕ) → None ≡ find (is_claim_of_path path) (claims_before change) → DescribesEntryIfAny None (old_entry (file_change_of change) path)
+pub none_found : (change : ClaimChange) → HasClaimsOfPackages change → (path : List ℕ) → None ≡ find (is_claim_of_path path) (claims_before change) → DescribesEntryIfAny None (old_file_entry (file_change_of change) path)
 none_found change h path f = subst (DescribesEntryIfAny None) (ap (option_map (claim_entry (members_of_kept (packages_of change.db.now)))) f ∙ old_entries change h path) tt
 
 -- ---- after

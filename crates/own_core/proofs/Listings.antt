@@ -9,11 +9,11 @@ use borrow.Author.Tests.{eqb-true}
 use Rattle.std.proofs.Math.Bool.{and-false}
 use Rattle.base_core.specs.Name.{IsName}
 use Rattle.adb_view.specs.Plain.{Plains, none, more}
-use Rattle.adb_view.specs.Values.{count_of, entries_in, entry_in, nth}
+use Rattle.adb_view.specs.Values.{count_of, entries_in, entry_at_index, nth}
 use Rattle.path_claim_lists.specs.adb_fields.Repeated.{files_in, list_of, name_of}
 use Rattle.base_core.specs.Sorted.{sorted_by}
 use Rattle.base_core.proofs.Sorting.{Each, stable_in_order}
-use Rattle.change_files.specs.db_core.Members.{Listing, Member, listings_of_path, is_added, listings_of_member, listings_of_members_from, listings_in_folder_from_file, listings_in_folders_from, listing_of_file_entry, listings_of_members}
+use Rattle.change_files.specs.db_core.Members.{Listing, Member, listings_of_path, is_added, listings_of_member, listings_of_members_from, listings_from_member_folder_file_places, listings_in_folders_from, listing_of_file_entry, listings_of_members}
 use Rattle.path_claim_lists.specs.path_claims.Claims.{PathClaim, claim_cmp, is_owning_member, is_claim_of_path}
 use Rattle.path_claim_lists.proofs.path_claims.ClaimOrder.{claims_total}
 use Rattle.path_claim_lists.proofs.path_claims.Owned.{ties_path}
@@ -22,22 +22,22 @@ use Rattle.path_claim_lists.proofs.path_claims.Runs.{filter_ext}
 use Rattle.path_claim_lists.proofs.path_claims.Whole.{from_sorted}
 use Rattle.path_claim_lists.proofs.Lists.{found_ext, found_filtered, found_first, found_is, first_of}
 use Rattle.change_files.specs.file_owners.Owners.{indexed_claim_of_listing, claims_of_listings_indexed_from, claims_in, owner_of_path}
-use Rattle.change_files.specs.FileChange.{FileChange, added_owner_listing, if_member_added, is_listed_after_change, old_entry, old_listings, owner_listing}
+use Rattle.change_files.specs.FileChange.{FileChange, added_owner_listing, if_member_added, is_listed_after_change, old_file_entry, old_listings, owner_listing}
 use Rattle.own_core.specs.ClaimEntries.{AreClaimsOf, HasFileAt, IsClaimOf, claim_entry, is_added_at, is_added_if_any, listed_file_at, folders_if_any, is_of_added_owner}
 
 -- ---- each listing stands where it says
 
 pub record IsPlaced (members : List Member) (l : Listing) : Type 0 where
   pub at : slice_get members l.place ≡ Some l.member
-  pub place : HasFileAt (entry_in l.member.pkg 1) l.folder l.file
-  pub entry : l.entry ≡ listed_file_at (entry_in l.member.pkg 1) l.folder l.file
+  pub place : HasFileAt (entry_at_index l.member.pkg 1) l.folder l.file
+  pub entry : l.entry ≡ listed_file_at (entry_at_index l.member.pkg 1) l.folder l.file
 
 pub each_both : {X : Type 0} (P : X → Type 0) (xs ys : List X) → Each P xs → Each P ys → Each P (xs ++ ys)
 each_both P [] ys h g = g
 each_both P (x ∷ xs) ys h g = (h.0, each_both P xs ys h.1 g)
 
 each_in_folder : (P : Listing → Type 0) (m : Member) (place folder : ℕ) (above : List ℕ) (vs : Plains) (i : ℕ)
-    → ((k : ℕ) → k < count_of vs → P (listing_of_file_entry m place folder (i + k) above (nth vs k))) → Each P (listings_in_folder_from_file m place folder i above (list_of vs))
+    → ((k : ℕ) → k < count_of vs → P (listing_of_file_entry m place folder (i + k) above (nth vs k))) → Each P (listings_from_member_folder_file_places m place folder i above (list_of vs))
 each_in_folder P m place folder above none i h = tt
 each_in_folder P m place folder above (more v vs) i h = (
   (let n : i + 0 ≡ i = omega arith in subst (λ k. P (listing_of_file_entry m place folder k above v)) n (h 0 (omega arith))),
@@ -46,12 +46,12 @@ each_in_folder P m place folder above (more v vs) i h = (
 )
 
 each_in_folders : (P : Listing → Type 0) (m : Member) (place : ℕ) (vs : Plains) (i : ℕ)
-    → ((k : ℕ) → k < count_of vs → Each P (listings_in_folder_from_file m place (i + k) 1 (name_of (nth vs k)) (files_in (nth vs k)))) → Each P (listings_in_folders_from m place i (list_of vs))
+    → ((k : ℕ) → k < count_of vs → Each P (listings_from_member_folder_file_places m place (i + k) 1 (name_of (nth vs k)) (files_in (nth vs k)))) → Each P (listings_in_folders_from m place i (list_of vs))
 each_in_folders P m place none i h = tt
-each_in_folders P m place (more v vs) i h = each_both P (listings_in_folder_from_file m place i 1 (name_of v) (files_in v)) (listings_in_folders_from m place (i + 1) (list_of vs))
-    (let n : i + 0 ≡ i = omega arith in subst (λ k. Each P (listings_in_folder_from_file m place k 1 (name_of v) (files_in v))) n (h 0 (omega arith)))
+each_in_folders P m place (more v vs) i h = each_both P (listings_from_member_folder_file_places m place i 1 (name_of v) (files_in v)) (listings_in_folders_from m place (i + 1) (list_of vs))
+    (let n : i + 0 ≡ i = omega arith in subst (λ k. Each P (listings_from_member_folder_file_places m place k 1 (name_of v) (files_in v))) n (h 0 (omega arith)))
     (each_in_folders P m place vs (i + 1) (λ k l.
-    (let n : i + suc k ≡ i + 1 + k = omega arith in subst (λ j. Each P (listings_in_folder_from_file m place j 1 (name_of (nth vs k)) (files_in (nth vs k)))) n (h (suc k) (omega arith)))))
+    (let n : i + suc k ≡ i + 1 + k = omega arith in subst (λ j. Each P (listings_from_member_folder_file_places m place j 1 (name_of (nth vs k)) (files_in (nth vs k)))) n (h (suc k) (omega arith)))))
 
 each_from : (P : Listing → Type 0) (ms : List Member) (n : ℕ) → ((k : ℕ) (m : Member) → slice_get ms k ≡ Some m → Each P (listings_of_member (n + k) m)) → Each P (listings_of_members_from n ms)
 each_from P [] n h = tt
@@ -63,8 +63,8 @@ pub each_placed : (members : List Member) → Each (IsPlaced members) (listings_
 unfolding listings_of_members
 each_placed members = each_from (IsPlaced members) members 0 by_member
   where
-    by_file : (k : ℕ) (m : Member) → slice_get members k ≡ Some m → (j : ℕ) → j < count_of (entries_in (entry_in m.pkg 1)) → (i : ℕ) → i < count_of (entries_in (entry_in (nth (entries_in (entry_in m.pkg 1)) j) 2))
-        → IsPlaced members (listing_of_file_entry m (0 + k) (1 + j) (1 + i) (name_of (nth (entries_in (entry_in m.pkg 1)) j)) (nth (entries_in (entry_in (nth (entries_in (entry_in m.pkg 1)) j) 2)) i))
+    by_file : (k : ℕ) (m : Member) → slice_get members k ≡ Some m → (j : ℕ) → j < count_of (entries_in (entry_at_index m.pkg 1)) → (i : ℕ) → i < count_of (entries_in (entry_at_index (nth (entries_in (entry_at_index m.pkg 1)) j) 2))
+        → IsPlaced members (listing_of_file_entry m (0 + k) (1 + j) (1 + i) (name_of (nth (entries_in (entry_at_index m.pkg 1)) j)) (nth (entries_in (entry_at_index (nth (entries_in (entry_at_index m.pkg 1)) j) 2)) i))
     by_file k m g j lj i li =
         let zk : k ≡ 0 + k = omega arith in
         let oj : j ≡ 1 + j - 1 = omega arith in
@@ -75,14 +75,14 @@ each_placed members = each_from (IsPlaced members) members 0 by_member
             folder_low = omega arith;
             folder_high = omega (arith, lj);
             file_low = omega arith;
-            file_high = subst (λ n. 1 + i ≤ count_of (entries_in (entry_in (nth (entries_in (entry_in m.pkg 1)) n) 2))) oj (omega (arith, li));
+            file_high = subst (λ n. 1 + i ≤ count_of (entries_in (entry_at_index (nth (entries_in (entry_at_index m.pkg 1)) n) 2))) oj (omega (arith, li));
           };
-          entry = λ t. nth (entries_in (entry_in (nth (entries_in (entry_in m.pkg 1)) (oj t)) 2)) (oi t);
+          entry = λ t. nth (entries_in (entry_at_index (nth (entries_in (entry_at_index m.pkg 1)) (oj t)) 2)) (oi t);
         }
 
     by_member : (k : ℕ) (m : Member) → slice_get members k ≡ Some m → Each (IsPlaced members) (listings_of_member (0 + k) m)
-    by_member k m g = each_in_folders (IsPlaced members) m (0 + k) (entries_in (entry_in m.pkg 1)) 1
-        (λ j lj. each_in_folder (IsPlaced members) m (0 + k) (1 + j) (name_of (nth (entries_in (entry_in m.pkg 1)) j)) (entries_in (entry_in (nth (entries_in (entry_in m.pkg 1)) j) 2)) 1 (λ i li. by_file k m g j lj i li))
+    by_member k m g = each_in_folders (IsPlaced members) m (0 + k) (entries_in (entry_at_index m.pkg 1)) 1
+        (λ j lj. each_in_folder (IsPlaced members) m (0 + k) (1 + j) (name_of (nth (entries_in (entry_at_index m.pkg 1)) j)) (entries_in (entry_at_index (nth (entries_in (entry_at_index m.pkg 1)) j) 2)) 1 (λ i li. by_file k m g j lj i li))
 
 -- ---- what a claim says of a listing
 
@@ -172,8 +172,8 @@ entry_together members s (Some l) (Some c) e h = ap Some (entry_of members l c (
 
 -- what the packages before say of a path
 pub old_entry_is : (change : FileChange) (members : List Member) → listings_of_members members ≡ old_listings change → (path : List ℕ)
-    → option_map (claim_entry members) (find (is_claim_of_path path) (claims_in members)) ≡ old_entry change path
-unfolding old_entry
+    → option_map (claim_entry members) (find (is_claim_of_path path) (claims_in members)) ≡ old_file_entry change path
+unfolding old_file_entry
 old_entry_is change members is path =
     entry_together members (λ l. bytes_eq l.path path) (find (λ l. bytes_eq l.path path) (listings_of_members members)) (find (is_claim_of_path path) (claims_in members)) refl (path_together members path)
     ∙ ap (λ ls. option_map (λ l. l.entry) (find (λ l. bytes_eq l.path path) ls)) is

@@ -14,7 +14,7 @@ use Rattle.path_claim_lists.proofs.Lists.{found_passes}
 use Rattle.change_files.specs.file_owners.Owners.{claims_in}
 use Rattle.change_files.specs.Fate as Fates
 use Rattle.change_files.specs.Fate.{fate_with_file_found, fate_of, goes_aside, goes_in, gives_way, is_protected_path}
-use Rattle.change_files.specs.FileChange.{FileChange, added_owner_listing, if_member_added, is_listed_after_change, old_entry, old_listings, owner_listing, was_listed}
+use Rattle.change_files.specs.FileChange.{FileChange, added_owner_listing, if_member_added, is_listed_after_change, old_file_entry, old_listings, owner_listing, was_listed}
 use Rattle.change_files.specs.FilesAfter.{if_written_as_apk_new, if_written_in_place, is_present_and_modified_from_entry, is_left_over_modified_file_kept, is_left_over_and_not_written, is_removed, is_listing_written_under_name, listing_written_as_apk_new_beside, is_modified_config_to_keep, path_of_apk_new_name, listing_written_under_name, listing_written_in_place}
 use Rattle.std.specs.Option.{option_or}
 use Rattle.change_files.specs.NamesAfter.{added_paths}
@@ -194,7 +194,7 @@ left_is change files q b e = go (is_listed_after_change change q) refl
 module _ (change : FileChange) (files : Files) (before : List PathClaim) (up : Names.Rises (paths before))
     (each : (q : List ℕ) → find (is_claim_of_path q) before ≡ find (is_claim_of_path q) (sorted_by claim_cmp (claims_in (members_of_kept change.old))))
     (asides : List PathClaim) (beside : (q : List ℕ) → is_apk_new_name_of asides q ≡ is_some (option_and_then (listing_written_as_apk_new_beside change files) (path_of_apk_new_name q))) where
-  pub entries_are : (q : List ℕ) → option_map (claim_entry (members_of_kept change.old)) (find (is_claim_of_path q) before) ≡ old_entry change q
+  pub entries_are : (q : List ℕ) → option_map (claim_entry (members_of_kept change.old)) (find (is_claim_of_path q) before) ≡ old_file_entry change q
   unfolding old_listings
   entries_are q = ap (option_map (claim_entry (members_of_kept change.old))) (each q ∙ same_found (claims_in (members_of_kept change.old)) q) ∙ old_entry_is change (members_of_kept change.old) refl q
 
@@ -206,7 +206,7 @@ module _ (change : FileChange) (files : Files) (before : List PathClaim) (up : N
 
   -- by the test of a path that is listed
   pub going_is : (stays : Bool) (q : List ℕ) → is_some (find (is_claim_of_path q) (going stays))
-      ≡ (is_left_over_and_not_written change files q && are_equal_flags stays (is_modified_config_to_keep change q (files q) (old_entry change q)))
+      ≡ (is_left_over_and_not_written change files q && are_equal_flags stays (is_modified_config_to_keep change q (files q) (old_file_entry change q)))
   going_is stays q =
       ap is_some (found_kept (λ c. are_equal_flags stays (is_file_kept change c (files c.path))) left_over (kept_rises (λ c. is_path_left_over change asides c.path) before up) q)
       ∙ (ap (λ o. is_some (keep_if (λ c. are_equal_flags stays (is_file_kept change c (files c.path))) o)) (found_kept (λ c. is_path_left_over change asides c.path) before up q)
@@ -233,7 +233,7 @@ module _ (change : FileChange) (files : Files) (before : List PathClaim) (up : N
           left c is = ap (is_path_left_over change asides) is ∙ sym (left_is change files q (is_apk_new_name_of asides q) (beside q))
 
   old_path : (q : List ℕ) → is_left_over_and_not_written change files q ≡ true → Names.IsIn q (old_paths change)
-  unfolding old_entry
+  unfolding old_file_entry
   old_path q h = listed_in (old_listings change) q (mapped (find (λ l. bytes_eq l.path q) (old_listings change)) (first (was_listed change q) _ h))
     where
       first : (a b : Bool) → (a && b) ≡ true → a ≡ true

@@ -19,7 +19,7 @@ use Rattle.path_claim_lists.specs.path_claims.Claims.{PathClaim, claim_cmp, is_c
 use Rattle.path_claim_lists.specs.Once.{HasFirstClaimOfEachPath}
 use Rattle.change_files.specs.file_owners.Owners.{claims_of_listings_indexed_from, claims_in}
 use Rattle.change_files.specs.Fate.{apk_new_name}
-use Rattle.change_files.specs.FileChange.{old_entry, was_listed}
+use Rattle.change_files.specs.FileChange.{old_file_entry, was_listed}
 use Rattle.change_files.specs.FilesAfter.{database_name, is_left_over_modified_file_kept, is_left_over_and_not_written, listing_written_as_apk_new_beside, is_modified_config_to_keep, path_of_apk_new_name, world_name}
 use Rattle.change_files.specs.NamesAfter.{added_paths, is_released, counts_as_written, name_change}
 use Rattle.own_core.specs.ClaimEntries.{claim_entry, is_added_at, is_added_if_any, is_of_added_owner}
@@ -157,7 +157,7 @@ module _ (change : ClaimChange) (claims : HasClaimsOfPackages change) (coming : 
       listed = sym (mapped_some (claim_entry (members_of_kept (file_change_of change).old)) (find (is_claim_of_path name) (claims_before change)))
           ∙ ap is_some (entries_are (file_change_of change) files (claims_before change) (before_up change claims coming firsts parts history are files fates_are stays_are) (before_each change claims coming firsts parts history are files fates_are stays_are) (apk_new_claims_of parts) (beside_parts change claims coming firsts parts history are files fates_are stays_are) name)
 
-      kept : is_some (find (is_claim_of_path name) (kept_claims_of parts)) ≡ (is_left_over_and_not_written (file_change_of change) files name && is_modified_config_to_keep (file_change_of change) name (files name) (old_entry (file_change_of change) name))
+      kept : is_some (find (is_claim_of_path name) (kept_claims_of parts)) ≡ (is_left_over_and_not_written (file_change_of change) files name && is_modified_config_to_keep (file_change_of change) name (files name) (old_file_entry (file_change_of change) name))
       kept = ap (λ cs. is_some (find (is_claim_of_path name) cs)) (kept_parts change claims coming firsts parts history are files fates_are stays_are)
           ∙ going_is (file_change_of change) files (claims_before change) (before_up change claims coming firsts parts history are files fates_are stays_are) (before_each change claims coming firsts parts history are files fates_are stays_are) (apk_new_claims_of parts) (beside_parts change claims coming firsts parts history are files fates_are stays_are) true name
 

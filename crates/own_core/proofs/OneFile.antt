@@ -14,7 +14,7 @@ use Rattle.change_files.specs.file_guard.declared.compare.ListedFile.{ListedFile
 use Rattle.change_files.proofs.file_guard.Told.{told_as_listed}
 use Rattle.change_files.specs.Fate as Fates
 use Rattle.change_files.specs.Fate.{fate_if_user_modified_file, fate_with_file_found, goes_in, is_as_old_entry_lists, is_protected_path}
-use Rattle.change_files.specs.FileChange.{FileChange, old_entry}
+use Rattle.change_files.specs.FileChange.{FileChange, old_file_entry}
 use Rattle.change_files.specs.FilesAfter.{is_present_and_modified_from_entry}
 use Rattle.own_core.specs.ClaimEntries.{claim_entry}
 use Rattle.own_core.specs.Fates.{DescribesEntryIfAny, claim_fate}
@@ -31,7 +31,7 @@ as_told_old (Some listed) (Some entry) bytes of = told_as_listed listed entry by
 
 -- the user changed the file that stands there
 pub changed_fate : (change : FileChange) (h : List TreeState) (c : PathClaim) (name : List ℕ) (listed : ListedFile) (old : Option ListedFile) (found : Option Comparison) (fate : Fates.AddedFileFate)
-    → name ≡ c.path → is_protected_path c.path ≡ true → DescribesEntry listed (claim_entry change.members c) → DescribesEntryIfAny old (old_entry change c.path)
+    → name ≡ c.path → is_protected_path c.path ≡ true → DescribesEntry listed (claim_entry change.members c) → DescribesEntryIfAny old (old_file_entry change c.path)
     → (file : Option (List ℕ)) × IfObservable h (λ v. file ≡ files_of v name) × (found ≡ comparison_of_found_file (Some listed) old file)
     → IsSomeAnd found (λ d. (d.as_new ≡ false) × (d.as_old ≡ false)) → fate ≡ fate_if_user_modified_file change c.path (claim_entry change.members c) → IsByFile (claim_fate change) h c fate
 changed_fate change h c name listed old found fate named guarded of before (file, told, is) changed goes = record {
@@ -45,7 +45,7 @@ changed_fate change h c name listed old found fate named guarded of before (file
     by_file None off = absurd off
     by_file (Some bytes) unlike =
         let new : is_as_listed (claim_entry change.members c) bytes ≡ false = sym (told_as_listed listed (claim_entry change.members c) bytes of) ∙ unlike.0 in
-        let so_far : is_as_old_entry_lists (old_entry change c.path) bytes ≡ false = sym (as_told_old old (old_entry change c.path) bytes before) ∙ unlike.1 in
+        let so_far : is_as_old_entry_lists (old_file_entry change c.path) bytes ≡ false = sym (as_told_old old (old_file_entry change c.path) bytes before) ∙ unlike.1 in
         (λ j. if not (guarded j) || (new j || so_far j) then goes_in else fate_if_user_modified_file change c.path (claim_entry change.members c))
 
 -- what is no configuration takes its path
@@ -57,7 +57,7 @@ unguarded_fate change h c unguarded =
     by_file : (file : Option (List ℕ)) → claim_fate change c file ≡ goes_in
     by_file None = refl
     by_file (Some bytes) =
-        ap (λ b. if not b || (is_as_listed (claim_entry change.members c) bytes || is_as_old_entry_lists (old_entry change c.path) bytes) then goes_in else fate_if_user_modified_file change c.path (claim_entry change.members c)) unguarded
+        ap (λ b. if not b || (is_as_listed (claim_entry change.members c) bytes || is_as_old_entry_lists (old_file_entry change c.path) bytes) then goes_in else fate_if_user_modified_file change c.path (claim_entry change.members c)) unguarded
 
 -- ---- a file that is left over
 

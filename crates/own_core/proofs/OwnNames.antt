@@ -5,14 +5,14 @@ use Rattle.std.proofs.lemmas.Bool.{and_parts, leb-true}
 use Rattle.change_files.specs.adb_schema.Reserved.{is_reserved}
 use Rattle.adb_view.specs.Plain.{Plain}
 use Rattle.base_core.specs.Files.{Files}
-use Rattle.base_core.specs.Listed.{AreSortedDistinctNames}
+use Rattle.base_core.specs.Listed.{AreSortedDistinctTexts}
 use Rattle.base_core.specs.Name.{IsName}
 use Rattle.base_core.specs.Tree.{TreeState}
 use Rattle.base_core.proofs.Rising as Names
 use Rattle.change_files.specs.db_core.Members.{Listing, listings_of_members, member_of_kept}
 use Rattle.change_files.specs.file_guard.AsListed.{is_as_listed}
 use Rattle.change_files.specs.Fate.{agrees_with_old_entry, apk_new_name, fate_if_user_modified_file, fate_with_file_found, fate_of, gives_way, goes_aside, goes_in, is_as_old_entry_lists, is_protected_path}
-use Rattle.change_files.specs.FileChange.{FileChange, is_listed_after_change, old_entry, old_listings}
+use Rattle.change_files.specs.FileChange.{FileChange, is_listed_after_change, old_file_entry, old_listings}
 use Rattle.change_files.specs.FilesAfter.{is_removed, is_listing_written_under_name, listing_written_as_apk_new_beside, listing_written_under_name}
 use Rattle.change_files.specs.PlanLists.{FileWrite, file_writes_of, first_reserved_added_path_in_byte_order, removals_of}
 use Rattle.change_files.specs.Touched.{IsPlannedWrite}
@@ -58,11 +58,11 @@ by_room false b e = absurd (cc)
 -- a file goes aside only if its name there is free
 pub aside_free : (change : FileChange) (path : List ℕ) (entry : Plain) (found : Option (List ℕ)) → fate_with_file_found change path entry found ≡ goes_aside → is_apk_new_name_free change path ≡ true
 aside_free change path entry None e = absurd (cc)
-aside_free change path entry (Some bytes) e = by_tests (not (is_protected_path path) || (is_as_listed entry bytes || is_as_old_entry_lists (old_entry change path) bytes)) e
+aside_free change path entry (Some bytes) e = by_tests (not (is_protected_path path) || (is_as_listed entry bytes || is_as_old_entry_lists (old_file_entry change path) bytes)) e
   where
     by_tests : (b : Bool) → (if b then goes_in else fate_if_user_modified_file change path entry) ≡ goes_aside → is_apk_new_name_free change path ≡ true
     by_tests true e = absurd (cc)
-    by_tests false e = by_room (not (agrees_with_old_entry (old_entry change path) entry)) (is_apk_new_name_free change path) e
+    by_tests false e = by_room (not (agrees_with_old_entry (old_file_entry change path) entry)) (is_apk_new_name_free change path) e
 
 pub is_short : (change : FileChange) (path : List ℕ) → is_apk_new_name_free change path ≡ true → length (apk_new_name path) ≤ 1024
 is_short change path room = leb-true (length (apk_new_name path)) 1024 (and_parts (nat_le (length (apk_new_name path)) 1024) (not (is_listed_after_change change (apk_new_name path))) room).0
@@ -122,8 +122,8 @@ module _ (change : FileChange) (files : Files) (old_named : All (λ l. IsName l.
       record {
         removals = subst (All IsUnreservedName) (sym lists.removals) (all_names IsUnreservedName (removals_of change files) (λ path here. removed_open path ((removals_hold change files path).0 (Names.contains_from_in _ path here))));
         writes = subst (All IsUnreservedName) (sym same) (all_names IsUnreservedName _ (λ name here. some_written name ((writes_hold change files name).0 (Names.contains_from_in _ name here))));
-        removals_rise = subst AreSortedDistinctNames (sym lists.removals) (removals_rise change files);
-        writes_rise = subst AreSortedDistinctNames (sym same) (writes_rise change files);
+        removals_rise = subst AreSortedDistinctTexts (sym lists.removals) (removals_rise change files);
+        writes_rise = subst AreSortedDistinctTexts (sym same) (writes_rise change files);
         apart = λ name gone written.
             written_or_removed change files name ((writes_hold change files name).0 (subst (λ names. Contains names name) same written)) ((removals_hold change files name).0 (subst (λ names. Contains names name) lists.removals gone));
       }

@@ -14,7 +14,7 @@ use Rattle.base_core.proofs.Smallest.{smallest_first}
 use Rattle.base_core.proofs.Sorting.{Each, Rises, one_order, ranks, rises_in_order, stable_in_order}
 use Rattle.change_files.specs.adb_schema.Reserved.{is_reserved}
 use Rattle.change_files.specs.db_core.Members.{Listing, Member, is_added, listings_of_members}
-use Rattle.path_claim_lists.specs.path_claims.Claims.{ContestedPath, PathClaim, claim_cmp, claimants, path_with_rivals_of_first_claimant, first_contested_path, first_path_without_owner, is_claim_of_path, owner_among}
+use Rattle.path_claim_lists.specs.path_claims.Claims.{ContestedPath, PathClaim, claim_cmp, claimants, path_with_rivals_of_first_claimant, first_contested_path_in_byte_order, first_path_without_owner_in_byte_order, is_claim_of_path, owner_among}
 use Rattle.path_claim_lists.specs.path_claims.Contest.{first_with_unbeaten_rival, rivals_of}
 use Rattle.path_claim_lists.specs.path_claims.Seen.{claim_seen}
 use Rattle.path_claim_lists.specs.path_claims.declared.claim.Claim.{Claim}
@@ -172,10 +172,10 @@ pub record IsContestable (members : List Member) (contest : ContestedPath) : Typ
   pub second : contest.rivals.second < length members
 
 pub contestable : (members : List Member) (contest : ContestedPath) → All (λ l. IsName l.path) (listings_of_members members) → first_contested_member_path_in_byte_order members ≡ Some contest → IsContestable members contest
-unfolding first_contested_member_path_in_byte_order first_contested_path claims_in
-contestable members contest named e = by_path (first_path_without_owner (member_beats members) (claims_of_listings_indexed_from 0 (listings_of_members members))) refl e
+unfolding first_contested_member_path_in_byte_order first_contested_path_in_byte_order claims_in
+contestable members contest named e = by_path (first_path_without_owner_in_byte_order (member_beats members) (claims_of_listings_indexed_from 0 (listings_of_members members))) refl e
   where
-    by_rivals : (path : List ℕ) → first_path_without_owner (member_beats members) (claims_of_listings_indexed_from 0 (listings_of_members members)) ≡ Some path → (o : Option Rivals)
+    by_rivals : (path : List ℕ) → first_path_without_owner_in_byte_order (member_beats members) (claims_of_listings_indexed_from 0 (listings_of_members members)) ≡ Some path → (o : Option Rivals)
         → first_with_unbeaten_rival (member_beats members) (claimants (claims_of_listings_indexed_from 0 (listings_of_members members)) path) ≡ o → option_map (λ rivals. record { path = path; rivals = rivals }) o ≡ Some contest → IsContestable members contest
     by_rivals path f None g k = absurd (no_some contest k)
     by_rivals path f (Some r) g k =
@@ -185,7 +185,7 @@ contestable members contest named e = by_path (first_path_without_owner (member_
         let here = from_sorted path (map (λ c. c.path) (claims_of_listings_indexed_from 0 (listings_of_members members))) (at_in (sorted_by bytes_cmp (map (λ c. c.path) (claims_of_listings_indexed_from 0 (listings_of_members members)))) place.0 path place.1) in
         subst (IsContestable members) is (record { name = named_paths 0 (listings_of_members members) path (each_all (λ l. IsName l.path) (listings_of_members members) named) here; first = low.0; second = low.1 })
 
-    by_path : (o : Option (List ℕ)) → first_path_without_owner (member_beats members) (claims_of_listings_indexed_from 0 (listings_of_members members)) ≡ o → option_and_then (path_with_rivals_of_first_claimant (member_beats members) (claims_of_listings_indexed_from 0 (listings_of_members members))) o ≡ Some contest
+    by_path : (o : Option (List ℕ)) → first_path_without_owner_in_byte_order (member_beats members) (claims_of_listings_indexed_from 0 (listings_of_members members)) ≡ o → option_and_then (path_with_rivals_of_first_claimant (member_beats members) (claims_of_listings_indexed_from 0 (listings_of_members members))) o ≡ Some contest
         → IsContestable members contest
     by_path None f k = absurd (no_some contest k)
     by_path (Some path) f k = by_rivals path f (first_with_unbeaten_rival (member_beats members) (claimants (claims_of_listings_indexed_from 0 (listings_of_members members)) path)) refl k

@@ -21,7 +21,7 @@ use Rattle.change_files.specs.file_owners.Owners.{claims_in}
 use Rattle.change_files.specs.Fate as Fates
 use Rattle.change_files.specs.Fate.{agrees_with_old_entry, apk_new_name, fate_with_file_found, fate_of, goes_aside, goes_in, gives_way, is_as_old_entry_lists, is_protected_path}
 use Rattle.change_files.specs.file_guard.AsListed.{is_as_listed}
-use Rattle.change_files.specs.FileChange.{FileChange, added_owner_listing, is_listed_after_change, old_entry}
+use Rattle.change_files.specs.FileChange.{FileChange, added_owner_listing, is_listed_after_change, old_file_entry}
 use Rattle.change_files.specs.FilesAfter.{if_written_as_apk_new, if_written_in_place, listing_written_as_apk_new_beside, path_of_apk_new_name, listing_written_under_name, listing_written_in_place}
 use Rattle.std.specs.Option.{option_or}
 use Rattle.base_core.proofs.Orderings.{is_less}
@@ -240,8 +240,8 @@ free_beside change files c h = by_file (files c.path) h
     by_file : (o : Option (List ℕ)) → are_equal_fates goes_aside (fate_with_file_found change c.path (claim_entry change.members c) o) ≡ true → is_listed_after_change change (apk_new_name c.path) ≡ false
     by_file None h = absurd (true≢false (sym h))
     by_file (Some bytes) h =
-        by_test (not (is_protected_path c.path) || (is_as_listed (claim_entry change.members c) bytes || is_as_old_entry_lists (old_entry change c.path) bytes))
-        (not (agrees_with_old_entry (old_entry change c.path) (claim_entry change.members c))) (nat_le (length (apk_new_name c.path)) 1024) (is_listed_after_change change (apk_new_name c.path)) h
+        by_test (not (is_protected_path c.path) || (is_as_listed (claim_entry change.members c) bytes || is_as_old_entry_lists (old_file_entry change c.path) bytes))
+        (not (agrees_with_old_entry (old_file_entry change c.path) (claim_entry change.members c))) (nat_le (length (apk_new_name c.path)) 1024) (is_listed_after_change change (apk_new_name c.path)) h
 
 module _ (change : FileChange) (files : Files) (coming : List PathClaim) (up : Names.Rises (paths coming))
     (each : (q : List ℕ) → find (is_claim_of_path q) coming ≡ find (is_claim_of_path q) (filter (is_of_added_owner change.members) (sorted_by claim_cmp (claims_in change.members)))) where

@@ -5,8 +5,8 @@
 use Rattle.std.specs.Prelude.{◌≡◌, ℕ, ◌-◌, ◌<◌, ◌≤◌, Bool, false, ◌&&◌, List, Option, Some, None, slice_get}
 use Rattle.base_core.specs.Name.{IsName}
 use Rattle.adb_view.specs.Plain.{Plain, null}
-use Rattle.adb_view.specs.FieldIndexes.{DIR_FILES, PACKAGE_PATHS}
-use Rattle.adb_view.specs.Values.{count_of, entries_in, entry_in}
+use Rattle.adb_view.specs.FieldIndexes.{DIR_FILES_INDEX, PACKAGE_PATHS_INDEX}
+use Rattle.adb_view.specs.Values.{count_of, entries_in, entry_at_index}
 use Rattle.change_files.specs.adb_schema.Reserved.{is_reserved}
 use Rattle.change_files.specs.db_core.Members.{Member, is_added}
 use Rattle.path_claim_lists.specs.path_claims.Claims.{PathClaim, is_owning_member}
@@ -18,7 +18,7 @@ use Rattle.change_files.specs.file_owners.Owners.{owner_of_path}
 -- `folders` is the plain value of a package's list of folders
 abbrev pub listed_file_at : Plain → ℕ → ℕ → Plain
 listed_file_at folders folder file =
-    entry_in (entry_in (entry_in folders (folder - 1)) DIR_FILES) (file - 1)
+    entry_at_index (entry_at_index (entry_at_index folders (folder - 1)) DIR_FILES_INDEX) (file - 1)
 
 -- the list of folders has a file at these positions, which count from 1
 pub record HasFileAt (folders : Plain) (folder file : ℕ) : Type 0 where
@@ -29,14 +29,14 @@ pub record HasFileAt (folders : Plain) (folder file : ℕ) : Type 0 where
   -- the position of the file is at least 1
   pub file_low : 0 < file
   -- the folder has a file at this position
-  pub file_high : file ≤ count_of (entries_in (entry_in (entry_in folders (folder - 1)) DIR_FILES))
+  pub file_high : file ≤ count_of (entries_in (entry_at_index (entry_at_index folders (folder - 1)) DIR_FILES_INDEX))
 
 -- ---- claims
 
 -- the list of the folders of a member's package; Null, as if it listed nothing, if there is no member
 abbrev pub folders_if_any : Option Member → Plain
 folders_if_any None = null
-folders_if_any (Some m) = entry_in m.pkg PACKAGE_PATHS
+folders_if_any (Some m) = entry_at_index m.pkg PACKAGE_PATHS_INDEX
 
 -- the entry of the file of the claim, in the package of the member whose index the claim has
 unfoldable pub claim_entry : List Member → PathClaim → Plain
@@ -49,7 +49,7 @@ pub record IsClaimOf (members : List Member) (c : PathClaim) : Type 0 where
   -- the member has the index that the claim has
   pub at : slice_get members c.member ≡ Some member
   -- the member's package has a file at the positions that the claim has
-  pub place : HasFileAt (entry_in member.pkg PACKAGE_PATHS) c.folder c.file
+  pub place : HasFileAt (entry_at_index member.pkg PACKAGE_PATHS_INDEX) c.folder c.file
   -- the path is a name of a tree
   pub name : IsName c.path
 

@@ -4,11 +4,11 @@
 -- ensures, and over which files.
 use Rattle.std.specs.Prelude.{◌≡◌, ℕ, Bool, true, false, List, map, Option, Some, None, All, Contains, option_map, slice_get}
 use Rattle.change_files.specs.adb_schema.Reserved.{is_reserved}
-use Rattle.adb_view.specs.FieldIndexes.{PACKAGE_PATHS}
-use Rattle.adb_view.specs.Values.{entry_in}
+use Rattle.adb_view.specs.FieldIndexes.{PACKAGE_PATHS_INDEX}
+use Rattle.adb_view.specs.Values.{entry_at_index}
 use Rattle.base_core.specs.Calls.{IfObservable}
 use Rattle.base_core.specs.Files.{Files}
-use Rattle.base_core.specs.Listed.{AreSortedDistinctNames}
+use Rattle.base_core.specs.Listed.{AreSortedDistinctTexts}
 use Rattle.base_core.specs.Name.{IsName}
 use Rattle.base_core.specs.Tree.{TreeState, files_of}
 use Rattle.change_files.specs.db_core.Members.{Member, is_added, member_name}
@@ -88,9 +88,9 @@ pub record HasDisjointUnreservedNames (plan : FilePlan) : Type 0 where
   -- no written name is reserved
   pub writes : All IsUnreservedName (written_names plan)
   -- the removed names are in byte order, each once
-  pub removals_rise : AreSortedDistinctNames plan.removals
+  pub removals_rise : AreSortedDistinctTexts plan.removals
   -- the written names are in byte order, each once
-  pub writes_rise : AreSortedDistinctNames (written_names plan)
+  pub writes_rise : AreSortedDistinctTexts (written_names plan)
   -- no name is both removed and written
   pub apart : (name : List ℕ) → Contains plan.removals name → Contains (written_names plan) name → ⊥
 
@@ -103,7 +103,7 @@ pub record IsOfAddedFile (members : List Member) (w : FileWrite) : Type 0 where
   -- the member is added
   pub comes : is_added member ≡ true
   -- the member's package has a file at the positions that the write has
-  pub place : HasFileAt (entry_in member.pkg PACKAGE_PATHS) w.folder w.file
+  pub place : HasFileAt (entry_at_index member.pkg PACKAGE_PATHS_INDEX) w.folder w.file
 
 -- each write of the plan has the contents of a file of an added member
 abbrev pub HasSources : List Member → FilePlan → Type 0

@@ -6,8 +6,8 @@
 ghost use Rattle.std.specs.Prelude.{◌-◌, ◌<◌, ◌≤◌};
 ghost use Rattle.path_claim_lists.specs.adb_fields.ListValue.{list_value};
 ghost use Rattle.change_files.specs.adb_schema.Views.{package_value};
-ghost use Rattle.adb_view.specs.FieldIndexes.{PACKAGE_PATHS};
-ghost use Rattle.adb_view.specs.Values.{count_of, entries_in, entry_in};
+ghost use Rattle.adb_view.specs.FieldIndexes.{PACKAGE_PATHS_INDEX};
+ghost use Rattle.adb_view.specs.Values.{count_of, entries_in, entry_at_index};
 ghost use Rattle.change_files.specs.db_core.Members.{members_of_kept};
 ghost use Rattle.change_files.specs.db_core.Seen.{members_of, packages_of};
 ghost use Rattle.change_files.specs.file_guard.Listed.{DescribesEntry};
@@ -24,7 +24,7 @@ fn listed_in_files<'a>(files: &List<'a, FileInfo<'a>>, file: u32) -> ListedFile<
     requires low { 0 < file }
     // The folder has a file at this position.
     requires high { file ≤ count_of (entries_in (list_value files.now)) }
-    ensures { DescribesEntry result (entry_in (list_value files.now) (file - 1)) }
+    ensures { DescribesEntry result (entry_at_index (list_value files.now) (file - 1)) }
 {
     let file = files.get(file as usize);
     listed_file(&file)
@@ -44,10 +44,10 @@ fn listed_in_folders<'a>(folders: &List<'a, DirInfo<'a>>, folder: u32, file: u32
 /// The entry of the file of the claim, which is one of the files of this package.
 fn listed_in<'a>(pkg: &PackageView<'a>, claim: &Claim<'_>) -> ListedFile<'a>
     // The package has a file at the positions of the claim.
-    requires { HasFileAt (entry_in (package_value pkg.now) PACKAGE_PATHS) claim.now.folder
+    requires { HasFileAt (entry_at_index (package_value pkg.now) PACKAGE_PATHS_INDEX) claim.now.folder
         claim.now.file }
     ensures { DescribesEntry result
-        (listed_file_at (entry_in (package_value pkg.now) PACKAGE_PATHS) claim.now.folder
+        (listed_file_at (entry_at_index (package_value pkg.now) PACKAGE_PATHS_INDEX) claim.now.folder
         claim.now.file) }
 {
     listed_in_folders(&pkg.paths(), claim.folder, claim.file)

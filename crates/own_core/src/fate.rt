@@ -8,7 +8,7 @@ ghost use Rattle.path_claim_lists.specs.adb_fields.JoinedPath.{joined_path};
 ghost use Rattle.adb_view.specs.Plain.{Plain};
 ghost use Rattle.base_core.specs.Read.{OnlyReads};
 ghost use Rattle.change_files.specs.Fate.{agrees_with_old_entry, fate_if_user_modified_file, is_protected_path};
-ghost use Rattle.change_files.specs.FileChange.{old_entry};
+ghost use Rattle.change_files.specs.FileChange.{old_file_entry};
 ghost use Rattle.change_files.specs.db_core.Seen.{members_of};
 ghost use Rattle.change_files.specs.file_guard.Listed.{DescribesEntry};
 ghost use Rattle.path_claim_lists.specs.path_claims.Seen.{claim_seen};
@@ -45,7 +45,7 @@ fn listed_so_far<'o>(
     // `change` has the claims of the packages before the change (`before`) and after it (`after`).
     requires { HasClaimsOfPackages change.now }
     // The result describes the old entry, or both are absent.
-    ensures { DescribesEntryIfAny result (old_entry (file_change_of change.now)
+    ensures { DescribesEntryIfAny result (old_file_entry (file_change_of change.now)
         (joined_path path.now)) }
 {
     match find_claim(change.before, path) {
@@ -104,7 +104,7 @@ fn fate_if_user_modified_file(
     // `change` has the claims of the packages before the change (`before`) and after it (`after`).
     requires claims { HasClaimsOfPackages change.now }
     // `old` is the entry that the old database has for the name, if there is one.
-    requires old { DescribesEntryIfAny old.now (old_entry (file_change_of change.now) name.now) }
+    requires old { DescribesEntryIfAny old.now (old_file_entry (file_change_of change.now) name.now) }
     // On Ok, the fate is right for the entry that `new` describes.
     ensures { IfOk result (λ fate. (entry : Plain) → DescribesEntry new.now entry
         → fate_seen fate ≡ fate_if_user_modified_file (file_change_of change.now) name.now entry) }

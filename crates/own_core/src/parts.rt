@@ -8,7 +8,7 @@ ghost use Rattle.std.specs.Prelude.{◌≡◌, IfOk, OnOk, Some, [], ◌∷◌, 
 ghost use Rattle.std.specs.List.{filter};
 ghost use Rattle.std.specs.List.Sorted.{IsSorted};
 ghost use Rattle.path_claim_lists.specs.adb_fields.JoinedPath.{joined_path};
-ghost use Rattle.base_core.specs.Listed.{AreSortedDistinctNames};
+ghost use Rattle.base_core.specs.Listed.{AreSortedDistinctTexts};
 ghost use Rattle.base_core.specs.Read.{OnlyReads};
 ghost use Rattle.change_files.specs.db_core.Members.{members_of_kept};
 ghost use Rattle.change_files.specs.db_core.Seen.{members_of, packages_of};
@@ -252,7 +252,7 @@ pub fn parts_of<'o, 'n, T: Tree>(
     // Each claim of an added file is of a file of one of the members.
     requires files { AreClaimsOf (members_of change.now.members.now) (map claim_seen coming.now) }
     // The paths of the added files are in byte order, each once.
-    requires rising { AreSortedDistinctNames (map (λ c. c.path) (map claim_seen coming.now)) }
+    requires rising { AreSortedDistinctTexts (map (λ c. c.path) (map claim_seen coming.now)) }
     // On Ok, the files are divided by the rules, for the tree's files if they are observable, and
     // otherwise for some files.
     ensures parts { IfOk result

@@ -8,10 +8,10 @@ use Rattle.std.proofs.lemmas.List.Sorted.{list_any-IsPermutation}
 use Rattle.adb_view.specs.Plain.{Plain}
 use Rattle.change_files.specs.db_core.Packages.{is_package_named}
 use Rattle.solve_core.specs.candidate_core.Candidates.{Candidate}
-use Rattle.solve_core.specs.candidate_core.Rank.{SealedPool, candidate_at, candidate_at_passes}
+use Rattle.solve_core.specs.candidate_core.Rank.{SelectionProblem, candidate_at, candidate_at_passes}
 use Rattle.report_core.specs.Reports.{Change}
 use Rattle.package_changes.specs.Changes.{change_between, change_of_name, changes_of, is_candidate_named, names_before_and_selected}
-use Rattle.package_changes.specs.Placed.{PlacedChange, PlacedName, ReplacementWithCandidatePlaces, candidates_at, change_in, candidate_at_new_place, package_at_old_place, placed_change_of, placed_changes_of, placed_name_of, placed_name_with, placed_names_of, replacement_of, selected_place}
+use Rattle.package_changes.specs.Placed.{PlacedChange, PlacedName, ReplacementWithSelectionAsPlaces, candidates_at, change_in, candidate_at_new_place, package_at_old_place, placed_change_of, placed_changes_of, placed_name_of, placed_name_with, placed_names_of, replacement_of, selected_place}
 use Rattle.package_changes.specs.SelectedNames.{place_paired_with_name, placed_name_at}
 
 -- ---- the first by its place
@@ -42,7 +42,7 @@ pub found_at_position : {X : Type 0} (p : X → Bool) (xs : List X) → option_a
 found_at_position p xs = at_position p [] xs
 
 -- the first of the candidates at places
-pub found_at_place : (pool : SealedPool) (p : Candidate → Bool) (places : List ℕ) → option_and_then (candidate_at pool) (find (candidate_at_passes pool p) places) ≡ find p (candidates_at pool places)
+pub found_at_place : (pool : SelectionProblem) (p : Candidate → Bool) (places : List ℕ) → option_and_then (candidate_at pool) (find (candidate_at_passes pool p) places) ≡ find p (candidates_at pool places)
 found_at_place pool p [] = refl
 found_at_place pool p (n ∷ places) = go (candidate_at pool n) refl (found_at_place pool p places)
   where
@@ -63,7 +63,7 @@ pub change_alone : (o : Option Change) (old new : Option ℕ) → option_map (λ
 change_alone None old new = refl
 change_alone (Some c) old new = refl
 
-one_change : (p : ReplacementWithCandidatePlaces) (name : List ℕ) → option_map (λ (c : PlacedChange). c.change) (placed_change_of p name) ≡ change_of_name (replacement_of p) name
+one_change : (p : ReplacementWithSelectionAsPlaces) (name : List ℕ) → option_map (λ (c : PlacedChange). c.change) (placed_change_of p name) ≡ change_of_name (replacement_of p) name
 unfolding placed_change_of change_of_name
 one_change p name =
     change_alone (change_between (list_any (bytes_eq name) p.again) name (option_and_then (slice_get p.before) (position_from (is_package_named name) 0 p.before)) (option_and_then (candidate_at p.pool) (selected_place p.pool p.trace name)))
@@ -81,14 +81,14 @@ mapped f g h same (a ∷ xs) =
     mapped_option f (g a) (filter_map g xs)
     ∙ (ap (λ o. cons_option o (map f (filter_map g xs))) (same a) ∙ ap (cons_option (h a)) (mapped f g h same xs))
 
-pub changes_alone : (p : ReplacementWithCandidatePlaces) → map (λ (c : PlacedChange). c.change) (placed_changes_of p) ≡ changes_of (replacement_of p)
+pub changes_alone : (p : ReplacementWithSelectionAsPlaces) → map (λ (c : PlacedChange). c.change) (placed_changes_of p) ≡ changes_of (replacement_of p)
 unfolding placed_changes_of changes_of
 changes_alone p = mapped (λ (c : PlacedChange). c.change) (placed_change_of p) (change_of_name (replacement_of p)) (one_change p) (names_before_and_selected (replacement_of p))
 
 -- ---- names with their places
 
 -- the table leads to the places of the selected candidates
-pub by_table : (p : ReplacementWithCandidatePlaces) (table : List (List ℕ × ℕ)) → ((name : List ℕ) → place_paired_with_name name table ≡ selected_place p.pool p.trace name) → (names : List (List ℕ)) → map (placed_name_at p.before p.pool p.again table) names ≡ map (placed_name_of p) names
+pub by_table : (p : ReplacementWithSelectionAsPlaces) (table : List (List ℕ × ℕ)) → ((name : List ℕ) → place_paired_with_name name table ≡ selected_place p.pool p.trace name) → (names : List (List ℕ)) → map (placed_name_at p.before p.pool p.again table) names ≡ map (placed_name_of p) names
 unfolding placed_name_of
 by_table p table leads [] = refl
 by_table p table leads (name ∷ names) =
@@ -96,7 +96,7 @@ by_table p table leads (name ∷ names) =
     ∙ ap (λ z. placed_name_of p name ∷ z) (by_table p table leads names)
 
 -- the order of the names that are to be installed again does not matter
-pub by_sorted : (before : List Plain) (pool : SealedPool) (again sorted : List (List ℕ)) (table : List (List ℕ × ℕ)) → IsPermutation again sorted → (names : List (List ℕ)) → map (placed_name_at before pool sorted table) names ≡ map (placed_name_at before pool again table) names
+pub by_sorted : (before : List Plain) (pool : SelectionProblem) (again sorted : List (List ℕ)) (table : List (List ℕ × ℕ)) → IsPermutation again sorted → (names : List (List ℕ)) → map (placed_name_at before pool sorted table) names ≡ map (placed_name_at before pool again table) names
 by_sorted before pool again sorted table same [] = refl
 by_sorted before pool again sorted table same (name ∷ names) =
     ap (λ t. made t ∷ map (placed_name_at before pool sorted table) names) (sym (list_any-IsPermutation (bytes_eq name) again sorted same))
@@ -115,31 +115,31 @@ changes_of_map f g h same [] = refl
 changes_of_map f g h same (a ∷ xs) =
     ap (λ o. cons_option o (filter_map f (map g xs))) (same a) ∙ ap (cons_option (h a)) (changes_of_map f g h same xs)
 
-change_in_name : (p : ReplacementWithCandidatePlaces) (name : List ℕ) → change_in (placed_name_of p name) ≡ placed_change_of p name
+change_in_name : (p : ReplacementWithSelectionAsPlaces) (name : List ℕ) → change_in (placed_name_of p name) ≡ placed_change_of p name
 unfolding placed_name_of placed_change_of
 change_in_name p name = refl
 
 -- the changes among the names are the changes
-pub changes_among : (p : ReplacementWithCandidatePlaces) → filter_map change_in (placed_names_of p) ≡ placed_changes_of p
+pub changes_among : (p : ReplacementWithSelectionAsPlaces) → filter_map change_in (placed_names_of p) ≡ placed_changes_of p
 unfolding placed_names_of placed_changes_of
 changes_among p = changes_of_map change_in (placed_name_of p) (placed_change_of p) (change_in_name p) (names_before_and_selected (replacement_of p))
 
 -- ---- what the places of a name lead to
 
-pub own_name : (p : ReplacementWithCandidatePlaces) (name : List ℕ) → (placed_name_of p name).name ≡ name
+pub own_name : (p : ReplacementWithSelectionAsPlaces) (name : List ℕ) → (placed_name_of p name).name ≡ name
 unfolding placed_name_of
 own_name p name = refl
 
-pub own_change : (p : ReplacementWithCandidatePlaces) (name : List ℕ) → (placed_name_of p name).change ≡ change_of_name (replacement_of p) name
+pub own_change : (p : ReplacementWithSelectionAsPlaces) (name : List ℕ) → (placed_name_of p name).change ≡ change_of_name (replacement_of p) name
 unfolding placed_name_of change_of_name
 own_change p name =
     ap (λ o. change_between (list_any (bytes_eq name) p.again) name o (option_and_then (candidate_at p.pool) (selected_place p.pool p.trace name))) (found_at_position (is_package_named name) p.before)
     ∙ ap (λ o. change_between (list_any (bytes_eq name) p.again) name (find (is_package_named name) p.before) o) (found_at_place p.pool (is_candidate_named name) p.trace)
 
-pub own_package : (p : ReplacementWithCandidatePlaces) (name : List ℕ) → package_at_old_place p.before (placed_name_of p name) ≡ find (is_package_named name) p.before
+pub own_package : (p : ReplacementWithSelectionAsPlaces) (name : List ℕ) → package_at_old_place p.before (placed_name_of p name) ≡ find (is_package_named name) p.before
 unfolding placed_name_of
 own_package p name = found_at_position (is_package_named name) p.before
 
-pub own_candidate : (p : ReplacementWithCandidatePlaces) (name : List ℕ) → candidate_at_new_place p.pool (placed_name_of p name) ≡ find (is_candidate_named name) (candidates_at p.pool p.trace)
+pub own_candidate : (p : ReplacementWithSelectionAsPlaces) (name : List ℕ) → candidate_at_new_place p.pool (placed_name_of p name) ≡ find (is_candidate_named name) (candidates_at p.pool p.trace)
 unfolding placed_name_of
 own_candidate p name = found_at_place p.pool (is_candidate_named name) p.trace

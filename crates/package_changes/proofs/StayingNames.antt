@@ -5,7 +5,7 @@ use Rattle.std.specs.List.{filter, find, flat_map}
 use Rattle.base_core.proofs.Options.{is_none}
 use Rattle.adb_view.specs.Plain.{Plain}
 use Rattle.solve_core.specs.candidate_core.Candidates.{Candidate}
-use Rattle.solve_core.specs.candidate_core.Rank.{SealedPool, candidate_at}
+use Rattle.solve_core.specs.candidate_core.Rank.{SelectionProblem, candidate_at}
 use Rattle.report_core.specs.Reports.{report_line, still_needed_text}
 use Rattle.package_changes.specs.Changes.{is_candidate_named}
 use Rattle.package_changes.specs.Placed.{candidates_at, selected_place}
@@ -22,14 +22,14 @@ none_passes {X} p (x ∷ xs) e = go (p x) e (none_passes p xs)
     go false none rest = rest none
 
 -- a name without place has no line
-no_line : (pool : SealedPool) (trace : List ℕ) (name : List ℕ) → selected_place pool trace name ≡ None → lines_on_name_that_stays (candidates_at pool trace) name ≡ []
+no_line : (pool : SelectionProblem) (trace : List ℕ) (name : List ℕ) → selected_place pool trace name ≡ None → lines_on_name_that_stays (candidates_at pool trace) name ≡ []
 no_line pool trace name none =
     ap (flat_map (λ (c : Candidate). report_line (still_needed_text name (names_needing_candidate (candidates_at pool trace) c))))
     (none_passes (is_candidate_named name) (candidates_at pool trace)
     (sym (found_at_place pool (is_candidate_named name) trace) ∙ ap (option_and_then (candidate_at pool)) none))
 
 -- names that no selected candidate has add nothing
-pub only_selected_stay : (before : List Plain) (pool : SealedPool) (trace : List ℕ) (table : List (List ℕ × ℕ)) → ((name : List ℕ) → place_paired_with_name name table ≡ selected_place pool trace name) → (names : List (Bor (List ℕ)))
+pub only_selected_stay : (before : List Plain) (pool : SelectionProblem) (trace : List ℕ) (table : List (List ℕ × ℕ)) → ((name : List ℕ) → place_paired_with_name name table ≡ selected_place pool trace name) → (names : List (Bor (List ℕ)))
     → flat_map (lines_on_name_that_stays (candidates_at pool trace)) (filter (was_installed before) (map (λ n. n.now) (filter (λ (n : Bor (List ℕ)). is_some (place_paired_with_name n.now table)) names)))
     ≡ flat_map (lines_on_name_that_stays (candidates_at pool trace)) (filter (was_installed before) (map (λ n. n.now) names))
 only_selected_stay before pool trace table leads [] = refl

@@ -9,7 +9,7 @@ use Rattle.package_changes.specs.Changes.{change_of_name, changes_of}
 use Rattle.package_changes.specs.Report.{lines_on_names_that_stay}
 use Rattle.report_core.specs.Reports.{Install, Purge, Reinstall, Replace, Upgrade}
 use Rattle.version_core.specs.Order.{is_version, tokens, version_cmp}
-use Rattle.version_core.specs.Token.{later_component_lexeme, next_lexeme, number_lexeme}
+use Rattle.version_core.specs.Token.{later_component_lexeme_by_digits, next_lexeme, number_lexeme_by_digits}
 
 abbrev info_of : List ℕ → List ℕ → Plain
 info_of name version = obj (more (blob name) (more (blob version) none))
@@ -65,9 +65,9 @@ b_comes_again = refl
 
 -- the same version with no id is another package
 b_is_replaced : changes_of (record { before = package_of (codes "b") (codes "1") ∷ []; selected = candidate_of (Some 1) (codes "b") (codes "1") [] ∷ []; again = [] }) ≡ Replace (codes "b") (codes "1") (codes "1") ∷ []
-unfolding changes_of change_of_name sorted_distinct_names is_version version_cmp tokens next_lexeme number_lexeme later_component_lexeme
+unfolding changes_of change_of_name sorted_distinct_names is_version version_cmp tokens next_lexeme number_lexeme_by_digits later_component_lexeme_by_digits
 b_is_replaced = refl
 
 b_is_upgraded : changes_of (record { before = package_of (codes "b") (codes "1.9") ∷ []; selected = candidate_of (Some 1) (codes "b") (codes "1.10") [] ∷ []; again = [] }) ≡ Upgrade (codes "b") (codes "1.9") (codes "1.10") ∷ []
-unfolding changes_of change_of_name sorted_distinct_names is_version version_cmp tokens next_lexeme number_lexeme later_component_lexeme
+unfolding changes_of change_of_name sorted_distinct_names is_version version_cmp tokens next_lexeme number_lexeme_by_digits later_component_lexeme_by_digits
 b_is_upgraded = refl

@@ -7,13 +7,13 @@ use Rattle.std.specs.List.{filter_map, find, list_any}
 use Rattle.std.specs.declared.cmp.Ordering.{Ordering}
 use Rattle.std.specs.declared.cmp.Ordering.TheVariants.{Less, Equal, Greater}
 use Rattle.adb_view.specs.Plain.{Plain}
-use Rattle.adb_view.specs.FieldIndexes.{INFO_VERSION}
-use Rattle.adb_view.specs.Values.{entry_in, text_in}
+use Rattle.adb_view.specs.FieldIndexes.{INFO_VERSION_INDEX}
+use Rattle.adb_view.specs.Values.{entry_at_index, text_in}
 use Rattle.change_files.specs.adb_fields.Repeated.{package_name}
 use Rattle.change_files.specs.db_core.Packages.{installed_id, is_package_named}
 use Rattle.change_files.specs.file_owners.Replaces.{package_version_text}
 use Rattle.change_files.specs.PlanLists.{sorted_distinct_names}
-use Rattle.solve_core.specs.candidate_core.Candidates.{Candidate, is_same_id, version_of_text}
+use Rattle.solve_core.specs.candidate_core.Candidates.{Candidate, is_same_id_by_nonempty_prefix, version_of_text}
 use Rattle.std.specs.Option.{option_cmp}
 use Rattle.version_core.specs.Order.{version_cmp}
 use Rattle.report_core.specs.Reports.{Change, Downgrade, Install, Purge, Reinstall, Replace, Upgrade}
@@ -29,7 +29,7 @@ pub record Replacement : Type 0 where
 
 -- the text of a candidate's version, as the index or the database has it
 abbrev pub candidate_version_text : Candidate → List ℕ
-candidate_version_text c = text_in (entry_in c.info INFO_VERSION)
+candidate_version_text c = text_in (entry_at_index c.info INFO_VERSION_INDEX)
 
 -- whether the candidate has the name; what it provides does not count
 abbrev pub is_candidate_named : List ℕ → Candidate → Bool
@@ -39,7 +39,7 @@ is_candidate_named name c = bytes_eq c.name name
 -- repository (then it comes from the database), or has the same text and the same id.
 abbrev pub is_of_no_repository_or_same_version_and_id : List ℕ → List ℕ → Candidate → Bool
 is_of_no_repository_or_same_version_and_id version id c =
-    not (is_some c.repository) || (bytes_eq version (candidate_version_text c) && is_same_id id c.id)
+    not (is_some c.repository) || (bytes_eq version (candidate_version_text c) && is_same_id_by_nonempty_prefix id c.id)
 
 -- whether a candidate is this package of the database itself, so that the package is kept as it is
 abbrev pub is_candidate_this_package : Plain → Candidate → Bool

@@ -3,8 +3,8 @@
 use Rattle.std.specs.Prelude.{ℕ, Bool, not, ◌&&◌, List, ◌++◌, length, map, bytes_eq, sum_by}
 use Rattle.std.specs.List.{filter, flat_map, list_any}
 use Rattle.adb_view.specs.Plain.{Plain}
-use Rattle.adb_view.specs.FieldIndexes.{INFO_INSTALLED_SIZE}
-use Rattle.adb_view.specs.Values.{entry_in, int_in}
+use Rattle.adb_view.specs.FieldIndexes.{INFO_INSTALLED_SIZE_INDEX}
+use Rattle.adb_view.specs.Values.{entry_at_index, int_in}
 use Rattle.change_files.specs.PlanLists.{sorted_distinct_names}
 use Rattle.change_files.specs.db_core.Packages.{is_package_named}
 use Rattle.dep_core.specs.Dependency.{Dependency}
@@ -14,7 +14,7 @@ use Rattle.package_changes.specs.Changes.{Replacement, changes_of, is_candidate_
 
 -- the bytes that a candidate takes when it is installed, by its installed size
 abbrev pub candidate_installed_size : Candidate → ℕ
-candidate_installed_size c = int_in (entry_in c.info INFO_INSTALLED_SIZE)
+candidate_installed_size c = int_in (entry_at_index c.info INFO_INSTALLED_SIZE_INDEX)
 
 -- ---- kept packages that were to be removed
 

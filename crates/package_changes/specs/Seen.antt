@@ -3,9 +3,9 @@
 use Rattle.std.specs.Prelude.{ℕ, List, map, option_map}
 use Rattle.change_files.specs.db_core.Seen.{packages_of}
 use Rattle.change_files.specs.db_core.declared.db.Db.{Db}
-use Rattle.solve_core.specs.candidate_core.Rank.{SealedPool}
+use Rattle.solve_core.specs.candidate_core.Rank.{SelectionProblem}
 use Rattle.report_core.specs.Reports as Texts
-use Rattle.package_changes.specs.Placed.{PlacedChange, PlacedName, ReplacementWithCandidatePlaces}
+use Rattle.package_changes.specs.Placed.{PlacedChange, PlacedName, ReplacementWithSelectionAsPlaces}
 use Rattle.package_changes.specs.declared.change.Change.{Change}
 use Rattle.package_changes.specs.declared.change.Change.TheVariants.{Downgrade, Install, Purge, Reinstall, Replace, Upgrade}
 use Rattle.package_changes.specs.declared.change.PlacedChange.{PlacedChange as Placed}
@@ -45,7 +45,7 @@ placed_names_seen names = map placed_name_seen names.list.items
 
 -- the replacement of the packages of a database by the candidates at the places `trace` of a pool, with the names that
 -- are to be installed again
-abbrev pub placed_replacement_from_parts : Db → SealedPool → List ℕ → List (List ℕ)
-    → ReplacementWithCandidatePlaces
+abbrev pub placed_replacement_from_parts : Db → SelectionProblem → List ℕ → List (List ℕ)
+    → ReplacementWithSelectionAsPlaces
 placed_replacement_from_parts db pool trace again =
     record { before = packages_of db; pool = pool; trace = trace; again = again }

@@ -5,7 +5,7 @@ use Rattle.std.specs.Borrow.{Bor}
 use Rattle.std.specs.List.{position_from}
 use Rattle.adb_view.specs.Plain.{Plain}
 use Rattle.change_files.specs.db_core.Packages.{is_package_named}
-use Rattle.solve_core.specs.candidate_core.Rank.{SealedPool}
+use Rattle.solve_core.specs.candidate_core.Rank.{SelectionProblem}
 use Rattle.package_changes.specs.Placed.{PlacedName, placed_name_with}
 
 -- the table as contracts see it: each name with the place of its candidate
@@ -20,7 +20,7 @@ place_paired_with_name name (e ∷ es) =
 
 -- what happens to the package of a name, if `selected` is the table of the names and places of the selected candidates
 abbrev pub placed_name_at :
-    List Plain → SealedPool → List (List ℕ) → List (List ℕ × ℕ) → List ℕ → PlacedName
+    List Plain → SelectionProblem → List (List ℕ) → List (List ℕ × ℕ) → List ℕ → PlacedName
 placed_name_at before pool again selected name =
     placed_name_with before pool again name (position_from (is_package_named name) 0 before)
     (place_paired_with_name name selected)

@@ -14,7 +14,7 @@ ghost use Rattle.report_core.specs.Reports as Texts;
 ghost use Rattle.std.specs.Prelude.{◌≡◌, ◌<◌, false, Some, None, length, option_map, slice_get};
 
 use change_files::{Db, PackageView};
-use solve_core::{CandId, Candidate, is_same_id};
+use solve_core::{CandId, Candidate, is_same_id_by_nonempty_prefix};
 use std::cmp::Ordering;
 use std::marker::PhantomData;
 use version_core::Version;
@@ -159,7 +159,7 @@ fn is_candidate_this_package(old: &OldPackage<'_>, new: &Candidate<'_>) -> bool
     if old.version != new.info.version() {
         return false;
     }
-    is_same_id(old.id, new.info.hashes())
+    is_same_id_by_nonempty_prefix(old.id, new.info.hashes())
 }
 
 /// The change of a package from the version `old` to the version `new`, by their order.

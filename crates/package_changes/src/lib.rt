@@ -31,5 +31,5 @@ pub use names::{names_of_words, sorted_distinct_names};
 pub use placed::{PlacedName, PlacedNames};
 pub use report::{push_change_lines, push_sum_line, simulated_report};
 pub use selected::{SelectedNames, candidate_at};
-pub use solve_core::{Trace, is_same_id, solve, the_first_selection_is_unique};
+pub use solve_core::{Trace, is_same_id_by_nonempty_prefix, solve, the_first_selection_is_unique};
 pub use stays::push_stay_lines;

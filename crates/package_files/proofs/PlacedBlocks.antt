@@ -10,7 +10,7 @@ use Rattle.base_core.specs.Calls.{IfObservable}
 use Rattle.base_core.specs.Read.{AppendsReadBytes}
 use Rattle.base_core.specs.Tree.{TreeState, files_of}
 use Rattle.base_core.proofs.ReadAfter.{whole_read}
-use Rattle.adb_block.specs.Piece.{padding_of}
+use Rattle.adb_block.specs.BlockWithoutOffset.{padding_of}
 use Rattle.adb_block.specs.Written.{head_bytes}
 use Rattle.adb_block.specs.declared.block.BlockKind.TheVariants as Kinds
 use Rattle.adb_sound.specs.pkg_core.Contents.{Contents}

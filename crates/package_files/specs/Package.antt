@@ -36,17 +36,17 @@ pub record Script : Type 0 where
 -- ---- files
 
 -- the bytes with which a file begins that represents a symbolic link
-abbrev pub link_mark : List ℕ
-link_mark = codes "!<symlink>"
+abbrev pub symlink_file_prefix : List ℕ
+symlink_file_prefix = codes "!<symlink>"
 
 -- the text of the link that a file with these bytes represents: the bytes after the mark
 abbrev pub link_text : List ℕ → List ℕ
-link_text bytes = drop (length link_mark) bytes
+link_text bytes = drop (length symlink_file_prefix) bytes
 
 -- whether the bytes of a file are those of a link: its mark, and a text of UTF-8 that is not empty
 unfoldable pub is_link_file : List ℕ → Bool
 is_link_file bytes =
-    bytes_eq (take (length link_mark) bytes) link_mark && not (length bytes == length link_mark)
+    bytes_eq (take (length symlink_file_prefix) bytes) symlink_file_prefix && not (length bytes == length symlink_file_prefix)
     && is_utf8 (link_text bytes)
 
 -- the kind of a file with these bytes. A symbolic link has its target: the kind 0xa000 as two

@@ -5,7 +5,7 @@ use Rattle.std.specs.Prelude.{ℕ, ◌+◌, ◌==◌, List, [], ◌∷◌, lengt
 pub use Rattle.base_core.specs.Lists.{and_then}
 use Rattle.base_core.specs.Listed.{AreSortedNamesBelowFolder}
 use Rattle.command_core.specs.Values.{script_type, script_file}
-use Rattle.command_core.specs.Files.{without_dot_slash}
+use Rattle.command_core.specs.Files.{without_one_leading_dot_slash}
 use Rattle.command_core.specs.declared.values.OptionValue.{OptionValue}
 use Rattle.make_info.specs.Reads.{Reads}
 use Rattle.make_info.specs.declared.fault.MakeFault.{MakeFault}
@@ -43,7 +43,7 @@ texts_of values = map (λ (v : OptionValue). v.text) values
 abbrev pub AreSortedNamesBelowFirstFolder : List OptionValue → List (List ℕ) → Type 0
 AreSortedNamesBelowFirstFolder [] names = Unit {0}
 AreSortedNamesBelowFirstFolder (folder ∷ others) names =
-    AreSortedNamesBelowFolder (without_dot_slash folder.text) names
+    AreSortedNamesBelowFolder (without_one_leading_dot_slash folder.text) names
 
 -- ---- scripts
 
@@ -55,7 +55,7 @@ script_with kind bytes = record { field = kind; bytes = bytes }
 -- in FILE. If FILE is absent, its fault
 abbrev pub script_at : Reads → ℕ → OptionValue → Result Script MakeFault
 script_at read n v =
-    and_then (found_bytes_or_missing v.place (read n (without_dot_slash (script_file v.text))))
+    and_then (found_bytes_or_missing v.place (read n (without_one_leading_dot_slash (script_file v.text))))
     (λ bytes. Ok (script_with (script_type v.text) bytes))
 
 -- the scripts of these values of `-s`, whose files are read one after the other; the first read has the
@@ -105,4 +105,4 @@ abbrev pub source_folders_of_first_option_only :
 source_folders_of_first_option_only read n [] names = Ok []
 source_folders_of_first_option_only read n (v ∷ vs) names =
     source_folders_at_place_from_read v.place read n
-    (folder_listings_by_tree_names (without_dot_slash v.text) names)
+    (folder_listings_by_tree_names (without_one_leading_dot_slash v.text) names)

@@ -4,7 +4,7 @@
 //! order) and "Container" (header and padding of a block); that a file is not held twice, in
 //! `docs/DECISIONS.md`, "Making".
 ghost use Rattle.base_core.specs.Read.{OnlyReads};
-ghost use Rattle.adb_block.specs.Piece.{padding_of};
+ghost use Rattle.adb_block.specs.BlockWithoutOffset.{padding_of};
 ghost use Rattle.base_core.specs.Calls.{IfObservable};
 ghost use Rattle.base_core.specs.Tree.{files_of};
 ghost use Rattle.package_files.specs.Blocks.{HasBlockFront, contents_front};

@@ -4,15 +4,15 @@ use Rattle.std.specs.Prelude.{IfSome, OnOk}
 use Rattle.std.proofs.lemmas.List.{drop-drop, drop-take}
 use Rattle.base_core.specs.declared.Cause.{Cause}
 use Rattle.base_core.specs.declared.Cause.TheVariants.{BlockOrder}
-use Rattle.adb_block.specs.Framing.{HeadFields, block, failed, block_head_fields, kind_of_number, next_block_result_at_offset, next_block_result_at_file_end, next_block_result_by_header, next_block_result_by_kind_order, next_block_result_by_size}
+use Rattle.adb_block.specs.Framing.{HeadFields, block, failed, block_head_fields, kind_of_number, next_block_result_at_offset, next_block_result_at_file_end, next_block_result_by_header, next_block_result_by_kind_order, next_block_result_by_raw_size}
 use Rattle.adb_block.specs.Frames.{IsFrameOrEndOfBlockResult, framed_piece, raw_size}
-use Rattle.adb_block.specs.Piece.{Piece, may_be_next_kind, least_payload_len, padding_of}
+use Rattle.adb_block.specs.BlockWithoutOffset.{BlockWithoutOffset, may_be_next_kind, least_payload_len, padding_of}
 use Rattle.adb_block.specs.Reading.{block_stream_from}
 use Rattle.adb_block.specs.declared.block.BlockKind.{BlockKind}
 use Rattle.adb_block.specs.declared.block.BlockKind.TheVariants as Kinds
 use Rattle.adb_block.proofs.Runs.{reading_more}
 use Rattle.adb_block.specs.declared.block.Frame.{Frame}
-use Rattle.pkg_core.specs.Contents.{contents_bytes}
+use Rattle.pkg_core.specs.Contents.{contents_from_block_payload}
 use Rattle.pkg_core.specs.Contents.{ExpectedFile}
 use Rattle.pkg_core.specs.Opened.{expected_of, files_left_in_walk}
 use Rattle.pkg_core.specs.declared.walk.Walk.{Walk}
@@ -27,7 +27,7 @@ use Rattle.package_reader.specs.Opened.{IsOpenFile, unread_bytes}
 use Rattle.package_reader.specs.declared.open.OpenFile.{OpenFile}
 
 -- the payload's bytes after the positions
-pub contents_at : (place : BlockPlace) (frame : Frame) (file : List ℕ) (n : ℕ) → 8 + n ≡ frame.payload_len → contents_bytes (payload_at frame place file) ≡ take n (drop (place.at + frame.head_len + 8) file)
+pub contents_at : (place : BlockPlace) (frame : Frame) (file : List ℕ) (n : ℕ) → 8 + n ≡ frame.payload_len → contents_from_block_payload (payload_at frame place file) ≡ take n (drop (place.at + frame.head_len + 8) file)
 contents_at place frame file n is =
     ap (λ (k : ℕ). drop 8 (take k (drop frame.head_len (drop place.at file)))) (sym is)
     ∙ (drop-take 8 n (drop frame.head_len (drop place.at file))
@@ -40,7 +40,7 @@ opens before after (Some frame) file o f is at left step = by_file o is at
   where
     by_file : (o : OpenFile) → o.file ≡ f → o.at ≡ before.at + frame.head_len + 8 → IsOpenFile o [] file (pieces_at after file) (pieces_at before file)
     by_file o is at =
-        let come : contents_bytes (payload_at frame before file) ≡ unread_bytes o file = contents_at before frame file (file_bytes_left f) left ∙ (ap (λ (n : ℕ). take (file_bytes_left f) (drop n file)) (sym at) ∙ ap (λ g. take (file_bytes_left g) (drop o.at file)) (sym is)) in
+        let come : contents_from_block_payload (payload_at frame before file) ≡ unread_bytes o file = contents_at before frame file (file_bytes_left f) left ∙ (ap (λ (n : ℕ). take (file_bytes_left f) (drop n file)) (sym at) ∙ ap (λ g. take (file_bytes_left g) (drop o.at file)) (sym is)) in
         record {
           taken = subst (λ g. HasTaken g []) (sym is) step.1;
           long = ap length (sym come) ∙ (step.2 ∙ ap (λ g. g.wanted.size) (sym is));

@@ -9,8 +9,8 @@ use Rattle.base_core.proofs.Booleans.{both_second}
 use Rattle.adb_view.specs.Plain.{Plain}
 use Rattle.pkg_core.specs.adb_fields.Repeated.{files_in, folders_in}
 use Rattle.pkg_core.specs.adb_schema.Texts.{is_file_with_contents}
-use Rattle.adb_view.specs.Values.{entry_in, int_in, text_in}
-use Rattle.pkg_core.specs.Contents.{ExpectedFile, expected_file_if_with_contents, expected_files_of_package, expected_files_of_folder, expected_files_of_folders, hash_fault}
+use Rattle.adb_view.specs.Values.{entry_at_index, int_in, text_in}
+use Rattle.pkg_core.specs.Contents.{ExpectedFile, expected_file_if_with_contents, expected_files_of_package, expected_files_of_folder, expected_files_of_folders, fault_if_digest_is_not_of_bytes}
 use Rattle.pkg_core.specs.Opened.{expected_file_at, expected_of, is_expected_at}
 use Rattle.pkg_core.specs.declared.walk.Wanted.{Wanted}
 use Rattle.pkg_core.specs.Pieces.{PiecesRead, no_piece, pieces_of_one_file, refusal, piece_count_before_last}
@@ -30,8 +30,8 @@ more_sizes (e ∷ es) others a b = (a.0, more_sizes es others a.1 b)
 file_sizes : (folder i : ℕ) (file : Plain) → HaveSizes (expected_file_if_with_contents folder i file)
 file_sizes folder i file = by (is_file_with_contents file) refl
   where
-    by : (b : Bool) → is_file_with_contents file ≡ b → HaveSizes (cond b (record { folder = folder; file = i; size = int_in (entry_in file 2); hash = text_in (entry_in file 4) } ∷ []) [])
-    by true is = (ltb-true 0 (int_in (entry_in file 2)) (both_second (length (text_in (entry_in file 5)) == 0) (nat_lt 0 (int_in (entry_in file 2))) is), tt)
+    by : (b : Bool) → is_file_with_contents file ≡ b → HaveSizes (cond b (record { folder = folder; file = i; size = int_in (entry_at_index file 2); hash = text_in (entry_at_index file 4) } ∷ []) [])
+    by true is = (ltb-true 0 (int_in (entry_at_index file 2)) (both_second (length (text_in (entry_at_index file 5)) == 0) (nat_lt 0 (int_in (entry_at_index file 2))) is), tt)
     by false is = tt
 
 files_sizes : (folder i : ℕ) (files : List Plain) → HaveSizes (expected_files_of_folder folder i files)
@@ -62,7 +62,7 @@ refused_none_left zero e (Some d) bytes further c is = (refl, (let s : refusal d
 refused_none_left (suc n) e digest bytes further c is = absurd (cc)
 
 pub refused_whole : (f : FileCheck) (so_far bytes : List ℕ) (c : Cause) → HasTaken f so_far → 0 < file_bytes_left f → length bytes ≡ next_piece_len f → ((so_far left : List ℕ) (further : PiecesRead) → HasTaken f so_far → length (so_far ++ (bytes ++ left)) ≡ f.wanted.size → IsTakeResult f so_far bytes left further (Err c))
-    → (length (so_far ++ bytes) ≡ f.wanted.size) × (hash_fault f.wanted.hash.now (so_far ++ bytes) ≡ Some c)
+    → (length (so_far ++ bytes) ≡ f.wanted.size) × (fault_if_digest_is_not_of_bytes f.wanted.hash.now (so_far ++ bytes) ≡ Some c)
 refused_whole f so_far bytes c has some len taken =
     let many = has.long in
     let left : List ℕ = replicate (file_bytes_left f - length bytes) 0 in
@@ -70,9 +70,9 @@ refused_whole f so_far bytes c has some len taken =
     let b = length-append bytes left in
     let d = length-replicate {A = ℕ} (file_bytes_left f - length bytes) 0 in
     let whole : length (so_far ++ (bytes ++ left)) ≡ f.wanted.size = omega (arith, a, b, d, many, some, len) in
-    let is = refused_none_left (piece_count_before_last (length (bytes ++ left))) (expected_of f.wanted) (hash_fault f.wanted.hash.now (so_far ++ (bytes ++ left))) (bytes ++ left) no_piece c (taken so_far left no_piece has whole) in
+    let is = refused_none_left (piece_count_before_last (length (bytes ++ left))) (expected_of f.wanted) (fault_if_digest_is_not_of_bytes f.wanted.hash.now (so_far ++ (bytes ++ left))) (bytes ++ left) no_piece c (taken so_far left no_piece has whole) in
     let zero_pieces = is.0 in
     let all : file_bytes_left f ≡ length bytes = omega (arith, b, d, len, zero_pieces, some) in
     let no_more : left ≡ [] = ap (λ (n : ℕ). replicate {A = ℕ} n 0) (let e : file_bytes_left f - length bytes ≡ 0 = omega (arith, all) in e) in
     let same : so_far ++ (bytes ++ left) ≡ so_far ++ bytes = ap (λ (xs : List ℕ). so_far ++ (bytes ++ xs)) no_more ∙ ap (λ (xs : List ℕ). so_far ++ xs) (append-nil bytes) in
-    (ap length (sym same) ∙ whole, ap (hash_fault f.wanted.hash.now) (sym same) ∙ is.1)
+    (ap length (sym same) ∙ whole, ap (fault_if_digest_is_not_of_bytes f.wanted.hash.now) (sym same) ∙ is.1)

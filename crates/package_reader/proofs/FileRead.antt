@@ -5,7 +5,7 @@ use Rattle.std.proofs.lemmas.List.{drop-drop, length-append}
 use Rattle.base_core.specs.Calls.{IfObservable}
 use Rattle.base_core.specs.Tree.{TreeState, files_of}
 use Rattle.base_core.specs.declared.cause.Cause.{Cause}
-use Rattle.pkg_core.specs.Contents.{ExpectedFile, hash_fault}
+use Rattle.pkg_core.specs.Contents.{ExpectedFile, fault_if_digest_is_not_of_bytes}
 use Rattle.pkg_core.specs.Opened.{expected_of}
 use Rattle.pkg_core.specs.declared.walk.Wanted.{Wanted}
 use Rattle.pkg_core.specs.Seen.{AreBytesRead, HasBytesAtOffset}
@@ -90,10 +90,10 @@ more_given o f pkg left bytes is has at room =
     let rest : unread_bytes f pkg ≡ take (l - n) (drop n (drop o.at pkg)) = (λ k. take (fewer k) (drop (at k) pkg)) ∙ ap (take (l - n)) (sym (drop-drop n o.at pkg)) in
     is.come ∙ (split_at n l (drop o.at pkg) few ∙ (λ k. has k ++ (sym rest) k))
 
-good_further : (o f : OpenFile) (so_far left bytes rest : List ℕ) → f.file.wanted ≡ o.file.wanted → left ≡ bytes ++ rest → hash_fault o.file.wanted.hash.now (so_far ++ left) ≡ None → hash_fault f.file.wanted.hash.now ((so_far ++ bytes) ++ rest) ≡ None
+good_further : (o f : OpenFile) (so_far left bytes rest : List ℕ) → f.file.wanted ≡ o.file.wanted → left ≡ bytes ++ rest → fault_if_digest_is_not_of_bytes o.file.wanted.hash.now (so_far ++ left) ≡ None → fault_if_digest_is_not_of_bytes f.file.wanted.hash.now ((so_far ++ bytes) ++ rest) ≡ None
 good_further o f so_far left bytes rest same whole good =
-    ap (λ (w : Wanted). hash_fault w.hash.now ((so_far ++ bytes) ++ rest)) same
-    ∙ (ap (λ (xs : List ℕ). hash_fault o.file.wanted.hash.now xs) (append_assoc so_far bytes rest ∙ ap (λ (xs : List ℕ). so_far ++ xs) (sym whole))
+    ap (λ (w : Wanted). fault_if_digest_is_not_of_bytes w.hash.now ((so_far ++ bytes) ++ rest)) same
+    ∙ (ap (λ (xs : List ℕ). fault_if_digest_is_not_of_bytes o.file.wanted.hash.now xs) (append_assoc so_far bytes rest ∙ ap (λ (xs : List ℕ). so_far ++ xs) (sym whole))
     ∙ good)
 
 given : (o : OpenFile) (rest : Option OpenFile) (pkg left bytes : List ℕ) (part : Part) → (is : AreLeftOf o pkg left) → HasBytesAtOffset pkg o.at bytes → IsResultOfNextPiece is.so_far pkg bytes no_piece (pieces_in o.file is.so_far left no_piece) (Ok (part, rest)) → IfNone rest (length bytes ≡ file_bytes_left o.file) → IsPieceOf o (length bytes) (part, rest)

@@ -4,7 +4,7 @@
 use Rattle.std.specs.Prelude.{◌≡◌, ℕ, ◌+◌, ◌-◌, nat_lt, if◌then◌else◌, true, false, List, [], ◌++◌, length, take, drop, Option, Some, None, Result, Ok, Err}
 use Rattle.base_core.specs.declared.cause.Cause.{Cause}
 use Rattle.base_core.specs.declared.cause.Cause.TheVariants.{DataOrder, DataSize}
-use Rattle.pkg_core.specs.Contents.{ExpectedFile, hash_fault}
+use Rattle.pkg_core.specs.Contents.{ExpectedFile, fault_if_digest_is_not_of_bytes}
 use Rattle.pkg_core.specs.Opened.{expected_of}
 use Rattle.pkg_core.specs.Pieces.{PiecesRead, part_of, piece, refusal}
 use Rattle.pkg_core.specs.Taking.{HasTaken, file_bytes_left, pieces_in}
@@ -40,7 +40,7 @@ pub record AreLeftOf (o : OpenFile) (pkg left : List ℕ) : Type 0 where
   -- the bytes `left` are the unread ones
   pub come : left ≡ unread_bytes o pkg
   -- together they have the digest of the file
-  pub good : hash_fault o.file.wanted.hash.now (so_far ++ left) ≡ None
+  pub good : fault_if_digest_is_not_of_bytes o.file.wanted.hash.now (so_far ++ left) ≡ None
 
 -- `left` are the bytes of the open file that are still to be read from the package of the bytes `pkg`. Together with
 -- the bytes that were returned before, they have the size and the digest of the file. If no file is open, `left` is
@@ -54,11 +54,11 @@ AreUnreadBytes (Some o) pkg left = AreLeftOf o pkg left
 -- taken them. With an error they have the size, and another digest
 abbrev pub AreTestedSoFar : OpenFile → List ℕ → Result (Part × Option OpenFile) PieceFault → Type 0
 AreTestedSoFar o bytes (Ok (part, None)) =
-    (length bytes ≡ o.file.wanted.size) × (hash_fault o.file.wanted.hash.now bytes ≡ None)
+    (length bytes ≡ o.file.wanted.size) × (fault_if_digest_is_not_of_bytes o.file.wanted.hash.now bytes ≡ None)
 AreTestedSoFar o bytes (Ok (part, Some further)) =
     HasTaken further.file bytes × (further.file.wanted ≡ o.file.wanted)
 AreTestedSoFar o bytes (Err (Bad c)) =
-    (length bytes ≡ o.file.wanted.size) × (hash_fault o.file.wanted.hash.now bytes ≡ Some c)
+    (length bytes ≡ o.file.wanted.size) × (fault_if_digest_is_not_of_bytes o.file.wanted.hash.now bytes ≡ Some c)
 AreTestedSoFar o bytes (Err Disk) = Unit {0}
 
 -- the result is no I/O error of the tree

@@ -5,7 +5,7 @@ ghost use Rattle.std.specs.Prelude.{◌≡◌, ◌≤◌, ◌<◌, ◌+◌, ◌+
 ghost use Rattle.std.specs.Result.{result_err};
 ghost use Rattle.pkg_core.specs.Pieces.{PiecesRead};
 ghost use Rattle.pkg_core.specs.Taking.{HasTaken, file_bytes_left, next_piece_len};
-ghost use Rattle.pkg_core.specs.Contents.{hash_fault};
+ghost use Rattle.pkg_core.specs.Contents.{fault_if_digest_is_not_of_bytes};
 ghost use Rattle.pkg_core.specs.Opened.{expected_of};
 ghost use Rattle.pkg_core.specs.Seen.{AreBytesRead, HasBytesAtOffset, ReadsFile};
 ghost use Rattle.package_reader.specs.Opened.{AreLeftOf, AreTestedSoFar, IsResultOfNextPiece, IsOpenFile, IsPieceOf, IsNotDiskResult, place_fault};
@@ -118,7 +118,7 @@ pub(crate) fn open_at<'a>(
     // these are the bytes to be read.
     ensures left { (pkg bytes : List ℕ) (start : ℕ) → length pkg ≡ len → at ≡ Some start
         → HasBytesAtOffset pkg start bytes → length bytes ≡ wanted.entry.size
-        → hash_fault wanted.entry.hash.now bytes ≡ None
+        → fault_if_digest_is_not_of_bytes wanted.entry.hash.now bytes ≡ None
         → IsOkAnd result (λ o. AreLeftOf o pkg bytes) }
 {
     let Some(at) = at else {

@@ -4,15 +4,15 @@ use Rattle.std.specs.List.{find}
 use Rattle.base_core.specs.declared.cause.Cause.{Cause}
 use Rattle.adb_block.specs.Header.{schema_of_header}
 use Rattle.adb_block.specs.Reading.{Reading, done, fault, more, block_stream_from}
-use Rattle.adb_block.specs.ReaderPosition.{first_block_position_of_schema_and_file}
+use Rattle.adb_block.specs.PositionBetweenBlocks.{first_block_position_of_schema_and_file}
 use Rattle.adb_view.specs.Plain.{Plain}
 use Rattle.base_core.proofs.Causes.{second_none}
 use Rattle.adb_view.specs.declared.tables.Which.TheVariants.{Package}
-use Rattle.package_reader.specs.adb_schema.Soundness.{blocks_fault, file_fault_after_header, first_block_payload, payload_after_header, payload_fault, payload_in, root_value_of_payload, schema_fault}
-use Rattle.package_reader.specs.pkg_core.Contents.{Contents, ExpectedFile, bytes_of_file, bytes_or_none, contents_in, expected_files_of_package, hash_fault, is_contents_of_file}
-use Rattle.package_reader.specs.pkg_core.GoodContents.{AreContentsOfExpectedFiles, IsContentsOfExpectedFile}
+use Rattle.package_reader.specs.adb_schema.Soundness.{blocks_fault, file_fault_by_header_schema_or_fault, first_block_payload, payload_by_header_schema_or_fault, payload_fault, payload_in, root_value_of_payload, schema_fault}
+use Rattle.package_reader.specs.pkg_core.Contents.{Contents, ExpectedFile, bytes_of_file, bytes_or_none, contents_in, expected_files_of_package, fault_if_digest_is_not_of_bytes, is_contents_of_file}
+use Rattle.package_reader.specs.pkg_core.GoodContents.{MatchEachExpectedSizeAndKnownDigest, MatchesExpectedSizeAndKnownDigest}
 use Rattle.package_reader.specs.pkg_core.Opened.{expected_file_at, is_expected_at}
-use Rattle.package_reader.specs.pkg_core.Whole.{fault_of_further_blocks, files_after_first_block, files_after_header, files_read_from_package, package_fault, container_fault_of_table}
+use Rattle.package_reader.specs.pkg_core.Whole.{fault_of_contents_blocks_by_root_table, files_after_first_block, files_after_header, files_read_from_package, package_fault, container_fault_of_table}
 use Rattle.package_reader.proofs.pkg_core.Given.{files_right, nothing_expected}
 use Rattle.package_reader.specs.pkg_core.Seen.{HasBytesAtOffset}
 use Rattle.package_verifier.specs.Places.{AreAtPlaces, AreInFileOrder, is_place_of, offset_of_file}
@@ -21,16 +21,16 @@ use Rattle.package_verifier.proofs.FileOrder.{expected_in_order, placed_in_order
 
 -- ---- a package without fault has the contents of each file
 
-blocks_right : (r : Reading) → blocks_fault (fault_of_further_blocks Package) Package r ≡ None → AreContentsOfExpectedFiles (expected_files_of_package (root_value_of_payload Package (first_block_payload r))) (contents_in (files_after_first_block r))
-blocks_right done h = let A : List ExpectedFile → Type 0 = λ es. AreContentsOfExpectedFiles es [] in subst A (sym nothing_expected) tt
+blocks_right : (r : Reading) → blocks_fault (fault_of_contents_blocks_by_root_table Package) Package r ≡ None → MatchEachExpectedSizeAndKnownDigest (expected_files_of_package (root_value_of_payload Package (first_block_payload r))) (contents_in (files_after_first_block r))
+blocks_right done h = let A : List ExpectedFile → Type 0 = λ es. MatchEachExpectedSizeAndKnownDigest es [] in subst A (sym nothing_expected) tt
 blocks_right (fault c) h = (cc)
 blocks_right (more b at r) h = files_right (expected_files_of_package (root_value_of_payload Package b.payload)) r (second_none (payload_fault Package b.payload) _ h)
 
-header_right : (file : List ℕ) (h : Result ℕ Cause) → file_fault_after_header (fault_of_further_blocks Package) Package file h ≡ None → AreContentsOfExpectedFiles (expected_files_of_package (root_value_of_payload Package (payload_after_header file h))) (contents_in (files_after_header file h))
+header_right : (file : List ℕ) (h : Result ℕ Cause) → file_fault_by_header_schema_or_fault (fault_of_contents_blocks_by_root_table Package) Package file h ≡ None → MatchEachExpectedSizeAndKnownDigest (expected_files_of_package (root_value_of_payload Package (payload_by_header_schema_or_fault file h))) (contents_in (files_after_header file h))
 header_right file (Ok schema) e = blocks_right (block_stream_from (first_block_position_of_schema_and_file schema file)) (second_none (schema_fault Package schema) _ e)
 header_right file (Err c) e = (cc)
 
-pub package_right : (file : List ℕ) → package_fault file ≡ None → AreContentsOfExpectedFiles (expected_files_of_package (root_value_of_payload Package (payload_in file))) (contents_in (files_read_from_package file))
+pub package_right : (file : List ℕ) → package_fault file ≡ None → MatchEachExpectedSizeAndKnownDigest (expected_files_of_package (root_value_of_payload Package (payload_in file))) (contents_in (files_read_from_package file))
 unfolding container_fault_of_table files_read_from_package payload_in
 package_right file h = header_right file (schema_of_header file) h
 
@@ -46,9 +46,9 @@ record IsFoundThere (pkg : List ℕ) (folder file at : ℕ) (cs : List Contents)
   found : find (is_contents_of_file folder file) cs ≡ Some contents
   due : expected_file_at folder file es ≡ Some expected
   located : HasBytesAtOffset pkg at contents.bytes
-  of : IsContentsOfExpectedFile expected contents
+  of : MatchesExpectedSizeAndKnownDigest expected contents
 
-found_there : (pkg : List ℕ) (folder file at : ℕ) (ps : List FilePlace) (cs : List Contents) (es : List ExpectedFile) → AreAtPlaces pkg ps cs → AreContentsOfExpectedFiles es cs → Some at ≡ offset_of_file folder file ps → IsFoundThere pkg folder file at cs es
+found_there : (pkg : List ℕ) (folder file at : ℕ) (ps : List FilePlace) (cs : List Contents) (es : List ExpectedFile) → AreAtPlaces pkg ps cs → MatchEachExpectedSizeAndKnownDigest es cs → Some at ≡ offset_of_file folder file ps → IsFoundThere pkg folder file at cs es
 found_there pkg folder file at [] cs es stand are is = absurd (cc)
 found_there pkg folder file at (p ∷ ps) [] es stand are is = absurd stand
 found_there pkg folder file at (p ∷ ps) (c ∷ cs) [] stand are is = absurd are
@@ -92,9 +92,9 @@ off_there pkg folder file (p ∷ ps) (c ∷ cs) stand is =
 -- ---- what a tested package gives
 
 abbrev pub IsReadFrom : (List ℕ → List ℕ → Type 0) → ℕ → Plain → ℕ → ℕ → Option ℕ → Type 0
-IsReadFrom Reads len value folder file at = (pkg bytes : List ℕ) (e : ExpectedFile) (start : ℕ) → length pkg ≡ len → at ≡ Some start → expected_file_at folder file (expected_files_of_package value) ≡ Some e → HasBytesAtOffset pkg start bytes → length bytes ≡ e.size → hash_fault e.hash bytes ≡ None → Reads pkg bytes
+IsReadFrom Reads len value folder file at = (pkg bytes : List ℕ) (e : ExpectedFile) (start : ℕ) → length pkg ≡ len → at ≡ Some start → expected_file_at folder file (expected_files_of_package value) ≡ Some e → HasBytesAtOffset pkg start bytes → length bytes ≡ e.size → fault_if_digest_is_not_of_bytes e.hash bytes ≡ None → Reads pkg bytes
 
-none_due : (folder file : ℕ) (cs : List Contents) (es : List ExpectedFile) → AreContentsOfExpectedFiles es cs → find (is_contents_of_file folder file) cs ≡ None → expected_file_at folder file es ≡ None
+none_due : (folder file : ℕ) (cs : List Contents) (es : List ExpectedFile) → MatchEachExpectedSizeAndKnownDigest es cs → find (is_contents_of_file folder file) cs ≡ None → expected_file_at folder file es ≡ None
 none_due folder file [] [] are is = refl
 none_due folder file [] (e ∷ es) are is = absurd are
 none_due folder file (c ∷ cs) [] are is = absurd are
@@ -113,8 +113,8 @@ gives_bytes Reads due len folder file at value pkg places sound same long stand 
     cs : List Contents
     cs = contents_in (files_read_from_package pkg)
 
-    are : AreContentsOfExpectedFiles (expected_files_of_package value) cs
-    are = subst (λ (v : Plain). AreContentsOfExpectedFiles (expected_files_of_package v) cs) (sym same) (package_right pkg sound)
+    are : MatchEachExpectedSizeAndKnownDigest (expected_files_of_package value) cs
+    are = subst (λ (v : Plain). MatchEachExpectedSizeAndKnownDigest (expected_files_of_package v) cs) (sym same) (package_right pkg sound)
 
     order : AreInFileOrder places
     order = placed_in_order pkg places cs (expected_files_of_package value) stand are (expected_in_order value)

@@ -7,9 +7,9 @@ use Rattle.std.proofs.lemmas.Bool.{and_from, cases_eq, cases_lt, eq-eqb, eqb-tru
 use Rattle.adb_view.specs.Plain.{Plain}
 use Rattle.package_reader.specs.adb_fields.Repeated.{files_in, folders_in}
 use Rattle.package_reader.specs.adb_schema.Texts.{is_file_with_contents}
-use Rattle.adb_view.specs.Values.{entry_in, int_in, text_in}
+use Rattle.adb_view.specs.Values.{entry_at_index, int_in, text_in}
 use Rattle.package_reader.specs.pkg_core.Contents.{Contents, ExpectedFile, expected_file_if_with_contents, expected_files_of_package, expected_files_of_folder, expected_files_of_folders}
-use Rattle.package_reader.specs.pkg_core.GoodContents.{AreContentsOfExpectedFiles, IsContentsOfExpectedFile}
+use Rattle.package_reader.specs.pkg_core.GoodContents.{MatchEachExpectedSizeAndKnownDigest, MatchesExpectedSizeAndKnownDigest}
 use Rattle.package_verifier.specs.Places.{AreAtPlaces, AreInFileOrder, ArePlacedAfter, IsBeforeFile, is_before_file, is_place_of, offset_of_file}
 use Rattle.package_verifier.specs.declared.places.FilePlace.{FilePlace}
 
@@ -143,7 +143,7 @@ after_joined a b [] ys first second = second
 after_joined a b (x ∷ xs) ys first second = (first.0, after_joined a b xs ys first.1 second)
 
 abbrev expected_file : ℕ → ℕ → Plain → ExpectedFile
-expected_file folder i f = record { folder = folder; file = i; size = int_in (entry_in f 2); hash = text_in (entry_in f 4) }
+expected_file folder i f = record { folder = folder; file = i; size = int_in (entry_at_index f 2); hash = text_in (entry_at_index f 4) }
 
 one_after : (x : Bool) (a b : ℕ) (e : ExpectedFile) → IsBeforeFile a b e.folder e.file → AreExpectedAfter a b (if x then e ∷ [] else [])
 one_after true a b e before = (before, tt)
@@ -183,7 +183,7 @@ expected_in_order v = folders_in_order 1 (folders_in v)
 
 -- ---- and so are their places
 
-placed_after : (pkg : List ℕ) (a b : ℕ) (ps : List FilePlace) (cs : List Contents) (es : List ExpectedFile) → AreAtPlaces pkg ps cs → AreContentsOfExpectedFiles es cs → AreExpectedAfter a b es → ArePlacedAfter a b ps
+placed_after : (pkg : List ℕ) (a b : ℕ) (ps : List FilePlace) (cs : List Contents) (es : List ExpectedFile) → AreAtPlaces pkg ps cs → MatchEachExpectedSizeAndKnownDigest es cs → AreExpectedAfter a b es → ArePlacedAfter a b ps
 placed_after pkg a b [] cs es at are behind = tt
 placed_after pkg a b (p ∷ ps) [] es at are behind = absurd at
 placed_after pkg a b (p ∷ ps) (c ∷ cs) [] at are behind = absurd are
@@ -192,7 +192,7 @@ placed_after pkg a b (p ∷ ps) (c ∷ cs) (e ∷ es) at are behind = (
   placed_after pkg a b ps cs es at.1 are.1 behind.1,
 )
 
-pub placed_in_order : (pkg : List ℕ) (ps : List FilePlace) (cs : List Contents) (es : List ExpectedFile) → AreAtPlaces pkg ps cs → AreContentsOfExpectedFiles es cs → AreExpectedInOrder es → AreInFileOrder ps
+pub placed_in_order : (pkg : List ℕ) (ps : List FilePlace) (cs : List Contents) (es : List ExpectedFile) → AreAtPlaces pkg ps cs → MatchEachExpectedSizeAndKnownDigest es cs → AreExpectedInOrder es → AreInFileOrder ps
 placed_in_order pkg [] cs es at are order = tt
 placed_in_order pkg (p ∷ ps) [] es at are order = absurd at
 placed_in_order pkg (p ∷ ps) (c ∷ cs) [] at are order = absurd are

@@ -5,9 +5,9 @@ use Rattle.base_core.specs.declared.cause.Cause.TheVariants.{DataOrder, DataSize
 use Rattle.adb_block.specs.Reading.{Reading, done, fault, more}
 use Rattle.adb_block.specs.declared.block.BlockKind.{BlockKind}
 use Rattle.adb_block.specs.declared.block.BlockKind.TheVariants as Kinds
-use Rattle.package_reader.specs.adb_schema.Soundness.{contents_positions}
-use Rattle.package_reader.specs.pkg_core.Contents.{ExpectedFile, contents_bytes, has_positions_of, hash_fault}
-use Rattle.package_reader.specs.pkg_core.Pieces.{PiecesRead, no_piece, piece, pieces_at_block, pieces_read_from_blocks, pieces_of_one_file, refusal, pieces_unless_fault, piece_count_before_last}
+use Rattle.package_reader.specs.adb_schema.Soundness.{folder_and_file_positions_from_payload}
+use Rattle.package_reader.specs.pkg_core.Contents.{ExpectedFile, contents_from_block_payload, has_positions_of, fault_if_digest_is_not_of_bytes}
+use Rattle.package_reader.specs.pkg_core.Pieces.{PiecesRead, no_piece, piece, pieces_at_block, pieces_read_from_blocks, pieces_of_one_file, refusal, pieces_or_fault_alone, piece_count_before_last}
 
 abbrev pub AreFull : PiecesRead → Type 0
 AreFull no_piece = Unit {0}
@@ -22,7 +22,7 @@ full_from (suc n) e digest bytes further few full =
     let left = length-drop 65536 bytes in
     (λ others. omega (arith, few, first), full_from n e digest (drop 65536 bytes) further (omega (arith, few, left)) full)
 
-full_file : (a b : Bool) (c d : Cause) (n : ℕ) (e : ExpectedFile) (digest : Option Cause) (bytes : List ℕ) (further : PiecesRead) → n ≤ piece_count_before_last (length bytes) → AreFull further → AreFull (pieces_unless_fault (if a then Some c else if b then Some d else None) (pieces_of_one_file n e digest bytes further))
+full_file : (a b : Bool) (c d : Cause) (n : ℕ) (e : ExpectedFile) (digest : Option Cause) (bytes : List ℕ) (further : PiecesRead) → n ≤ piece_count_before_last (length bytes) → AreFull further → AreFull (pieces_or_fault_alone (if a then Some c else if b then Some d else None) (pieces_of_one_file n e digest bytes further))
 full_file true b c d n e digest bytes further few full = tt
 full_file false true c d n e digest bytes further few full = tt
 full_file false false c d n e digest bytes further few full = full_from n e digest bytes further few full
@@ -31,7 +31,7 @@ full_contents : (few : Bool) (payload : List ℕ) (at : ℕ) (further : List Exp
 full_contents true payload at further full es e = rw e tt
 full_contents false payload at further full [] e = rw e tt
 full_contents false payload at further full (f ∷ es) e =
-    rw e (full_file (not (has_positions_of payload f)) (not (length (contents_bytes payload) == f.size)) (DataOrder (f.folder, f.file) (contents_positions payload)) (DataSize f.size (length (contents_bytes payload))) (piece_count_before_last (length (contents_bytes payload))) f (hash_fault f.hash (contents_bytes payload)) (contents_bytes payload) (further es) (omega arith) (full es))
+    rw e (full_file (not (has_positions_of payload f)) (not (length (contents_from_block_payload payload) == f.size)) (DataOrder (f.folder, f.file) (folder_and_file_positions_from_payload payload)) (DataSize f.size (length (contents_from_block_payload payload))) (piece_count_before_last (length (contents_from_block_payload payload))) f (fault_if_digest_is_not_of_bytes f.hash (contents_from_block_payload payload)) (contents_from_block_payload payload) (further es) (omega arith) (full es))
 
 full_block : (kind : BlockKind) (payload : List ℕ) (at : ℕ) (further : List ExpectedFile → PiecesRead) → ((left : List ExpectedFile) → AreFull (further left)) → (es : List ExpectedFile) → AreFull (pieces_at_block kind payload at further es)
 full_block Kinds.Adb payload at further full es = full es

@@ -12,14 +12,14 @@ use Rattle.base_core.specs.declared.cause.Cause.TheVariants.{WrongSchema}
 use Rattle.base_core.specs.declared.tree.TreeFault.{TreeFault}
 use Rattle.adb_block.specs.Header.{schema_of_header}
 use Rattle.adb_block.specs.Reading.{Reading, block_stream_from}
-use Rattle.adb_block.specs.ReaderPosition.{first_block_position_of_schema_and_file}
+use Rattle.adb_block.specs.PositionBetweenBlocks.{first_block_position_of_schema_and_file}
 use Rattle.adb_view.specs.Plain.{Plain}
 use Rattle.adb_view.specs.declared.tables.Which.TheVariants.{Package}
-use Rattle.package_reader.specs.adb_schema.Soundness.{blocks_fault, file_fault_after_header, payload_fault, payload_in, root_value_of_payload}
+use Rattle.package_reader.specs.adb_schema.Soundness.{blocks_fault, file_fault_by_header_schema_or_fault, payload_fault, payload_in, root_value_of_payload}
 use Rattle.package_reader.specs.adb_schema.declared.read.TheConstants.{PACKAGE_WORD}
 use Rattle.package_reader.specs.pkg_core.Contents.{FilesRead, contents_in, expected_files_of_package, fault_of_files_read, files_read_from_blocks}
 use Rattle.package_reader.specs.pkg_core.Refusals.{IsFaultOf}
-use Rattle.package_reader.specs.pkg_core.Whole.{fault_of_further_blocks, container_fault, container_fault_after_header, files_after_first_block, files_after_header, files_read_from_package, package_fault, container_fault_of_table}
+use Rattle.package_reader.specs.pkg_core.Whole.{fault_of_contents_blocks_by_root_table, container_fault, container_fault_after_header, files_after_first_block, files_after_header, files_read_from_package, package_fault, container_fault_of_table}
 use Rattle.package_reader.specs.pkg_core.declared.pack.PackageFault.{PackageFault}
 use Rattle.package_reader.specs.pkg_core.declared.pack.PackageFault.TheVariants as PackageFaults
 use Rattle.package_reader.proofs.pkg_core.Steps.{package_steps, values_first}
@@ -126,18 +126,18 @@ refused h name cause first why same is front =
 
 -- ---- a package as a container
 
-by_schema : (wanted : Bool) (schema : ℕ) (r : Reading) (fault : Option Cause) → ((found : ℕ) → fault ≢ Some (WrongSchema found)) → option_or (if wanted then None else Some (WrongSchema schema)) (blocks_fault (fault_of_further_blocks Package) Package r) ≡ fault → wanted ≡ true
+by_schema : (wanted : Bool) (schema : ℕ) (r : Reading) (fault : Option Cause) → ((found : ℕ) → fault ≢ Some (WrongSchema found)) → option_or (if wanted then None else Some (WrongSchema schema)) (blocks_fault (fault_of_contents_blocks_by_root_table Package) Package r) ≡ fault → wanted ≡ true
 by_schema true schema r fault other is = refl
 by_schema false schema r fault other is = absurd (other schema (sym is))
 
-container_by_header : (file : List ℕ) (header : Result ℕ Cause) (fault : Option Cause) → ((found : ℕ) → fault ≢ Some (WrongSchema found)) → schema_of_header file ≡ header → file_fault_after_header (fault_of_further_blocks Package) Package file header ≡ fault → container_fault_after_header file header ≡ fault
+container_by_header : (file : List ℕ) (header : Result ℕ Cause) (fault : Option Cause) → ((found : ℕ) → fault ≢ Some (WrongSchema found)) → schema_of_header file ≡ header → file_fault_by_header_schema_or_fault (fault_of_contents_blocks_by_root_table Package) Package file header ≡ fault → container_fault_after_header file header ≡ fault
 unfolding container_fault_of_table
 container_by_header file (Err c) fault other is told = told
 container_by_header file (Ok schema) fault other is told =
     let same : PACKAGE_WORD ≡ schema = eqb-true PACKAGE_WORD schema (by_schema (PACKAGE_WORD == schema) schema (block_stream_from (first_block_position_of_schema_and_file schema file)) fault other told) in
     ap (λ (n : ℕ). container_fault_after_header file (Ok n)) (sym same)
-    ∙ (ap (file_fault_after_header (fault_of_further_blocks Package) Package file) (is ∙ ap (λ (n : ℕ). Ok n) (sym same))
-    ∙ subst (λ (n : ℕ). file_fault_after_header (fault_of_further_blocks Package) Package file (Ok n) ≡ fault) (sym same) told)
+    ∙ (ap (file_fault_by_header_schema_or_fault (fault_of_contents_blocks_by_root_table Package) Package file) (is ∙ ap (λ (n : ℕ). Ok n) (sym same))
+    ∙ subst (λ (n : ℕ). file_fault_by_header_schema_or_fault (fault_of_contents_blocks_by_root_table Package) Package file (Ok n) ≡ fault) (sym same) told)
 
 pub as_container : (file : List ℕ) (fault : Option Cause) → ((found : ℕ) → fault ≢ Some (WrongSchema found)) → package_fault file ≡ fault → container_fault file ≡ fault
 unfolding container_fault container_fault_of_table

@@ -6,7 +6,7 @@ use Rattle.adb_view.specs.Plain.{Plain}
 use Rattle.package_reader.specs.adb_schema.Soundness.{payload_in, root_value_of_payload}
 use Rattle.adb_view.specs.declared.tables.Which.TheVariants.{Package}
 use Rattle.package_reader.specs.pkg_core.Contents.{contents_in}
-use Rattle.package_reader.specs.pkg_core.Whole.{files_read_from_package, package_fault, package_id}
+use Rattle.package_reader.specs.pkg_core.Whole.{files_read_from_package, package_fault, payload_sha256_of_package_file}
 use Rattle.package_reader.specs.pkg_core.Front.{front_file_len, front_payload}
 use Rattle.package_verifier.specs.Places.{AreAtPlaces}
 use Rattle.package_verifier.specs.declared.package.TestedPackage.{TestedPackage}
@@ -46,7 +46,7 @@ pub record IsTestedOf (name file : List ℕ) (pkg : TestedPackage) : Type 0 wher
   -- the tested package has the value of the package in the file
   pub value : tested_value pkg ≡ root_value_of_payload Package (payload_in file)
   -- the tested package has the id of the package in the file
-  pub id : tested_id pkg ≡ package_id file
+  pub id : tested_id pkg ≡ payload_sha256_of_package_file file
   -- the tested package has the length of the file; this is needed to read its files again
   pub long : tested_len pkg ≡ length file
   -- the tested package has the payload of the first block of the file

@@ -7,7 +7,7 @@ use Rattle.std.specs.List.Sorted.{IsSorted, ties}
 use Rattle.std.specs.Ordering.{is_lt}
 use Rattle.std.proofs.lemmas.Bool.{not-true, not-false}
 use Rattle.std.proofs.lemmas.Option.{slice_get_cases}
-use Rattle.base_core.specs.Listed.{AreSortedDistinctNames}
+use Rattle.base_core.specs.Listed.{AreSortedDistinctTexts}
 use Rattle.base_core.proofs.Rising as Names
 use Rattle.base_core.specs.ByteOrder.{bytes_cmp, precedes}
 use Rattle.base_core.proofs.Sorting.{Each, ranks, rises_sorted}
@@ -85,7 +85,7 @@ first_more cs fs i c up g s h =
     subst (λ k. HasFirstClaimOfEachPath (take k cs) (fs ++ c ∷ [])) (sym n)
     (subst (λ xs. HasFirstClaimOfEachPath xs (fs ++ c ∷ [])) (sym (take_at cs i c g))
     (record {
-      rising = subst AreSortedDistinctNames (sym (paths_more fs)) (Names.pairs_from_rises (paths fs ++ c.path ∷ []) (rises_more (paths fs) c.path (Names.rises_from_pairs (paths fs) h.rising) (less below)));
+      rising = subst AreSortedDistinctTexts (sym (paths_more fs)) (Names.pairs_from_rises (paths fs ++ c.path ∷ []) (rises_more (paths fs) c.path (Names.rises_from_pairs (paths fs) h.rising) (less below)));
       each = more_found (take i cs) fs c h.each;
     }))
   where

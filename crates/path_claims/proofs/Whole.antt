@@ -9,7 +9,7 @@ use Rattle.base_core.specs.ByteOrder.{bytes_cmp}
 use Rattle.base_core.specs.Sorted.{sorted_by, with_element_inserted}
 use Rattle.base_core.proofs.Sorting.{sort_seen, sorted_up, stable, stable_in_order}
 use Rattle.base_core.proofs.Orderings.{names_total}
-use Rattle.path_claims.specs.Claims.{AreNumberedByPlace, ContestedPath, PathClaim, claim_cmp, claimants, path_with_rivals_of_first_claimant, first_contested_path, is_owning_member, is_claim_of_path, is_claim_of_owner, owner_among}
+use Rattle.path_claims.specs.Claims.{AreNumberedByPlace, ContestedPath, PathClaim, claim_cmp, claimants, path_with_rivals_of_first_claimant, first_contested_path_in_byte_order, is_owning_member, is_claim_of_path, is_claim_of_owner, owner_among}
 use Rattle.path_claims.specs.Contest.{first_with_unbeaten_rival, member_beating_all_others}
 use Rattle.path_claims.proofs.ClaimOrder.{claims_total}
 use Rattle.path_claims.proofs.Marks.{AreAlike}
@@ -155,8 +155,8 @@ paths_in_order all = sort_seen (λ c. c.path) bytes_cmp names_total all (sorted_
 
 pub contested_is : (beats : ℕ → ℕ → Bool) (all cs : List PathClaim) (o : Option ContestedPath) → cs ≡ sorted_by claim_cmp all
     → o ≡ option_and_then (path_with_rivals_of_first_claimant beats cs) (find (λ path. is_none (owner_among beats cs path)) (map (λ c. c.path) cs))
-    → o ≡ first_contested_path beats all
-unfolding first_contested_path
+    → o ≡ first_contested_path_in_byte_order beats all
+unfolding first_contested_path_in_byte_order
 contested_is beats all cs o s e =
     e ∙ (and_ext (find (λ path. is_none (owner_among beats cs path)) (map (λ c. c.path) cs))
     ∙ ap (option_and_then (path_with_rivals_of_first_claimant beats all)) (find_ext (map (λ c. c.path) cs) ∙ ap (find (λ path. is_none (owner_among beats all path))) (paths_sorted all cs s)))

@@ -54,8 +54,8 @@ unfoldable pub claim_cmp : PathClaim → PathClaim → Ordering
 claim_cmp = on (λ c. c.path) bytes_cmp
 
 -- the first path in byte order that members claim and no member owns, if there is one
-abbrev pub first_path_without_owner : (ℕ → ℕ → Bool) → List PathClaim → Option (List ℕ)
-first_path_without_owner beats claims =
+abbrev pub first_path_without_owner_in_byte_order : (ℕ → ℕ → Bool) → List PathClaim → Option (List ℕ)
+first_path_without_owner_in_byte_order beats claims =
     find (λ path. is_none (owner_among beats claims path))
     (sorted_by bytes_cmp (map (λ c. c.path) claims))
 
@@ -75,7 +75,7 @@ path_with_rivals_of_first_claimant beats claims path =
     (first_with_unbeaten_rival beats (claimants claims path))
 
 -- the first path in byte order that members claim and no member owns, with its rivals; None if each has an owner
-unfoldable pub first_contested_path : (ℕ → ℕ → Bool) → List PathClaim → Option ContestedPath
-first_contested_path beats claims =
+unfoldable pub first_contested_path_in_byte_order : (ℕ → ℕ → Bool) → List PathClaim → Option ContestedPath
+first_contested_path_in_byte_order beats claims =
     option_and_then (path_with_rivals_of_first_claimant beats claims)
-    (first_path_without_owner beats claims)
+    (first_path_without_owner_in_byte_order beats claims)

@@ -5,7 +5,7 @@
 ghost use Rattle.std.specs.Prelude.{◌≡◌, ◌+◌, ◌<◌, ℕ, Bool, Option, Some, true, IfOk, is_none, length, map, option_and_then, option_map, slice_get, ◌==◌, List};
 ghost use Rattle.std.specs.List.Sorted.{IsSorted};
 ghost use Rattle.base_core.specs.Sorted.{sorted_by};
-ghost use Rattle.path_claims.specs.Claims.{AreNumberedByPlace, PathClaim, claim_cmp, path_with_rivals_of_first_claimant, first_contested_path, is_owning_member, is_claim_of_owner, owner_among};
+ghost use Rattle.path_claims.specs.Claims.{AreNumberedByPlace, PathClaim, claim_cmp, path_with_rivals_of_first_claimant, first_contested_path_in_byte_order, is_owning_member, is_claim_of_owner, owner_among};
 ghost use Rattle.path_claims.specs.Contest.{IsAsymmetric, are_all_others_beaten_by};
 ghost use Rattle.path_claims.specs.Runs.{is_first_of_path};
 ghost use Rattle.path_claims.specs.Seen.{claim_seen};
@@ -250,7 +250,7 @@ pub fn owners_of<'a, C: Contest>(
         (map claim_seen claims.entry.items)) }
     // On Ok, `contested` is the first path in byte order that no member owns, with its rivals.
     ensures contested { IfOk result (λ found. option_map contested_seen found.contested
-        ≡ first_contested_path (C.beats contest.now) (map claim_seen claims.entry.items)) }
+        ≡ first_contested_path_in_byte_order (C.beats contest.now) (map claim_seen claims.entry.items)) }
 {
     let mut claims = claims;
     sort_claims(&mut claims)?;

@@ -10,7 +10,7 @@ use Rattle.std.proofs.lemmas.List.Sorted.{ranks_by, sorted_far}
 use Rattle.base_core.specs.Files.{IsFolderOf, no_names}
 use Rattle.base_core.specs.Name.{IsName}
 use Rattle.base_core.specs.ByteOrder.{bytes_cmp, precedes}
-use Rattle.path_clashes.specs.Clash.{NameChange, NamePair, precedes_pair}
+use Rattle.path_clashes.specs.Clash.{NameChange, NamePair, is_pair_before_by_first_then_second_name}
 use Rattle.path_clashes.specs.FirstClash.{IsFirstClashOverSomeFiles}
 use Rattle.path_clashes.specs.NearName.{IsNewClashOverSomeFiles, MayBeClashNear, earlier_pair}
 use Rattle.path_clashes.proofs.Between.{between_names}
@@ -21,7 +21,7 @@ use Rattle.path_clashes.proofs.SomeFiles.{IsFirstBelowFolder, files_of_pair, fir
 one_of : (P : NamePair → Type 0) (one other : Option NamePair) → IfSome one P → IfSome other P → IfSome (earlier_pair one other) P
 one_of P None other h g = g
 one_of P (Some a) None h g = h
-one_of P (Some a) (Some b) h g = by (precedes_pair b a)
+one_of P (Some a) (Some b) h g = by (is_pair_before_by_first_then_second_name b a)
   where
     by : (t : Bool) → IfSome (if t then Some b else Some a) P
     by true = g

@@ -10,7 +10,7 @@ use Rattle.std.proofs.lemmas.Cmp.{nat_list_cmp_total}
 use Rattle.std.proofs.lemmas.Map.Lookups.{exact_bytes}
 use Rattle.base_core.specs.Files.{Files}
 use Rattle.base_core.specs.ByteOrder.{bytes_cmp, precedes}
-use Rattle.path_clashes.specs.Clash.{NameChange, NamePair, precedes_pair}
+use Rattle.path_clashes.specs.Clash.{NameChange, NamePair, is_pair_before_by_first_then_second_name}
 use Rattle.path_clashes.specs.FirstClash.{IsFirstClashOrNone}
 
 pub one_name : (a b : List ℕ) → precedes a b ≡ false → precedes b a ≡ false → a ≡ b
@@ -21,7 +21,7 @@ one_name a b first second = by (bytes_cmp a b) refl
     by Equal is = exact_bytes a b is
     by Greater is = absurd (true≢false (sym (ap is_lt (nat_list_cmp_total.antisymm b a ∙ ap ordering_reverse is)) ∙ second))
 
-one_pair : (a b : NamePair) → precedes_pair a b ≡ false → precedes_pair b a ≡ false → a ≡ b
+one_pair : (a b : NamePair) → is_pair_before_by_first_then_second_name a b ≡ false → is_pair_before_by_first_then_second_name b a ≡ false → a ≡ b
 one_pair a b first second = (λ i. record { path = path i; other = other i })
   where
     ahead : (precedes a.path b.path ≡ false) × ((bytes_eq a.path b.path && precedes a.other b.other) ≡ false)
@@ -46,7 +46,7 @@ one_first change files None (Some b) h g = absurd (h b g.is_one)
 one_first change files (Some a) None h g = absurd (g a h.is_one)
 one_first change files (Some a) (Some b) h g =
     ap (λ (p : NamePair). Some p)
-    (one_pair a b (false_from_ne_true (precedes_pair a b) (g.first a h.is_one)) (false_from_ne_true (precedes_pair b a) (h.first b g.is_one)))
+    (one_pair a b (false_from_ne_true (is_pair_before_by_first_then_second_name a b) (g.first a h.is_one)) (false_from_ne_true (is_pair_before_by_first_then_second_name b a) (h.first b g.is_one)))
 
 pub same_first : (one other : NameChange) (files : Files) (found : Option NamePair) → ((name : List ℕ) → one.counts_as_written name ≡ other.counts_as_written name)
     → ((name : List ℕ) → one.does_release name ≡ other.does_release name) → IsFirstClashOrNone one files found → IsFirstClashOrNone other files found

@@ -10,7 +10,7 @@ use Rattle.std.proofs.lemmas.Cmp.{nat_cmp_total, nat_list_cmp_total, on_total, t
 use Rattle.std.proofs.lemmas.List.Sorted.{ranks_by}
 use Rattle.std.proofs.lemmas.Map.Text.{is_eq-slice_cmp}
 use Rattle.base_core.specs.ByteOrder.{bytes_cmp, precedes}
-use Rattle.path_clashes.specs.Clash.{NamePair, precedes_pair}
+use Rattle.path_clashes.specs.Clash.{NamePair, is_pair_before_by_first_then_second_name}
 
 -- ---- names
 
@@ -39,24 +39,24 @@ by_both Less r = refl
 by_both Equal r = refl
 by_both Greater r = refl
 
-pub precedes_pair_is : (a b : NamePair) → precedes_pair a b ≡ is_lt (ordering_then (bytes_cmp a.path b.path) (bytes_cmp a.other b.other))
+pub precedes_pair_is : (a b : NamePair) → is_pair_before_by_first_then_second_name a b ≡ is_lt (ordering_then (bytes_cmp a.path b.path) (bytes_cmp a.other b.other))
 precedes_pair_is a b =
     ap (λ t. precedes a.path b.path || (t && precedes a.other b.other)) (sym (is_eq-slice_cmp a.path b.path))
     ∙ by_both (bytes_cmp a.path b.path) (bytes_cmp a.other b.other)
 
-pub pairs_chain : (a b c : NamePair) → precedes_pair a b ≡ false → precedes_pair b c ≡ false → precedes_pair a c ≡ false
+pub pairs_chain : (a b c : NamePair) → is_pair_before_by_first_then_second_name a b ≡ false → is_pair_before_by_first_then_second_name b c ≡ false → is_pair_before_by_first_then_second_name a c ≡ false
 pairs_chain a b c h g = precedes_pair_is a c ∙ pairs_rank.chain a b c (sym (precedes_pair_is a b) ∙ h) (sym (precedes_pair_is b c) ∙ g)
 
-pub pairs_one_way : (a b : NamePair) → precedes_pair a b ≡ true → precedes_pair b a ≡ false
+pub pairs_one_way : (a b : NamePair) → is_pair_before_by_first_then_second_name a b ≡ true → is_pair_before_by_first_then_second_name b a ≡ false
 pairs_one_way a b h = precedes_pair_is b a ∙ pairs_rank.one_way a b (sym (precedes_pair_is a b) ∙ h)
 
 -- with one path, by other
-pub same_path : (path a b : List ℕ) → precedes a b ≡ false → precedes_pair (record { path = path; other = a }) (record { path = path; other = b }) ≡ false
+pub same_path : (path a b : List ℕ) → precedes a b ≡ false → is_pair_before_by_first_then_second_name (record { path = path; other = a }) (record { path = path; other = b }) ≡ false
 same_path path a b h = or_from (precedes path path) (bytes_eq path path && precedes a b) (precedes_itself path) (and_right (bytes_eq path path) (precedes a b) h)
 
 -- with one other, by path
-pub same_other : (p q other : List ℕ) → precedes p q ≡ false → precedes_pair (record { path = p; other = other }) (record { path = q; other = other }) ≡ false
+pub same_other : (p q other : List ℕ) → precedes p q ≡ false → is_pair_before_by_first_then_second_name (record { path = p; other = other }) (record { path = q; other = other }) ≡ false
 same_other p q other h = or_from (precedes p q) (bytes_eq p q && precedes other other) h (and_right (bytes_eq p q) (precedes other other) (precedes_itself other))
 
-pub other_path : (p q a b : List ℕ) → precedes p q ≡ false → bytes_eq p q ≡ false → precedes_pair (record { path = p; other = a }) (record { path = q; other = b }) ≡ false
+pub other_path : (p q a b : List ℕ) → precedes p q ≡ false → bytes_eq p q ≡ false → is_pair_before_by_first_then_second_name (record { path = p; other = a }) (record { path = q; other = b }) ≡ false
 other_path p q a b h g = or_from (precedes p q) (bytes_eq p q && precedes a b) h (and_left (bytes_eq p q) (precedes a b) g)

@@ -7,7 +7,7 @@ use Rattle.std.proofs.lemmas.Bool.{cases_Bool, cases_eq, or_cases}
 use Rattle.base_core.specs.Files.{Files, IsFolderOf}
 use Rattle.base_core.specs.Name.{IsName}
 use Rattle.base_core.specs.ByteOrder.{bytes_cmp, precedes}
-use Rattle.path_clashes.specs.Clash.{NameChange, NamePair, precedes_pair}
+use Rattle.path_clashes.specs.Clash.{NameChange, NamePair, is_pair_before_by_first_then_second_name}
 use Rattle.path_clashes.specs.FirstClash.{IsFirstClashOrNone}
 use Rattle.path_clashes.specs.NearName.{IsClashIfSome, IsClashNear, IsNoEarlierClash, IsNotBefore, earlier_pair, is_name_present}
 use Rattle.path_clashes.proofs.Above.{nothing_above}
@@ -20,22 +20,22 @@ use Rattle.path_clashes.proofs.Paths.{is_at, no_empty_name, place_of}
 pub not_before_first : (x : NamePair) (one other : Option NamePair) → IsNotBefore x one → IsNotBefore x (earlier_pair one other)
 not_before_first x None other h = absurd h
 not_before_first x (Some a) None h = h
-not_before_first x (Some a) (Some b) h = by (precedes_pair b a) refl
+not_before_first x (Some a) (Some b) h = by (is_pair_before_by_first_then_second_name b a) refl
   where
-    by : (t : Bool) → precedes_pair b a ≡ t → IsNotBefore x (if t then Some b else Some a)
+    by : (t : Bool) → is_pair_before_by_first_then_second_name b a ≡ t → IsNotBefore x (if t then Some b else Some a)
     by true less = pairs_chain x a b h (pairs_one_way b a less)
     by false more = h
 
 pub not_before_second : (x : NamePair) (one other : Option NamePair) → IsNotBefore x other → IsNotBefore x (earlier_pair one other)
 not_before_second x None other h = h
 not_before_second x (Some a) None h = absurd h
-not_before_second x (Some a) (Some b) h = by (precedes_pair b a) refl
+not_before_second x (Some a) (Some b) h = by (is_pair_before_by_first_then_second_name b a) refl
   where
-    by : (t : Bool) → precedes_pair b a ≡ t → IsNotBefore x (if t then Some b else Some a)
+    by : (t : Bool) → is_pair_before_by_first_then_second_name b a ≡ t → IsNotBefore x (if t then Some b else Some a)
     by true less = h
     by false more = pairs_chain x b a h more
 
-not_before_chain : (x y : NamePair) (found : Option NamePair) → precedes_pair x y ≡ false → IsNotBefore y found → IsNotBefore x found
+not_before_chain : (x y : NamePair) (found : Option NamePair) → is_pair_before_by_first_then_second_name x y ≡ false → IsNotBefore y found → IsNotBefore x found
 not_before_chain x y None h g = absurd g
 not_before_chain x y (Some a) h g = pairs_chain x y a h g
 
@@ -52,7 +52,7 @@ module _ (change : NameChange) (files : Files) where
   one_of : (one other : Option NamePair) → IsClashIfSome change files one → IsClashIfSome change files other → IsClashIfSome change files (earlier_pair one other)
   one_of None other h g = g
   one_of (Some a) None h g = h
-  one_of (Some a) (Some b) h g = by (precedes_pair b a)
+  one_of (Some a) (Some b) h g = by (is_pair_before_by_first_then_second_name b a)
     where
       by : (t : Bool) → IsClashIfSome change files (if t then Some b else Some a)
       by true = g

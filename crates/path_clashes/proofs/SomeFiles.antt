@@ -6,7 +6,7 @@ use Rattle.std.specs.Cmp.Lexicographic.{bytes_decides}
 use Rattle.std.proofs.lemmas.Bool.{and_from, and_parts, cases_Bool, cases_order, or_cases, or_left, or_right}
 use Rattle.base_core.specs.Files.{Files, IsFolderOf, no_names}
 use Rattle.base_core.specs.ByteOrder.{precedes}
-use Rattle.path_clashes.specs.Clash.{IsClash, IsFirstClash, NameChange, NamePair, is_present_after_change, precedes_pair}
+use Rattle.path_clashes.specs.Clash.{IsClash, IsFirstClash, NameChange, NamePair, is_present_after_change, is_pair_before_by_first_then_second_name}
 use Rattle.path_clashes.proofs.Above.{name_behind, not_same}
 use Rattle.path_clashes.proofs.Between.{folder_first, folder_trans, same_folder, shorter_folder}
 use Rattle.path_clashes.proofs.NearClash.{counts_is_after}
@@ -23,7 +23,7 @@ pub record IsFirstBelowFolder (change : NameChange) (pair : NamePair) : Type 0 w
   pub is : IsClash change files pair
   pub fresh : (q : List ℕ) → change.counts_as_written q ≡ true → IsFolderOf pair.path q → change.counts_as_written pair.path ≡ false → precedes q pair.other ≡ false
 
-module _ (change : NameChange) (pair : NamePair) (may : IsFirstBelowFolder change pair) (none : (other : NamePair) → IsClash change no_names other → precedes_pair other pair ≡ false) where
+module _ (change : NameChange) (pair : NamePair) (may : IsFirstBelowFolder change pair) (none : (other : NamePair) → IsClash change no_names other → is_pair_before_by_first_then_second_name other pair ≡ false) where
   there : (q : List ℕ) → (q ≡ pair.path) ⊎ (q ≡ pair.other) → is_some (files_of_pair pair q) ≡ true
   there q either = ap (λ b. is_some {T = List ℕ} (cond b (Some []) None)) (by either)
     where
@@ -51,7 +51,7 @@ module _ (change : NameChange) (pair : NamePair) (may : IsFirstBelowFolder chang
 
   -- ---- none comes before it
 
-  by_written : (a b : List ℕ) → IsFolderOf a b → change.counts_as_written a ≡ true → change.counts_as_written b ≡ true → precedes_pair (record { path = a; other = b }) pair ≡ false
+  by_written : (a b : List ℕ) → IsFolderOf a b → change.counts_as_written a ≡ true → change.counts_as_written b ≡ true → is_pair_before_by_first_then_second_name (record { path = a; other = b }) pair ≡ false
   by_written a b above one other =
       none (record { path = a; other = b }) (record { folder = above; path_after = one; other_after = other; written = or_left (change.counts_as_written a) (change.counts_as_written b) one })
 
@@ -59,12 +59,12 @@ module _ (change : NameChange) (pair : NamePair) (may : IsFirstBelowFolder chang
   not_earlier a b above one other less = true≢false (sym (or_left (precedes a pair.path) (bytes_eq a pair.path && precedes b pair.other) less) ∙ by_written a b above one other)
 
   folder_unwritten : (a b : List ℕ) → IsFolderOf a b → (a ≡ pair.path) ⊎ (a ≡ pair.other) → change.counts_as_written a ≡ false → change.counts_as_written b ≡ true
-      → precedes_pair (record { path = a; other = b }) pair ≡ false
+      → is_pair_before_by_first_then_second_name (record { path = a; other = b }) pair ≡ false
   folder_unwritten a b above (inl same) off counts =
-      subst (λ (l : List ℕ). precedes_pair (record { path = l; other = b }) pair ≡ false) (sym same)
+      subst (λ (l : List ℕ). is_pair_before_by_first_then_second_name (record { path = l; other = b }) pair ≡ false) (sym same)
       (same_path pair.path b pair.other (may.fresh b counts (subst (λ (l : List ℕ). IsFolderOf l b) same above) (ap change.counts_as_written (sym same) ∙ off)))
   folder_unwritten a b above (inr same) off counts =
-      subst (λ (l : List ℕ). precedes_pair (record { path = l; other = b }) pair ≡ false) (sym same)
+      subst (λ (l : List ℕ). is_pair_before_by_first_then_second_name (record { path = l; other = b }) pair ≡ false) (sym same)
       (other_path pair.other pair.path b pair.other (name_behind pair.path pair.other may.is.folder) (not_same pair.path pair.other may.is.folder))
 
   -- the other name of a clash counts as written where its folder does not
@@ -77,9 +77,9 @@ module _ (change : NameChange) (pair : NamePair) (may : IsFirstBelowFolder chang
       ⊎_elim (λ counts. counts) (λ counts. absurd (true≢false (sym counts ∙ off))) (or_cases (change.counts_as_written pair.path) (change.counts_as_written pair.other) may.is.written)
 
   -- with a written folder above the other name, if that is not written
-  above_other : (a : List ℕ) → IsFolderOf a pair.other → change.counts_as_written a ≡ true → change.counts_as_written pair.other ≡ false → precedes_pair (record { path = a; other = pair.other }) pair ≡ false
+  above_other : (a : List ℕ) → IsFolderOf a pair.other → change.counts_as_written a ≡ true → change.counts_as_written pair.other ≡ false → is_pair_before_by_first_then_second_name (record { path = a; other = pair.other }) pair ≡ false
   above_other a above counts off =
-      ⊎_elim (λ same. subst (λ (l : List ℕ). precedes_pair (record { path = l; other = pair.other }) pair ≡ false) (sym (same_folder a pair.path pair.other above may.is.folder same))
+      ⊎_elim (λ same. subst (λ (l : List ℕ). is_pair_before_by_first_then_second_name (record { path = l; other = pair.other }) pair ≡ false) (sym (same_folder a pair.path pair.other above may.is.folder same))
       (same_path pair.path pair.other pair.other (precedes_itself pair.other)))
       (λ apart. ⊎_elim
       (λ short. let over : IsFolderOf a pair.path = shorter_folder a pair.path pair.other above may.is.folder short in absurd (not_earlier a pair.path over counts (folder_written off) (folder_first a pair.path over)))
@@ -90,15 +90,15 @@ module _ (change : NameChange) (pair : NamePair) (may : IsFirstBelowFolder chang
       apart) (cases_order (length a) (length pair.path))
 
   name_unwritten : (a b : List ℕ) → IsFolderOf a b → (b ≡ pair.path) ⊎ (b ≡ pair.other) → change.counts_as_written a ≡ true → change.counts_as_written b ≡ false
-      → precedes_pair (record { path = a; other = b }) pair ≡ false
+      → is_pair_before_by_first_then_second_name (record { path = a; other = b }) pair ≡ false
   name_unwritten a b above (inl same) counts off =
       let over : IsFolderOf a pair.path = subst (IsFolderOf a) same above in
       absurd (not_earlier a pair.other (folder_trans a pair.path pair.other over may.is.folder) counts (still_written (ap change.counts_as_written (sym same) ∙ off)) (folder_first a pair.path over))
   name_unwritten a b above (inr same) counts off =
-      subst (λ (l : List ℕ). precedes_pair (record { path = a; other = l }) pair ≡ false) (sym same)
+      subst (λ (l : List ℕ). is_pair_before_by_first_then_second_name (record { path = a; other = l }) pair ≡ false) (sym same)
       (above_other a (subst (IsFolderOf a) same above) counts (ap change.counts_as_written (sym same) ∙ off))
 
-  not_before : (c : NamePair) → IsClash change (files_of_pair pair) c → precedes_pair c pair ≡ false
+  not_before : (c : NamePair) → IsClash change (files_of_pair pair) c → is_pair_before_by_first_then_second_name c pair ≡ false
   not_before c clash =
       ⊎_elim (λ one. ⊎_elim (λ other. by_written c.path c.other clash.folder one other)
       (λ off. name_unwritten c.path c.other clash.folder (unwritten c.other clash.other_after off) one off) (cases_Bool (change.counts_as_written c.other)))

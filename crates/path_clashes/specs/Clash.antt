@@ -37,8 +37,8 @@ pub record IsClash (change : NameChange) (files : Files) (pair : NamePair) : Typ
   pub written : (change.counts_as_written pair.path || change.counts_as_written pair.other) ≡ true
 
 -- whether the pair a precedes the pair b: in byte order of the first names, or, if these are equal, of the second ones
-abbrev pub precedes_pair : NamePair → NamePair → Bool
-precedes_pair a b =
+abbrev pub is_pair_before_by_first_then_second_name : NamePair → NamePair → Bool
+is_pair_before_by_first_then_second_name a b =
     precedes a.path b.path || (bytes_eq a.path b.path && precedes a.other b.other)
 
 -- the pair is the first clash of the change over these files
@@ -46,7 +46,7 @@ pub record IsFirstClash (change : NameChange) (files : Files) (pair : NamePair) 
   -- the pair is a clash
   pub is_one : IsClash change files pair
   -- no clash precedes the pair
-  pub first : (other : NamePair) → IsClash change files other → precedes_pair other pair ≡ true → ⊥
+  pub first : (other : NamePair) → IsClash change files other → is_pair_before_by_first_then_second_name other pair ≡ true → ⊥
 
 -- the change has no clash over these files
 abbrev pub HasNoClash : NameChange → Files → Type 0

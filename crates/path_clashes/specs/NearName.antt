@@ -4,7 +4,7 @@
 use Rattle.std.specs.Prelude.{◌≡◌, ◌⊎◌, ◌≤◌, ℕ, Bool, true, false, not, ◌&&◌, if◌then◌else◌, List, [], Option, Some, None, IfSome, bytes_eq, is_some, length}
 use Rattle.base_core.specs.Files.{Files, IsFolderOf, no_names}
 use Rattle.base_core.specs.ByteOrder.{precedes}
-use Rattle.path_clashes.specs.Clash.{IsClash, NameChange, NamePair, is_present_after_change, precedes_pair}
+use Rattle.path_clashes.specs.Clash.{IsClash, NameChange, NamePair, is_present_after_change, is_pair_before_by_first_then_second_name}
 
 -- whether the name has a file before the change, which the change does not remove
 abbrev pub is_name_present : (List ℕ → Bool) → Files → List ℕ → Bool
@@ -69,7 +69,7 @@ IsFirstNameBelowOrNone does_release files folder (Some name) = IsFirstBelow does
 abbrev pub earlier_pair : Option NamePair → Option NamePair → Option NamePair
 earlier_pair None other = other
 earlier_pair (Some one) None = Some one
-earlier_pair (Some one) (Some other) = if precedes_pair other one then Some other else Some one
+earlier_pair (Some one) (Some other) = if is_pair_before_by_first_then_second_name other one then Some other else Some one
 
 -- if the option has a pair, this is a clash of the change over these files
 abbrev pub IsClashIfSome : NameChange → Files → Option NamePair → Type 0
@@ -79,7 +79,7 @@ IsClashIfSome change files (Some pair) = IsClash change files pair
 -- the option has a pair, and the pair `other` does not precede it
 abbrev pub IsNotBefore : NamePair → Option NamePair → Type 0
 IsNotBefore other None = ⊥
-IsNotBefore other (Some pair) = precedes_pair other pair ≡ false
+IsNotBefore other (Some pair) = is_pair_before_by_first_then_second_name other pair ≡ false
 
 -- if the pair `other` is a clash, `found` has a pair, and `other` does not precede it
 abbrev pub IsNoEarlierClash : NameChange → Files → Option NamePair → NamePair → Type 0

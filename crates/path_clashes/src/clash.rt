@@ -12,7 +12,7 @@ ghost use Rattle.base_core.specs.Name.{IsName};
 ghost use Rattle.base_core.specs.Read.{OnlyReads};
 ghost use Rattle.base_core.specs.Tree.{files_of};
 ghost use Rattle.base_core.specs.ByteOrder.{bytes_cmp};
-ghost use Rattle.path_clashes.specs.Clash.{precedes_pair, HasNoClash, NameChange, NamePair, is_present_after_change};
+ghost use Rattle.path_clashes.specs.Clash.{is_pair_before_by_first_then_second_name, HasNoClash, NameChange, NamePair, is_present_after_change};
 ghost use Rattle.path_clashes.specs.ClashSeen.{clash_seen};
 ghost use Rattle.path_clashes.specs.FirstClash.{IsFirstClashOrNone, IsFirstClashOverSomeFiles};
 ghost use Rattle.path_clashes.specs.NearName.{IsClashNear, MayBeClashNear, earlier_pair};
@@ -35,7 +35,7 @@ pub struct Clash {
 /// Whether the first clash precedes the second: in the byte order of their first names, or, if
 /// these are equal, in that of their second names.
 fn comes_before(one: &Clash, other: &Clash) -> bool
-    ensures { result ≡ precedes_pair (clash_seen one.now) (clash_seen other.now) }
+    ensures { result ≡ is_pair_before_by_first_then_second_name (clash_seen one.now) (clash_seen other.now) }
 {
     let by_path = one.path.as_bytes().cmp(other.path.as_bytes());
     let by_other = one.other.as_bytes().cmp(other.other.as_bytes());

@@ -16,14 +16,14 @@ use Rattle.adb_view.specs.Plain.{Plain, null, Plains, none, more, Shape, hash, a
 use Rattle.adb_schema.specs.adb_fields.Repeated.{list_of, files_in}
 use Rattle.adb_schema.specs.Rules.{is_digest_length, is_digest_length_or_none}
 use Rattle.adb_view.specs.Schema.{shape_of, shapes_of, table}
-use Rattle.adb_schema.specs.Texts.{Surroundings, Leaf, text_leaf, keeps_rule, leaves, field_leaves, leaves_of_all_values, surroundings_of_fields, surroundings_of_root, leaves_of, text_or_number_fault, is_allowed_text_of_field, is_file_with_contents, needs_file_hash}
+use Rattle.adb_schema.specs.Texts.{Surroundings, Leaf, text_leaf, keeps_rule, leaves, field_leaves, leaves_of_all_values, surroundings_of_fields, surroundings_of_root, leaves_of, text_or_number_fault, is_allowed_text_of_field, is_file_with_contents, is_file_hash_needed_unless_in_database}
 use Rattle.adb_schema.specs.FirstBad.{IsFirstBadLeafIfAny}
-use Rattle.adb_view.specs.Values.{nth, entries_in, entry_in, int_in, text_in}
+use Rattle.adb_view.specs.Values.{nth, entries_in, entry_at_index, int_in, text_in}
 use Rattle.adb_view.specs.declared.tables.Which.{Which}
 use Rattle.adb_view.specs.declared.tables.Kind.TheVariants.{Obj}
 use Rattle.adb_view.specs.declared.tables.Which.TheVariants as Tables
-use Rattle.pkg_core.specs.Contents.{Contents, ExpectedFile, fault_if_digests_differ, expected_file_if_with_contents, expected_files_of_package, expected_files_of_folder, expected_files_of_folders, hash_fault}
-use Rattle.pkg_core.specs.GoodContents.{AreContentsOfExpectedFiles, MatchEachExpectedSizeAndDigest, HaveValidDigestLengths, IsDigestOf}
+use Rattle.pkg_core.specs.Contents.{Contents, ExpectedFile, fault_if_wanted_and_found_digests_differ, expected_file_if_with_contents, expected_files_of_package, expected_files_of_folder, expected_files_of_folders, fault_if_digest_is_not_of_bytes}
+use Rattle.pkg_core.specs.GoodContents.{MatchEachExpectedSizeAndKnownDigest, MatchEachExpectedSizeAndDigest, HaveValidDigestLengths, IsDigestOf}
 
 -- ---- if nothing is told, each text and number keeps its rule
 
@@ -67,16 +67,16 @@ field_keeps (field name t fs) (suc i) place around (more v vs) s e h =
 leaf_keeps : (leaf : Leaf) → Keep (leaf ∷ []) → keeps_rule leaf ≡ true
 leaf_keeps leaf h = (and_parts (keeps_rule leaf) true h).0
 
-is_needed : (root : Which) (has_contents : Bool) (n : ℕ) → root ≡ Tables.Package → has_contents ≡ true → (if needs_file_hash root has_contents then is_digest_length n else is_digest_length_or_none n) ≡ true → is_digest_length n ≡ true
+is_needed : (root : Which) (has_contents : Bool) (n : ℕ) → root ≡ Tables.Package → has_contents ≡ true → (if is_file_hash_needed_unless_in_database root has_contents then is_digest_length n else is_digest_length_or_none n) ≡ true → is_digest_length n ≡ true
 is_needed root has_contents n e c h =
-    let needed : needs_file_hash root has_contents ≡ true = ap (λ r. needs_file_hash r has_contents) e ∙ c in
+    let needed : is_file_hash_needed_unless_in_database root has_contents ≡ true = ap (λ r. is_file_hash_needed_unless_in_database r has_contents) e ∙ c in
     subst (λ b. (if b then is_digest_length n else is_digest_length_or_none n) ≡ true) needed h
 
-file_has : (place : ℕ) (around : Surroundings) (f : Plain) → around.root ≡ Tables.Package → is_file_with_contents f ≡ true → Keep (leaves (shape_of (Obj Tables.File)) place around f) → is_digest_length (length (text_in (entry_in f 4))) ≡ true
+file_has : (place : ℕ) (around : Surroundings) (f : Plain) → around.root ≡ Tables.Package → is_file_with_contents f ≡ true → Keep (leaves (shape_of (Obj Tables.File)) place around f) → is_digest_length (length (text_in (entry_at_index f 4))) ≡ true
 unfolding shape_of leaves is_allowed_text_of_field
 file_has place around f root c h =
     let leaf = field_keeps (shapes_of (table Tables.File)) 4 401 (surroundings_of_fields 4 around f) (entries_in f) hash refl h in
-    is_needed around.root (is_file_with_contents f) (length (text_in (entry_in f 4))) root c (leaf_keeps (text_leaf 405 (surroundings_of_fields 4 around f) (text_in (entry_in f 4))) leaf)
+    is_needed around.root (is_file_with_contents f) (length (text_in (entry_at_index f 4))) root c (leaf_keeps (text_leaf 405 (surroundings_of_fields 4 around f) (text_in (entry_at_index f 4))) leaf)
 
 -- ---- the digests of all
 
@@ -87,7 +87,7 @@ more_digests (e ∷ es) fs a b = (a.0, more_digests es fs a.1 b)
 file_digests : (d i place : ℕ) (around : Surroundings) (f : Plain) → around.root ≡ Tables.Package → Keep (leaves (shape_of (Obj Tables.File)) place around f) → HaveValidDigestLengths (expected_file_if_with_contents d i f)
 file_digests d i place around f root h = by_contents (is_file_with_contents f) refl
   where
-    by_contents : (b : Bool) → is_file_with_contents f ≡ b → HaveValidDigestLengths (if b then record { folder = d; file = i; size = int_in (entry_in f 2); hash = text_in (entry_in f 4) } ∷ [] else [])
+    by_contents : (b : Bool) → is_file_with_contents f ≡ b → HaveValidDigestLengths (if b then record { folder = d; file = i; size = int_in (entry_at_index f 2); hash = text_in (entry_at_index f 4) } ∷ [] else [])
     by_contents true c = (file_has place around f root c h, tt)
     by_contents false c = tt
 
@@ -101,7 +101,7 @@ folder_digests : (d place : ℕ) (around : Surroundings) (folder : Plain) → ar
 unfolding shape_of leaves
 folder_digests d place around folder root h =
     let files = field_keeps (shapes_of (table Tables.Dir)) 2 501 (surroundings_of_fields 5 around folder) (entries_in folder) (array (shape_of (Obj Tables.File))) refl h in
-    files_digests d 1 503 (surroundings_of_fields 5 around folder) (entries_in (entry_in folder 2)) root files
+    files_digests d 1 503 (surroundings_of_fields 5 around folder) (entries_in (entry_at_index folder 2)) root files
 
 folders_digests : (i place : ℕ) (around : Surroundings) (vs : Plains) → around.root ≡ Tables.Package → Keep (leaves_of_all_values (leaves (shape_of (Obj Tables.Dir)) place around) vs) → HaveValidDigestLengths (expected_files_of_folders i (list_of vs))
 folders_digests i place around none root h = tt
@@ -113,14 +113,14 @@ texts_keep : (v : Plain) → Keep (leaves_of Tables.Package v) → HaveValidDige
 unfolding shape_of leaves
 texts_keep v h =
     let folders = field_keeps (shapes_of (table Tables.Package)) 1 701 (surroundings_of_fields 7 (surroundings_of_root Tables.Package) v) (entries_in v) (array (shape_of (Obj Tables.Dir))) refl h in
-    folders_digests 1 702 (surroundings_of_fields 7 (surroundings_of_root Tables.Package) v) (entries_in (entry_in v 1)) refl folders
+    folders_digests 1 702 (surroundings_of_fields 7 (surroundings_of_root Tables.Package) v) (entries_in (entry_at_index v 1)) refl folders
 
 pub texts_give_digests : HasFirstValue → (v : Plain) → text_or_number_fault Tables.Package v ≡ None → HaveValidDigestLengths (expected_files_of_package v)
 texts_give_digests told v h = texts_keep v (none_told (leaves_of Tables.Package v) (text_or_number_fault Tables.Package v) (told Tables.Package v) h)
 
 -- ---- what a good digest says
 
-equal_digests : (as_digest : List ℕ → Digest) (wanted found : List ℕ) → fault_if_digests_differ as_digest wanted found ≡ None → wanted ≡ found
+equal_digests : (as_digest : List ℕ → Digest) (wanted found : List ℕ) → fault_if_wanted_and_found_digests_differ as_digest wanted found ≡ None → wanted ≡ found
 equal_digests as_digest wanted found h = (bytes_eq-Decides wanted found).0 (kept (bytes_eq wanted found) h)
   where
     kept : (b : Bool) → (if b then None else Some (HashDiffers (as_digest wanted) (as_digest found))) ≡ None → b ≡ true
@@ -133,10 +133,10 @@ one_of_three false true c x y z h e = inr (inl e)
 one_of_three false false true x y z h e = inr (inr e)
 one_of_three false false false x y z h e = (cc)
 
-digest_is : (wanted bytes : List ℕ) → is_digest_length (length wanted) ≡ true → hash_fault wanted bytes ≡ None → IsDigestOf wanted bytes
-unfolding hash_fault
+digest_is : (wanted bytes : List ℕ) → is_digest_length (length wanted) ≡ true → fault_if_digest_is_not_of_bytes wanted bytes ≡ None → IsDigestOf wanted bytes
+unfolding fault_if_digest_is_not_of_bytes
 digest_is wanted bytes h e =
-    elim (one_of_three (length wanted == 20) (length wanted == 32) (length wanted == 64) (fault_if_digests_differ Sha1 wanted (sha1 bytes)) (fault_if_digests_differ Sha256 wanted (sha256 bytes)) (fault_if_digests_differ Sha512 wanted (sha512 bytes)) h e) [
+    elim (one_of_three (length wanted == 20) (length wanted == 32) (length wanted == 64) (fault_if_wanted_and_found_digests_differ Sha1 wanted (sha1 bytes)) (fault_if_wanted_and_found_digests_differ Sha256 wanted (sha256 bytes)) (fault_if_wanted_and_found_digests_differ Sha512 wanted (sha512 bytes)) h e) [
       | inl x ↦ inl (equal_digests Sha1 wanted (sha1 bytes) x)
       | inr y ↦ elim y [
         | inl x ↦ inr (inl (equal_digests Sha256 wanted (sha256 bytes) x))
@@ -144,7 +144,7 @@ digest_is wanted bytes h e =
       ]
     ]
 
-pub true_contents : (es : List ExpectedFile) (all : List Contents) → HaveValidDigestLengths es → AreContentsOfExpectedFiles es all → MatchEachExpectedSizeAndDigest es all
+pub true_contents : (es : List ExpectedFile) (all : List Contents) → HaveValidDigestLengths es → MatchEachExpectedSizeAndKnownDigest es all → MatchEachExpectedSizeAndDigest es all
 true_contents [] [] d h = tt
 true_contents [] (c ∷ cs) d h = h
 true_contents (e ∷ es) [] d h = h

@@ -5,7 +5,7 @@ use Rattle.std.specs.Result.{result_err}
 use Rattle.base_core.specs.declared.cause.Cause.{Cause}
 use Rattle.base_core.specs.declared.cause.Cause.TheVariants.{Truncated}
 use Rattle.adb_block.specs.AllBlocks.{blocks_of_stream, with_block}
-use Rattle.adb_block.specs.Piece.{Piece}
+use Rattle.adb_block.specs.BlockWithoutOffset.{BlockWithoutOffset}
 use Rattle.adb_block.specs.Reading.{Reading, done, fault, more}
 use Rattle.adb_block.specs.declared.block.BlockKind.{BlockKind}
 use Rattle.adb_block.specs.declared.block.BlockKind.TheVariants as Kinds
@@ -20,7 +20,7 @@ record IsFirst (blocks : List PlacedPayload) (framing : Option Cause) (es : List
   pub fault : contents_test_fault framing (drop k es) (slice_get blocks k) ≡ Some c
   pub before : (j : ℕ) → j < k → contents_test_fault framing (drop j es) (slice_get blocks j) ≡ None
 
-end_fault : (es : List ExpectedFile) (c : Cause) → fault_of_files_read (C.files_unless_fault (C.missing_contents_fault es) C.no_more) ≡ Some c → C.missing_contents_fault es ≡ Some c
+end_fault : (es : List ExpectedFile) (c : Cause) → fault_of_files_read (C.files_or_fault_alone (C.missing_contents_fault es) C.no_more) ≡ Some c → C.missing_contents_fault es ≡ Some c
 end_fault [] c h = absurd cc
 end_fault (e ∷ es) c h = h
 
@@ -29,7 +29,7 @@ whole_block true c o h = absurd cc
 whole_block false c o h = h
 
 -- a good block, and the first fault after it
-one_later : (block : PlacedPayload) (blocks : List PlacedPayload) (framing : Option Cause) (e : ExpectedFile) (es : List ExpectedFile) (c : Cause) → C.contents_block_fault block.0 block.1 (e ∷ es) ≡ None → IsFirst blocks framing es c → IsFirst (block ∷ blocks) framing (e ∷ es) c
+one_later : (block : PlacedPayload) (blocks : List PlacedPayload) (framing : Option Cause) (e : ExpectedFile) (es : List ExpectedFile) (c : Cause) → C.contents_block_fault_at_offset block.0 block.1 (e ∷ es) ≡ None → IsFirst blocks framing es c → IsFirst (block ∷ blocks) framing (e ∷ es) c
 one_later block blocks framing e es c good f =
     let reached = f.reached in
     record { k = suc f.k; reached = omega arith; fault = f.fault; before = earlier }
@@ -40,19 +40,19 @@ one_later block blocks framing e es c good f =
 
 at_contents : (payload : List ℕ) (at : ℕ) (further : List ExpectedFile → FilesRead) (blocks : List PlacedPayload) (framing : Option Cause) (es : List ExpectedFile) (c : Cause)
     → ((left : List ExpectedFile) → fault_of_files_read (further left) ≡ Some c → IsFirst blocks framing left c)
-    → (o : Option Cause) → C.contents_block_fault payload at es ≡ o → fault_of_files_read (C.files_unless_fault o (C.with_contents_of_next payload further es)) ≡ Some c → IsFirst ((payload, at) ∷ blocks) framing es c
+    → (o : Option Cause) → C.contents_block_fault_at_offset payload at es ≡ o → fault_of_files_read (C.files_or_fault_alone o (C.with_contents_of_next payload further es)) ≡ Some c → IsFirst ((payload, at) ∷ blocks) framing es c
 at_contents payload at further blocks framing es c ih (Some d) e h = record { k = 0; reached = omega arith; fault = e ∙ h; before = λ j lt. absurd (omega arith) }
 at_contents payload at further blocks framing [] c ih None e h = absurd (let n = whole_block (nat_lt (length payload) 8) (Truncated at) (C.next_contents_fault payload []) e in cc)
 at_contents payload at further blocks framing (x ∷ es) c ih None e h = one_later (payload, at) blocks framing x es c e (ih es h)
 
 at_block : (kind : BlockKind) (payload : List ℕ) (at : ℕ) (further : List ExpectedFile → FilesRead) (blocks : List PlacedPayload) (framing : Option Cause) (es : List ExpectedFile) (c : Cause)
     → ((left : List ExpectedFile) → fault_of_files_read (further left) ≡ Some c → IsFirst blocks framing left c)
-    → fault_of_files_read (C.files_read_from_block_and_further kind payload at further es) ≡ Some c → IsFirst (with_block_if_contents kind (payload, at) blocks) framing es c
+    → fault_of_files_read (C.files_from_block_at_offset_if_contents kind payload at further es) ≡ Some c → IsFirst (with_block_if_contents kind (payload, at) blocks) framing es c
 at_block Kinds.Adb payload at further blocks framing es c ih h = ih es h
 at_block Kinds.Signature payload at further blocks framing es c ih h = ih es h
-at_block Kinds.Contents payload at further blocks framing es c ih h = at_contents payload at further blocks framing es c ih (C.contents_block_fault payload at es) refl h
+at_block Kinds.Contents payload at further blocks framing es c ih h = at_contents payload at further blocks framing es c ih (C.contents_block_fault_at_offset payload at es) refl h
 
-framed_after : (b : Piece) (r : Result (List Piece) Cause) → result_err r ≡ result_err (with_block b r)
+framed_after : (b : BlockWithoutOffset) (r : Result (List BlockWithoutOffset) Cause) → result_err r ≡ result_err (with_block b r)
 framed_after b (Ok bs) = refl
 framed_after b (Err c) = refl
 

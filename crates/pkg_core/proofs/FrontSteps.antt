@@ -7,10 +7,10 @@ use Rattle.base_core.specs.declared.cause.Cause.{Cause}
 use Rattle.base_core.specs.declared.cause.Cause.TheVariants.{Compressed, NotAdb, Truncated, WrongSchema}
 use Rattle.adb_block.specs.Framing.{block, failed, next_block_result_at_offset}
 use Rattle.adb_block.specs.Frames.{framed_piece, raw_size}
-use Rattle.adb_block.specs.Header.{schema_of_header, is_compressed_file_mark, word_at}
-use Rattle.adb_block.specs.Piece.{may_be_next_kind, padding_of}
+use Rattle.adb_block.specs.Header.{schema_of_header, is_four_byte_mark_of_compressed_file, word_at}
+use Rattle.adb_block.specs.BlockWithoutOffset.{may_be_next_kind, padding_of}
 use Rattle.adb_block.specs.Reading.{more, block_stream_from}
-use Rattle.adb_block.specs.ReaderPosition.{first_block_position_of_schema_and_file}
+use Rattle.adb_block.specs.PositionBetweenBlocks.{first_block_position_of_schema_and_file}
 use Rattle.adb_block.specs.declared.block.BlockKind.{BlockKind}
 use Rattle.adb_block.specs.declared.block.BlockKind.TheVariants.{Adb, Signature, Contents}
 use Rattle.adb_view.specs.Head.{payload_head_fault}
@@ -76,4 +76,4 @@ header_long_by false false false false x y z w n s h = refl
 -- a header that is whole takes eight bytes
 pub header_eight : (bytes : List ℕ) (schema : ℕ) → schema_of_header bytes ≡ Ok schema → 8 ≤ length bytes
 unfolding schema_of_header
-header_eight bytes schema h = ltb-false (length bytes) 8 (header_long_by (nat_lt (length bytes) 4) (is_compressed_file_mark (take 4 bytes)) (not (bytes_eq (take 4 bytes) (codes "ADB."))) (nat_lt (length bytes) 8) (Truncated 0) Compressed NotAdb (Truncated 0) (word_at 4 bytes) schema h)
+header_eight bytes schema h = ltb-false (length bytes) 8 (header_long_by (nat_lt (length bytes) 4) (is_four_byte_mark_of_compressed_file (take 4 bytes)) (not (bytes_eq (take 4 bytes) (codes "ADB."))) (nat_lt (length bytes) 8) (Truncated 0) Compressed NotAdb (Truncated 0) (word_at 4 bytes) schema h)

@@ -3,7 +3,7 @@ use Rattle.std.proofs.Common.{◌≡◌, ℕ, zero, suc, Bool, true, false, cond
 use Rattle.std.specs.List.{find}
 use Rattle.std.proofs.lemmas.Bool.{eqb-true, false_from_ne_true, eq-eqb}
 use Rattle.adb_view.specs.Plain.{Plain, Plains, none, more}
-use Rattle.adb_view.specs.Values.{nth, count_of, entries_in, entry_in, int_in, text_in}
+use Rattle.adb_view.specs.Values.{nth, count_of, entries_in, entry_at_index, int_in, text_in}
 use Rattle.adb_schema.specs.Texts.{is_file_with_contents}
 use Rattle.adb_schema.specs.adb_fields.Repeated.{files_in, list_of}
 use Rattle.pkg_core.specs.Contents.{ExpectedFile, expected_file_if_with_contents, expected_files_of_folder, expected_files_of_folders}
@@ -43,7 +43,7 @@ passed_by true folder file e es other = ap (λ (t : Bool). cond t (Some e) (find
 passed_by false folder file e es other = refl
 
 abbrev expected_file : ℕ → ℕ → Plain → ExpectedFile
-expected_file folder i f = record { folder = folder; file = i; size = int_in (entry_in f 2); hash = text_in (entry_in f 4) }
+expected_file folder i f = record { folder = folder; file = i; size = int_in (entry_at_index f 2); hash = text_in (entry_at_index f 4) }
 
 abbrev if_with_contents : ℕ → ℕ → Plain → Option ExpectedFile
 if_with_contents folder i f = if is_file_with_contents f then Some (expected_file folder i f) else None
@@ -129,13 +129,13 @@ found_at folder file v from within =
     let at : 1 + (file - 1) ≡ file = omega (arith, from) in
     subst (λ (n : ℕ). IsFoundAt folder n v (file - 1)) at (file_at folder 1 (file - 1) (entries_in v) (omega (arith, from, within)))
 
-pub no_file_there : (folder file : ℕ) (v f : Plain) → 1 ≤ file → file ≤ count_of (entries_in v) → f ≡ entry_in v (file - 1) → is_file_with_contents f ≡ false
+pub no_file_there : (folder file : ℕ) (v f : Plain) → 1 ≤ file → file ≤ count_of (entries_in v) → f ≡ entry_at_index v (file - 1) → is_file_with_contents f ≡ false
     → expected_file_at folder file (expected_files_of_folder folder 1 (list_of (entries_in v))) ≡ None
 no_file_there folder file v f from within is without =
     found_at folder file v from within
     ∙ (ap (if_with_contents folder file) (sym is) ∙ ap (λ (b : Bool). if b then Some (expected_file folder file f) else None) without)
 
-pub file_there : (folder file : ℕ) (v f : Plain) (size : ℕ) (hash : List ℕ) → 1 ≤ file → file ≤ count_of (entries_in v) → f ≡ entry_in v (file - 1) → is_file_with_contents f ≡ true → size ≡ int_in (entry_in f 2) → hash ≡ text_in (entry_in f 4)
+pub file_there : (folder file : ℕ) (v f : Plain) (size : ℕ) (hash : List ℕ) → 1 ≤ file → file ≤ count_of (entries_in v) → f ≡ entry_at_index v (file - 1) → is_file_with_contents f ≡ true → size ≡ int_in (entry_at_index f 2) → hash ≡ text_in (entry_at_index f 4)
     → expected_file_at folder file (expected_files_of_folder folder 1 (list_of (entries_in v))) ≡ Some (record { folder = folder; file = file; size = size; hash = hash })
 file_there folder file v f size hash from within is with s h =
     found_at folder file v from within
@@ -143,10 +143,10 @@ file_there folder file v f size hash from within is with s h =
     ∙ (ap (λ (b : Bool). if b then Some (expected_file folder file f) else None) with
     ∙ (λ k. Some (record { folder = folder; file = file; size = (sym s) k; hash = (sym h) k }))))
 
-pub folder_there : (folder file : ℕ) (v d fs : Plain) → 1 ≤ folder → folder ≤ count_of (entries_in v) → d ≡ entry_in v (folder - 1) → fs ≡ entry_in d 2
+pub folder_there : (folder file : ℕ) (v d fs : Plain) → 1 ≤ folder → folder ≤ count_of (entries_in v) → d ≡ entry_at_index v (folder - 1) → fs ≡ entry_at_index d 2
     → expected_file_at folder file (expected_files_of_folders 1 (list_of (entries_in v))) ≡ expected_file_at folder file (expected_files_of_folder folder 1 (list_of (entries_in fs)))
 folder_there folder file v d fs from within is files =
     let at : 1 + (folder - 1) ≡ folder = omega (arith, from) in
     subst (λ (n : ℕ). expected_file_at n file (expected_files_of_folders 1 (list_of (entries_in v))) ≡ expected_file_at n file (expected_files_of_folder n 1 (files_in (nth (entries_in v) (folder - 1))))) at
     (folder_at file 1 (folder - 1) (entries_in v) (omega (arith, from, within)))
-    ∙ ap (λ (g : Plain). expected_file_at folder file (expected_files_of_folder folder 1 (list_of (entries_in g)))) (ap (λ (g : Plain). entry_in g 2) (sym is) ∙ sym files)
+    ∙ ap (λ (g : Plain). expected_file_at folder file (expected_files_of_folder folder 1 (list_of (entries_in g)))) (ap (λ (g : Plain). entry_at_index g 2) (sym is) ∙ sym files)

@@ -6,14 +6,14 @@ use Rattle.base_core.specs.declared.cause.Cause.{Cause}
 use Rattle.base_core.specs.declared.cause.Cause.TheVariants.{Truncated}
 use Rattle.adb_block.specs.Framing.{ended, block}
 use Rattle.adb_block.specs.Frames.{framed_piece, raw_size}
-use Rattle.adb_block.specs.Piece.{padding_of}
+use Rattle.adb_block.specs.BlockWithoutOffset.{padding_of}
 use Rattle.adb_block.specs.Reading.{more, block_stream_from}
 use Rattle.adb_block.specs.declared.block.BlockKind.{BlockKind}
 use Rattle.adb_block.specs.declared.block.BlockKind.TheVariants as Kinds
 use Rattle.adb_block.specs.declared.block.Frame.{Frame}
 use Rattle.pkg_core.specs.Contents.{ExpectedFile, missing_contents_fault}
 use Rattle.pkg_core.specs.Opened.{files_left_in_walk}
-use Rattle.pkg_core.specs.Pieces.{PiecesRead, no_piece, refusal, pieces_at_block, pieces_read_from_blocks, pieces_of_payload, pieces_unless_fault}
+use Rattle.pkg_core.specs.Pieces.{PiecesRead, no_piece, refusal, pieces_at_block, pieces_read_from_blocks, pieces_of_payload, pieces_or_fault_alone}
 use Rattle.pkg_core.specs.Places.{payload_at, pieces_at, place_after, reader_at_place, block_step_at, whole_size}
 use Rattle.pkg_core.specs.declared.place.BlockPlace.{BlockPlace}
 use Rattle.adb_block.proofs.Runs.{reading_ended, reading_more}
@@ -21,10 +21,10 @@ use Rattle.pkg_core.proofs.BlockRuns.{reading_cut}
 
 -- ---- no block
 
-at_end : (place : BlockPlace) (file : List ℕ) (d : Option Cause) → block_step_at place file ≡ ended → d ≡ missing_contents_fault (files_left_in_walk place.walk) → pieces_at place file ≡ pieces_unless_fault d no_piece
+at_end : (place : BlockPlace) (file : List ℕ) (d : Option Cause) → block_step_at place file ≡ ended → d ≡ missing_contents_fault (files_left_in_walk place.walk) → pieces_at place file ≡ pieces_or_fault_alone d no_piece
 unfolding pieces_read_from_blocks
 at_end place file d step same =
-    ap (pieces_read_from_blocks (files_left_in_walk place.walk)) (reading_ended (reader_at_place place file) step) ∙ ap (λ (c : Option Cause). pieces_unless_fault c no_piece) (sym same)
+    ap (pieces_read_from_blocks (files_left_in_walk place.walk)) (reading_ended (reader_at_place place file) step) ∙ ap (λ (c : Option Cause). pieces_or_fault_alone c no_piece) (sym same)
 
 pub end_good : (place : BlockPlace) (file : List ℕ) → block_step_at place file ≡ ended → None ≡ missing_contents_fault (files_left_in_walk place.walk) → pieces_at place file ≡ no_piece
 end_good place file step same = at_end place file None step same

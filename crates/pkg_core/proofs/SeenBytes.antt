@@ -7,7 +7,7 @@ use Rattle.std.proofs.lemmas.Bool.{eqb-true}
 use Rattle.std.proofs.lemmas.Grind.{common_steps}
 use Rattle.std.proofs.Math.Seq.{take-append_seam, drop-append_seam}
 use Rattle.base_core.specs.Calls.{IfObservable}
-use Rattle.base_core.specs.Faults.{Counts, CountsNoNewFault}
+use Rattle.base_core.specs.Faults.{Counts, CountsNoNewFaultOrLackOfMemory}
 use Rattle.base_core.specs.Tree.{TreeState, CanRead, files_of}
 use Rattle.base_core.proofs.Counting.{goes_on_twice, no_fault_twice, cause_later}
 use Rattle.pkg_core.specs.Seen.{AreBytesRead, HasBytesAtOffset, IsSeenIn, IsFileOfLength, ReadsFile}
@@ -159,11 +159,11 @@ proper_both : (history : List TreeState) (name : List ℕ) (len a b c : ℕ) →
 proper_both [] name len a b c h g = h
 proper_both (v ∷ earlier) name len a b c h g = λ long. g long ∙ h long
 
-pub others_both : {B F : Type 0} (e : F) (a b c : Counts) (then : Result B F) → CountsNoNewFault a b → IfErr then (λ fault. (fault ≡ e → ⊥) → CountsNoNewFault b c) → IfErr then (λ fault. (fault ≡ e → ⊥) → CountsNoNewFault a c)
+pub others_both : {B F : Type 0} (e : F) (a b c : Counts) (then : Result B F) → CountsNoNewFaultOrLackOfMemory a b → IfErr then (λ fault. (fault ≡ e → ⊥) → CountsNoNewFaultOrLackOfMemory b c) → IfErr then (λ fault. (fault ≡ e → ⊥) → CountsNoNewFaultOrLackOfMemory a c)
 others_both e a b c (Ok value) h g = g
 others_both e a b c (Err fault) h g = λ other. no_fault_twice a b c h (g other)
 
-pub kept_both : {B F : Type 0} (a b c : Counts) (then : Result B F) → CountsNoNewFault a b → OnOk then (CountsNoNewFault b c) → OnOk then (CountsNoNewFault a c)
+pub kept_both : {B F : Type 0} (a b c : Counts) (then : Result B F) → CountsNoNewFaultOrLackOfMemory a b → OnOk then (CountsNoNewFaultOrLackOfMemory b c) → OnOk then (CountsNoNewFaultOrLackOfMemory a c)
 kept_both a b c (Ok value) h g = no_fault_twice a b c h g
 kept_both a b c (Err fault) h g = g
 

@@ -3,13 +3,13 @@ use Rattle.std.proofs.Common.{◌≡◌, ◌≢◌, ℕ, List, Option, Some, Non
 use Rattle.base_core.specs.declared.cause.Cause.{Cause}
 use Rattle.adb_block.specs.Header.{schema_of_header}
 use Rattle.adb_block.specs.Reading.{Reading, done, fault, more, block_stream_from}
-use Rattle.adb_block.specs.ReaderPosition.{first_block_position_of_schema_and_file}
+use Rattle.adb_block.specs.PositionBetweenBlocks.{first_block_position_of_schema_and_file}
 use Rattle.std.specs.Option.{option_or}
-use Rattle.adb_schema.specs.Soundness.{blocks_fault, file_fault_after_header, container_fault_except_contents, payload_fault, further_blocks_fault_unless_package, schema_fault}
+use Rattle.adb_schema.specs.Soundness.{blocks_fault, file_fault_by_header_schema_or_fault, container_fault_except_contents, payload_fault, remaining_blocks_fault_unless_package, schema_fault}
 use Rattle.adb_view.specs.declared.tables.Which.{Which}
 use Rattle.adb_view.specs.declared.tables.Which.TheVariants.{Dep, Acl, PkgInfo, File, Dir, Scripts, Package, Index, Idb, Intent}
 use Rattle.pkg_core.specs.Contents.{FilesRead, fault_of_files_read}
-use Rattle.pkg_core.specs.Whole.{fault_of_further_blocks, files_after_first_block, files_after_header, files_read_from_package, package_fault, container_fault_of_table}
+use Rattle.pkg_core.specs.Whole.{fault_of_contents_blocks_by_root_table, files_after_first_block, files_after_header, files_read_from_package, package_fault, container_fault_of_table}
 
 -- a container without contents is tested whole as its values are read
 pub other_fault : (which : Which) (file : List ℕ) → which ≢ Package → container_fault_of_table which file ≡ container_fault_except_contents which file
@@ -30,16 +30,16 @@ tests_then : (payload : Option Cause) (files : FilesRead) → option_or payload 
 tests_then None files h = refl
 tests_then (Some c) files h = (cc)
 
-blocks_then : (r : Reading) → blocks_fault (λ v r. further_blocks_fault_unless_package Package r) Package r ≡ None → blocks_fault (fault_of_further_blocks Package) Package r ≡ fault_of_files_read (files_after_first_block r)
+blocks_then : (r : Reading) → blocks_fault (λ v r. remaining_blocks_fault_unless_package Package r) Package r ≡ None → blocks_fault (fault_of_contents_blocks_by_root_table Package) Package r ≡ fault_of_files_read (files_after_first_block r)
 blocks_then done h = refl
 blocks_then (fault c) h = refl
 blocks_then (more b at r) h = tests_then (payload_fault Package b.payload) (files_after_first_block (more b at r)) h
 
-schema_then : (s : Option Cause) (r : Reading) → option_or s (blocks_fault (λ v r. further_blocks_fault_unless_package Package r) Package r) ≡ None → option_or s (blocks_fault (fault_of_further_blocks Package) Package r) ≡ fault_of_files_read (files_after_first_block r)
+schema_then : (s : Option Cause) (r : Reading) → option_or s (blocks_fault (λ v r. remaining_blocks_fault_unless_package Package r) Package r) ≡ None → option_or s (blocks_fault (fault_of_contents_blocks_by_root_table Package) Package r) ≡ fault_of_files_read (files_after_first_block r)
 schema_then None r h = blocks_then r h
 schema_then (Some c) r h = (cc)
 
-header_then : (file : List ℕ) (h : Result ℕ Cause) → file_fault_after_header (λ v r. further_blocks_fault_unless_package Package r) Package file h ≡ None → file_fault_after_header (fault_of_further_blocks Package) Package file h ≡ fault_of_files_read (files_after_header file h)
+header_then : (file : List ℕ) (h : Result ℕ Cause) → file_fault_by_header_schema_or_fault (λ v r. remaining_blocks_fault_unless_package Package r) Package file h ≡ None → file_fault_by_header_schema_or_fault (fault_of_contents_blocks_by_root_table Package) Package file h ≡ fault_of_files_read (files_after_header file h)
 header_then file (Ok schema) e = schema_then (schema_fault Package schema) (block_stream_from (first_block_position_of_schema_and_file schema file)) e
 header_then file (Err c) e = refl
 
@@ -52,16 +52,16 @@ tests_first : (payload : Option Cause) (c : Cause) (o : Option Cause) → option
 tests_first None c o h = (cc)
 tests_first (Some d) c o h = h
 
-blocks_first : (r : Reading) (c : Cause) → blocks_fault (λ v r. further_blocks_fault_unless_package Package r) Package r ≡ Some c → blocks_fault (fault_of_further_blocks Package) Package r ≡ Some c
+blocks_first : (r : Reading) (c : Cause) → blocks_fault (λ v r. remaining_blocks_fault_unless_package Package r) Package r ≡ Some c → blocks_fault (fault_of_contents_blocks_by_root_table Package) Package r ≡ Some c
 blocks_first done c h = h
 blocks_first (fault d) c h = h
 blocks_first (more b at r) c h = tests_first (payload_fault Package b.payload) c (fault_of_files_read (files_after_first_block (more b at r))) h
 
-schema_first : (s : Option Cause) (r : Reading) (c : Cause) → option_or s (blocks_fault (λ v r. further_blocks_fault_unless_package Package r) Package r) ≡ Some c → option_or s (blocks_fault (fault_of_further_blocks Package) Package r) ≡ Some c
+schema_first : (s : Option Cause) (r : Reading) (c : Cause) → option_or s (blocks_fault (λ v r. remaining_blocks_fault_unless_package Package r) Package r) ≡ Some c → option_or s (blocks_fault (fault_of_contents_blocks_by_root_table Package) Package r) ≡ Some c
 schema_first None r c h = blocks_first r c h
 schema_first (Some d) r c h = h
 
-header_first : (file : List ℕ) (h : Result ℕ Cause) (c : Cause) → file_fault_after_header (λ v r. further_blocks_fault_unless_package Package r) Package file h ≡ Some c → file_fault_after_header (fault_of_further_blocks Package) Package file h ≡ Some c
+header_first : (file : List ℕ) (h : Result ℕ Cause) (c : Cause) → file_fault_by_header_schema_or_fault (λ v r. remaining_blocks_fault_unless_package Package r) Package file h ≡ Some c → file_fault_by_header_schema_or_fault (fault_of_contents_blocks_by_root_table Package) Package file h ≡ Some c
 header_first file (Ok schema) c e = schema_first (schema_fault Package schema) (block_stream_from (first_block_position_of_schema_and_file schema file)) c e
 header_first file (Err d) c e = e
 

@@ -14,10 +14,10 @@ use Rattle.adb_block.specs.Reading.{Reading, done, fault, more}
 use Rattle.adb_block.specs.declared.block.BlockKind.{BlockKind}
 use Rattle.adb_block.specs.declared.block.BlockKind.TheVariants as Kinds
 use Rattle.adb_view.specs.Plain.{Plain}
-use Rattle.adb_view.specs.FieldIndexes.{FILE_HASHES, FILE_SIZE}
-use Rattle.adb_view.specs.Values.{entry_in, int_in, text_in}
+use Rattle.adb_view.specs.FieldIndexes.{FILE_HASHES_INDEX, FILE_SIZE_INDEX}
+use Rattle.adb_view.specs.Values.{entry_at_index, int_in, text_in}
 use Rattle.adb_schema.specs.adb_fields.Repeated.{folders_in, files_in}
-use Rattle.adb_schema.specs.Soundness.{contents_positions}
+use Rattle.adb_schema.specs.Soundness.{folder_and_file_positions_from_payload}
 use Rattle.adb_schema.specs.Texts.{is_file_with_contents}
 
 -- ---- the expected files
@@ -42,8 +42,8 @@ expected_file_if_with_contents folder i file =
     then record {
       folder = folder;
       file = i;
-      size = int_in (entry_in file FILE_SIZE);
-      hash = text_in (entry_in file FILE_HASHES);
+      size = int_in (entry_at_index file FILE_SIZE_INDEX);
+      hash = text_in (entry_at_index file FILE_HASHES_INDEX);
     } ∷ []
     else []
 
@@ -73,50 +73,50 @@ abbrev pub POSITIONS_LEN : ℕ
 POSITIONS_LEN = 8
 
 -- the bytes of the file in the payload of a block of contents: those after its two positions
-abbrev pub contents_bytes : List ℕ → List ℕ
-contents_bytes payload = drop POSITIONS_LEN payload
+abbrev pub contents_from_block_payload : List ℕ → List ℕ
+contents_from_block_payload payload = drop POSITIONS_LEN payload
 
 -- the fault if the wanted digest is not the one that was computed (`found`); None if they are equal.
 -- `as_digest` adds the name of the function
-abbrev pub fault_if_digests_differ : (List ℕ → Digest) → List ℕ → List ℕ → Option Cause
-fault_if_digests_differ as_digest wanted found =
+abbrev pub fault_if_wanted_and_found_digests_differ : (List ℕ → Digest) → List ℕ → List ℕ → Option Cause
+fault_if_wanted_and_found_digests_differ as_digest wanted found =
     if bytes_eq wanted found then None else Some (HashDiffers (as_digest wanted) (as_digest found))
 
 -- the fault if the bytes do not have the digest `hash`; None if they have it. The length of the digest
 -- selects the function (FIPS 180-4): 20 bytes SHA-1, 32 SHA-256, 64 SHA-512. A digest of another length
 -- is not compared
-unfoldable pub hash_fault : List ℕ → List ℕ → Option Cause
-hash_fault hash bytes =
-    if length hash == 20 then fault_if_digests_differ Sha1 hash (sha1 bytes)
-    else if length hash == 32 then fault_if_digests_differ Sha256 hash (sha256 bytes)
-    else if length hash == 64 then fault_if_digests_differ Sha512 hash (sha512 bytes)
+unfoldable pub fault_if_digest_is_not_of_bytes : List ℕ → List ℕ → Option Cause
+fault_if_digest_is_not_of_bytes hash bytes =
+    if length hash == 20 then fault_if_wanted_and_found_digests_differ Sha1 hash (sha1 bytes)
+    else if length hash == 32 then fault_if_wanted_and_found_digests_differ Sha256 hash (sha256 bytes)
+    else if length hash == 64 then fault_if_wanted_and_found_digests_differ Sha512 hash (sha512 bytes)
     else None
 
 -- whether a block of contents with this payload has the positions of the expected file
 abbrev pub has_positions_of : List ℕ → ExpectedFile → Bool
 has_positions_of payload e =
-    ((contents_positions payload).0 == e.folder) && ((contents_positions payload).1 == e.file)
+    ((folder_and_file_positions_from_payload payload).0 == e.folder) && ((folder_and_file_positions_from_payload payload).1 == e.file)
 
 -- the first failed test of a block of contents against an expected file: first the positions are
 -- compared, then the size, then the digest
 abbrev pub contents_fault_for_expected_file : List ℕ → ExpectedFile → Option Cause
 contents_fault_for_expected_file payload e =
     if not (has_positions_of payload e) then Some
-    (DataOrder (e.folder, e.file) (contents_positions payload))
-    else if not (length (contents_bytes payload) == e.size)
-    then Some (DataSize e.size (length (contents_bytes payload)))
-    else hash_fault e.hash (contents_bytes payload)
+    (DataOrder (e.folder, e.file) (folder_and_file_positions_from_payload payload))
+    else if not (length (contents_from_block_payload payload) == e.size)
+    then Some (DataSize e.size (length (contents_from_block_payload payload)))
+    else fault_if_digest_is_not_of_bytes e.hash (contents_from_block_payload payload)
 
 -- the first failed test of a block of contents against the first of the files that are still expected. If
 -- none is expected, the contents are out of order, and the reported expected positions are (0, 0)
 abbrev pub next_contents_fault : List ℕ → List ExpectedFile → Option Cause
-next_contents_fault payload [] = Some (DataOrder (0, 0) (contents_positions payload))
+next_contents_fault payload [] = Some (DataOrder (0, 0) (folder_and_file_positions_from_payload payload))
 next_contents_fault payload (e ∷ es) = contents_fault_for_expected_file payload e
 
 -- the first failed test of the block of contents with this payload at the offset `at`. The payload must
 -- have the eight bytes of the positions, and the contents must be those of the first expected file
-abbrev pub contents_block_fault : List ℕ → ℕ → List ExpectedFile → Option Cause
-contents_block_fault payload at es =
+abbrev pub contents_block_fault_at_offset : List ℕ → ℕ → List ExpectedFile → Option Cause
+contents_block_fault_at_offset payload at es =
     if nat_lt (length payload) POSITIONS_LEN then Some (Truncated at) else next_contents_fault payload es
 
 -- the fault at the end of the blocks if files are still expected: the positions of the first of them were
@@ -145,14 +145,14 @@ pub data FilesRead : Type 0 where
   given : Contents → FilesRead → FilesRead
 
 -- these files, unless a test failed: then its fault is in place of them
-abbrev pub files_unless_fault : Option Cause → FilesRead → FilesRead
-files_unless_fault None files = files
-files_unless_fault (Some c) files = refused c
+abbrev pub files_or_fault_alone : Option Cause → FilesRead → FilesRead
+files_or_fault_alone None files = files
+files_or_fault_alone (Some c) files = refused c
 
 -- the contents of the expected file `e`, from a block with this payload: the bytes after the two
 -- positions
 abbrev pub contents_of_expected : List ℕ → ExpectedFile → Contents
-contents_of_expected payload e = record { folder = e.folder; file = e.file; bytes = contents_bytes payload }
+contents_of_expected payload e = record { folder = e.folder; file = e.file; bytes = contents_from_block_payload payload }
 
 -- the contents of the first expected file, from a block with this payload. `further` gives the files that
 -- are read after it, from the files that are then still expected
@@ -163,18 +163,18 @@ with_contents_of_next payload further (e ∷ es) = given (contents_of_expected p
 -- the files that are read from a block with this kind, payload and offset `at` on. `further` gives those
 -- of the blocks after it, from the files that are then still expected; a block without contents is
 -- skipped
-abbrev pub files_read_from_block_and_further :
+abbrev pub files_from_block_at_offset_if_contents :
     BlockKind → List ℕ → ℕ → (List ExpectedFile → FilesRead) → List ExpectedFile → FilesRead
-files_read_from_block_and_further Kinds.Contents payload at further es =
-    files_unless_fault (contents_block_fault payload at es) (with_contents_of_next payload further es)
-files_read_from_block_and_further kind payload at further es = further es
+files_from_block_at_offset_if_contents Kinds.Contents payload at further es =
+    files_or_fault_alone (contents_block_fault_at_offset payload at es) (with_contents_of_next payload further es)
+files_from_block_at_offset_if_contents kind payload at further es = further es
 
 -- the files that are read from the blocks, each tested against the next expected file
 unfoldable pub files_read_from_blocks : List ExpectedFile → Reading → FilesRead
-files_read_from_blocks es done = files_unless_fault (missing_contents_fault es) no_more
+files_read_from_blocks es done = files_or_fault_alone (missing_contents_fault es) no_more
 files_read_from_blocks es (fault c) = refused c
 files_read_from_blocks es (more b at r) =
-    files_read_from_block_and_further b.kind b.payload at (λ left. files_read_from_blocks left r) es
+    files_from_block_at_offset_if_contents b.kind b.payload at (λ left. files_read_from_blocks left r) es
 
 -- the fault that ended the reading, if one did
 abbrev pub fault_of_files_read : FilesRead → Option Cause

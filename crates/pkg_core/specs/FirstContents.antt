@@ -9,7 +9,7 @@ use Rattle.adb_block.specs.AllBlocks.{blocks_of_stream}
 use Rattle.adb_block.specs.Reading.{Reading, done, fault, more}
 use Rattle.adb_block.specs.declared.block.BlockKind.{BlockKind}
 use Rattle.adb_block.specs.declared.block.BlockKind.TheVariants as Kinds
-use Rattle.pkg_core.specs.Contents.{ExpectedFile, contents_block_fault, missing_contents_fault}
+use Rattle.pkg_core.specs.Contents.{ExpectedFile, contents_block_fault_at_offset, missing_contents_fault}
 
 -- a block's payload and its offset
 abbrev pub PlacedPayload : Type 0
@@ -30,7 +30,7 @@ blocks_of_contents (more b at r) = with_block_if_contents b.kind (b.payload, at)
 -- After the last block, the fault of the framing (`framing`) is first, if there is one, and then that a
 -- file is left
 abbrev pub contents_test_fault : Option Cause → List ExpectedFile → Option PlacedPayload → Option Cause
-contents_test_fault framing es (Some block) = contents_block_fault block.0 block.1 es
+contents_test_fault framing es (Some block) = contents_block_fault_at_offset block.0 block.1 es
 contents_test_fault framing es None = option_or framing (missing_contents_fault es)
 
 -- the test with the number `k`, counted from 0: the block of contents `k` against the expected file `k`

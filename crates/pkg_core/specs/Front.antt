@@ -6,7 +6,7 @@ use Rattle.base_core.specs.declared.cause.Cause.{Cause}
 use Rattle.base_core.specs.declared.cause.Cause.TheVariants.{WrongSchema}
 use Rattle.adb_block.specs.Header.{schema_of_header}
 use Rattle.adb_block.specs.Reading.{Reading, done, fault, more, block_stream_from}
-use Rattle.adb_block.specs.ReaderPosition.{ReaderPosition, first_block_position_of_schema_and_file}
+use Rattle.adb_block.specs.PositionBetweenBlocks.{PositionBetweenBlocks, first_block_position_of_schema_and_file}
 use Rattle.adb_block.specs.declared.block.BlockKind.TheVariants.{Adb}
 use Rattle.adb_view.specs.Head.{payload_head_fault}
 use Rattle.pkg_core.specs.declared.front.Front.{Front}
@@ -49,7 +49,7 @@ abbrev pub front_end : Front → ℕ
 front_end front = front.at
 
 -- the position of a reader of the blocks of this file after the front
-abbrev pub position_after_front : Front → List ℕ → ReaderPosition
+abbrev pub position_after_front : Front → List ℕ → PositionBetweenBlocks
 position_after_front front file = record {
   schema = front.schema;
   last = Some Adb;
@@ -91,7 +91,7 @@ IsFrontRead schema (Some file) (Err Memory) = Unit {0}
 
 -- the position of a reader of the blocks of this file after the first block, which ends at the offset
 -- `at`
-abbrev pub position_after_first_block : ℕ → ℕ → List ℕ → ReaderPosition
+abbrev pub position_after_first_block : ℕ → ℕ → List ℕ → PositionBetweenBlocks
 position_after_first_block schema at file =
     record { schema = schema; last = Some Adb; at = at; left = drop at file }
 

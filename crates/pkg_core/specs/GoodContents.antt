@@ -6,10 +6,10 @@ use Rattle.sha1.specs.Sha1.{sha1}
 use Rattle.sha2.specs.Sha256.{sha256}
 use Rattle.sha2.specs.Sha512.{sha512}
 use Rattle.adb_schema.specs.Rules.{is_digest_length}
-use Rattle.pkg_core.specs.Contents.{Contents, ExpectedFile, hash_fault}
+use Rattle.pkg_core.specs.Contents.{Contents, ExpectedFile, fault_if_digest_is_not_of_bytes}
 
 -- the contents are those of the expected file: they have its positions, its size and its digest
-pub record IsContentsOfExpectedFile (e : ExpectedFile) (contents : Contents) : Type 0 where
+pub record MatchesExpectedSizeAndKnownDigest (e : ExpectedFile) (contents : Contents) : Type 0 where
   -- the position of the file's folder
   pub folder : contents.folder ≡ e.folder
   -- the position of the file in the folder
@@ -18,15 +18,15 @@ pub record IsContentsOfExpectedFile (e : ExpectedFile) (contents : Contents) : T
   pub size : length contents.bytes ≡ e.size
   -- the digest of the file: it is equal to the computed one, unless its length is that of none of the
   -- three functions
-  pub hash : hash_fault e.hash contents.bytes ≡ None
+  pub hash : fault_if_digest_is_not_of_bytes e.hash contents.bytes ≡ None
 
 -- there are contents for each expected file, in order, and no others
-abbrev pub AreContentsOfExpectedFiles : List ExpectedFile → List Contents → Type 0
-AreContentsOfExpectedFiles [] [] = Unit {0}
-AreContentsOfExpectedFiles [] (contents ∷ others) = ⊥
-AreContentsOfExpectedFiles (e ∷ es) [] = ⊥
-AreContentsOfExpectedFiles (e ∷ es) (contents ∷ others) =
-    IsContentsOfExpectedFile e contents × AreContentsOfExpectedFiles es others
+abbrev pub MatchEachExpectedSizeAndKnownDigest : List ExpectedFile → List Contents → Type 0
+MatchEachExpectedSizeAndKnownDigest [] [] = Unit {0}
+MatchEachExpectedSizeAndKnownDigest [] (contents ∷ others) = ⊥
+MatchEachExpectedSizeAndKnownDigest (e ∷ es) [] = ⊥
+MatchEachExpectedSizeAndKnownDigest (e ∷ es) (contents ∷ others) =
+    MatchesExpectedSizeAndKnownDigest e contents × MatchEachExpectedSizeAndKnownDigest es others
 
 -- ---- if the values of the package are good
 

@@ -3,7 +3,7 @@
 use Rattle.std.specs.Prelude.{◌≡◌, ℕ, List, length, None}
 use Rattle.sha1.specs.Sha1.{Holds}
 use Rattle.sha2.specs.Hashers.{Holds256, Holds512}
-use Rattle.pkg_core.specs.Contents.{hash_fault}
+use Rattle.pkg_core.specs.Contents.{fault_if_digest_is_not_of_bytes}
 use Rattle.pkg_core.specs.declared.hasher.Hasher.{Hasher}
 use Rattle.pkg_core.specs.declared.hasher.Hasher.TheVariants as Hashers
 
@@ -14,4 +14,4 @@ abbrev pub HasHashedMessage : Hasher → List ℕ → List ℕ → Type 0
 HasHashedMessage (Hashers.Sha1 hasher) hash message = (length hash ≡ 20) × Holds hasher message
 HasHashedMessage (Hashers.Sha256 hasher) hash message = (length hash ≡ 32) × Holds256 hasher message
 HasHashedMessage (Hashers.Sha512 hasher) hash message = (length hash ≡ 64) × Holds512 hasher message
-HasHashedMessage Hashers.Other hash message = (bytes : List ℕ) → hash_fault hash bytes ≡ None
+HasHashedMessage Hashers.Other hash message = (bytes : List ℕ) → fault_if_digest_is_not_of_bytes hash bytes ≡ None

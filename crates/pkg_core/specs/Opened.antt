@@ -10,7 +10,7 @@ use Rattle.adb_view.specs.Values.{entries_in}
 use Rattle.adb_schema.specs.Checked.{checked_value}
 use Rattle.adb_schema.specs.adb_fields.ListValue.{list_value}
 use Rattle.adb_schema.specs.adb_fields.Repeated.{list_of, files_in}
-use Rattle.pkg_core.specs.Contents.{ExpectedFile, Contents, FilesRead, no_more, refused, given, expected_files_of_folder, expected_files_of_folders, files_read_from_blocks, contents_of_expected, contents_block_fault}
+use Rattle.pkg_core.specs.Contents.{ExpectedFile, Contents, FilesRead, no_more, refused, given, expected_files_of_folder, expected_files_of_folders, files_read_from_blocks, contents_of_expected, contents_block_fault_at_offset}
 use Rattle.pkg_core.specs.declared.pack.Package.{Package}
 use Rattle.pkg_core.specs.declared.walk.Walk.{Walk}
 use Rattle.pkg_core.specs.declared.walk.Wanted.{Wanted}
@@ -98,8 +98,8 @@ abbrev pub ReturnsNextContents : List ℕ → ℕ → List ExpectedFile → Resu
     → List ExpectedFile
     → Type 0
 ReturnsNextContents payload at before (Ok f) after =
-    (contents_block_fault payload at before ≡ None) × ReturnsContentsOfFirst payload f before after
-ReturnsNextContents payload at before (Err c) after = contents_block_fault payload at before ≡ Some c
+    (contents_block_fault_at_offset payload at before ≡ None) × ReturnsContentsOfFirst payload f before after
+ReturnsNextContents payload at before (Err c) after = contents_block_fault_at_offset payload at before ≡ Some c
 
 -- ---- a package
 

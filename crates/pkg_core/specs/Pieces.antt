@@ -6,8 +6,8 @@ use Rattle.base_core.specs.declared.cause.Cause.TheVariants.{Truncated, DataOrde
 use Rattle.adb_block.specs.Reading.{Reading, done, fault, more}
 use Rattle.adb_block.specs.declared.block.BlockKind.{BlockKind}
 use Rattle.adb_block.specs.declared.block.BlockKind.TheVariants as Kinds
-use Rattle.adb_schema.specs.Soundness.{contents_positions}
-use Rattle.pkg_core.specs.Contents.{ExpectedFile, FilesRead, POSITIONS_LEN, no_more, refused, given, contents_bytes, has_positions_of, hash_fault, missing_contents_fault}
+use Rattle.adb_schema.specs.Soundness.{folder_and_file_positions_from_payload}
+use Rattle.pkg_core.specs.Contents.{ExpectedFile, FilesRead, POSITIONS_LEN, no_more, refused, given, contents_from_block_payload, has_positions_of, fault_if_digest_is_not_of_bytes, missing_contents_fault}
 use Rattle.pkg_core.specs.declared.file.Part.{Part}
 use Rattle.pkg_core.specs.declared.file.TheConstants.{PIECE_LEN}
 
@@ -45,7 +45,7 @@ piece_count_before_last len = (len - 1) / PIECE_LEN
 -- the pieces of all bytes of a file, and then further ones
 abbrev pub pieces_of_bytes : ExpectedFile → List ℕ → PiecesRead → PiecesRead
 pieces_of_bytes e bytes further =
-    pieces_of_one_file (piece_count_before_last (length bytes)) e (hash_fault e.hash bytes) bytes further
+    pieces_of_one_file (piece_count_before_last (length bytes)) e (fault_if_digest_is_not_of_bytes e.hash bytes) bytes further
 
 -- ---- one block
 
@@ -54,24 +54,24 @@ pieces_of_bytes e bytes further =
 abbrev pub position_or_size_fault : List ℕ → ExpectedFile → Option Cause
 position_or_size_fault payload e =
     if not (has_positions_of payload e) then Some
-    (DataOrder (e.folder, e.file) (contents_positions payload))
-    else if not (length (contents_bytes payload) == e.size)
-    then Some (DataSize e.size (length (contents_bytes payload)))
+    (DataOrder (e.folder, e.file) (folder_and_file_positions_from_payload payload))
+    else if not (length (contents_from_block_payload payload) == e.size)
+    then Some (DataSize e.size (length (contents_from_block_payload payload)))
     else None
 
 -- the pieces, unless a test failed: then its fault is in place of them
-abbrev pub pieces_unless_fault : Option Cause → PiecesRead → PiecesRead
-pieces_unless_fault None pieces = pieces
-pieces_unless_fault (Some c) pieces = refusal c
+abbrev pub pieces_or_fault_alone : Option Cause → PiecesRead → PiecesRead
+pieces_or_fault_alone None pieces = pieces
+pieces_or_fault_alone (Some c) pieces = refusal c
 
 -- the pieces of a payload of contents, tested against the first expected file, and then the further
 -- pieces. If no file is expected, the contents are out of order, and the reported expected positions are
 -- (0, 0)
 abbrev pub pieces_of_payload : List ℕ → (List ExpectedFile → PiecesRead) → List ExpectedFile → PiecesRead
-pieces_of_payload payload further [] = refusal (DataOrder (0, 0) (contents_positions payload))
+pieces_of_payload payload further [] = refusal (DataOrder (0, 0) (folder_and_file_positions_from_payload payload))
 pieces_of_payload payload further (e ∷ es) =
-    pieces_unless_fault (position_or_size_fault payload e)
-    (pieces_of_bytes e (contents_bytes payload) (further es))
+    pieces_or_fault_alone (position_or_size_fault payload e)
+    (pieces_of_bytes e (contents_from_block_payload payload) (further es))
 
 -- the pieces from a block with this kind, payload and offset `at` on. `further` gives those of the blocks
 -- after it, from the files that are then still expected. A block without contents is skipped; a block of
@@ -87,7 +87,7 @@ pieces_at_block kind payload at further es = further es
 
 -- the pieces that are read from the blocks, which are tested against the expected files (`es`)
 unfoldable pub pieces_read_from_blocks : List ExpectedFile → Reading → PiecesRead
-pieces_read_from_blocks es done = pieces_unless_fault (missing_contents_fault es) no_piece
+pieces_read_from_blocks es done = pieces_or_fault_alone (missing_contents_fault es) no_piece
 pieces_read_from_blocks es (fault c) = refusal c
 pieces_read_from_blocks es (more b at r) =
     pieces_at_block b.kind b.payload at (λ left. pieces_read_from_blocks left r) es

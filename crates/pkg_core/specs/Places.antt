@@ -5,12 +5,12 @@ use Rattle.std.specs.Prelude.{◌≡◌, ◌≤◌, ℕ, ◌+◌, ◌-◌, min, 
 use Rattle.base_core.specs.declared.cause.Cause.{Cause}
 use Rattle.adb_block.specs.Framing.{NextBlockResult as BlockStep, next_block_result_at_offset}
 use Rattle.adb_block.specs.Frames.{framed_piece, raw_size}
-use Rattle.adb_block.specs.Piece.{padding_of}
+use Rattle.adb_block.specs.BlockWithoutOffset.{padding_of}
 use Rattle.adb_block.specs.Reading.{block_stream_from}
-use Rattle.adb_block.specs.ReaderPosition.{ReaderPosition}
+use Rattle.adb_block.specs.PositionBetweenBlocks.{PositionBetweenBlocks}
 use Rattle.adb_block.specs.declared.block.BlockKind.TheVariants as Kinds
 use Rattle.adb_block.specs.declared.block.Frame.{Frame}
-use Rattle.pkg_core.specs.Contents.{POSITIONS_LEN, contents_bytes}
+use Rattle.pkg_core.specs.Contents.{POSITIONS_LEN, contents_from_block_payload}
 use Rattle.pkg_core.specs.Opened.{expected_of, files_left_in_walk}
 use Rattle.pkg_core.specs.declared.walk.Walk.{Walk}
 use Rattle.pkg_core.specs.Pieces.{PiecesRead, no_piece, refusal, pieces_read_from_blocks}
@@ -23,7 +23,7 @@ use Rattle.pkg_core.specs.declared.place.Step.TheVariants.{End, Passed, Opened}
 
 -- the position of a reader of blocks at a place of this file; its schema does not matter there, so it
 -- is 0
-abbrev pub reader_at_place : BlockPlace → List ℕ → ReaderPosition
+abbrev pub reader_at_place : BlockPlace → List ℕ → PositionBetweenBlocks
 reader_at_place place file =
     record { schema = 0; last = Some place.last; at = place.at; left = drop place.at file }
 
@@ -92,7 +92,7 @@ IsStepResult framing before file (Ok Passed) after = pieces_at before file ≡ p
 IsStepResult None before file (Ok (Opened f)) after = ⊥
 IsStepResult (Some frame) before file (Ok (Opened f)) after =
     (pieces_at before file
-    ≡ pieces_in f [] (contents_bytes (payload_at frame before file)) (pieces_at after file))
+    ≡ pieces_in f [] (contents_from_block_payload (payload_at frame before file)) (pieces_at after file))
     × HasTaken f []
-    × (length (contents_bytes (payload_at frame before file)) ≡ f.wanted.size)
+    × (length (contents_from_block_payload (payload_at frame before file)) ≡ f.wanted.size)
 IsStepResult framing before file (Err c) after = pieces_at before file ≡ refusal c

@@ -3,7 +3,7 @@
 -- read is stated in `docs/formats.md`, "The other blocks", point 1 of the last list (the front).
 use Rattle.std.specs.Prelude.{◌≡◌, ◌≤◌, ℕ, ◌+◌, List, length, take, drop, Some, IfSome, Result, OnOk, IfErr, IsErrOf}
 use Rattle.base_core.specs.Calls.{IfObservable}
-use Rattle.base_core.specs.Faults.{Counts, CountsOnlyRise, IsFaultCountedWithCause, CountsNoNewFault}
+use Rattle.base_core.specs.Faults.{Counts, CountsOnlyRise, CountsNewFaultWithCause, CountsNoNewFaultOrLackOfMemory}
 use Rattle.base_core.specs.Tree.{TreeState, files_of}
 use Rattle.base_core.specs.declared.tree.Disk.{Disk}
 
@@ -49,10 +49,10 @@ pub record ReadsFile {A E : Type 0} (name : List ℕ) (len : ℕ) (disk_fault : 
   -- no count falls
   pub goes_on : CountsOnlyRise before now
   -- the call reports a failure of the tree only if a call on the tree failed, and its cause was counted
-  pub disk : IsErrOf result disk_fault → IsFaultCountedWithCause before now
+  pub disk : IsErrOf result disk_fault → CountsNewFaultWithCause before now
   -- a result that is no failure of the tree raised neither the count of faults nor that of memory faults
-  pub kept : OnOk result (CountsNoNewFault before now)
+  pub kept : OnOk result (CountsNoNewFaultOrLackOfMemory before now)
   -- an error that is no failure of the tree raised neither of these counts
-  pub others : IfErr result (λ fault. (fault ≡ disk_fault → ⊥) → CountsNoNewFault before now)
+  pub others : IfErr result (λ fault. (fault ≡ disk_fault → ⊥) → CountsNoNewFaultOrLackOfMemory before now)
   -- the call is no misuse if the file under the name has this length
   pub proper : IfObservable old (λ v. IsFileOfLength name len v → now.misuses ≡ before.misuses)

@@ -2,7 +2,7 @@
 -- blocks", point 2 of the last list (the pieces). Serves the contracts of `FileCheck` and `open_file`.
 use Rattle.std.specs.Prelude.{◌≡◌, ℕ, ◌-◌, min, true, false, List, [], ◌++◌, length, Option, Some, None, Result, Ok, Err}
 use Rattle.base_core.specs.declared.cause.Cause.{Cause}
-use Rattle.pkg_core.specs.Contents.{contents_bytes, hash_fault}
+use Rattle.pkg_core.specs.Contents.{contents_from_block_payload, fault_if_digest_is_not_of_bytes}
 use Rattle.pkg_core.specs.Opened.{expected_of}
 use Rattle.pkg_core.specs.Hashing.{HasHashedMessage}
 use Rattle.pkg_core.specs.Pieces.{PiecesRead, piece, refusal, part_of, pieces_of_one_file, piece_count_before_last}
@@ -28,7 +28,7 @@ pub record HasTaken (f : FileCheck) (so_far : List ℕ) : Type 0 where
 -- exactly `bytes` were taken of a file with the digest `hash`: if no check is left (None), all bytes of
 -- the file, and they have the digest
 abbrev pub HasTakenOrPassedDigest : List ℕ → List ℕ → Option FileCheck → Type 0
-HasTakenOrPassedDigest hash bytes None = hash_fault hash bytes ≡ None
+HasTakenOrPassedDigest hash bytes None = fault_if_digest_is_not_of_bytes hash bytes ≡ None
 HasTakenOrPassedDigest hash bytes (Some f) = HasTaken f bytes
 
 -- the pieces of the rest of a file (`left`), after the bytes `so_far` that were taken before, and then
@@ -36,7 +36,7 @@ HasTakenOrPassedDigest hash bytes (Some f) = HasTaken f bytes
 abbrev pub pieces_in : FileCheck → List ℕ → List ℕ → PiecesRead → PiecesRead
 pieces_in f so_far left further =
     pieces_of_one_file (piece_count_before_last (length left)) (expected_of f.wanted)
-    (hash_fault f.wanted.hash.now (so_far ++ left)) left further
+    (fault_if_digest_is_not_of_bytes f.wanted.hash.now (so_far ++ left)) left further
 
 -- the result of taking `bytes`, with `left` as the rest of the file. `bytes` are the next piece, followed
 -- by the pieces of the rest or, after the last piece, by the further ones. An error is that the digest
@@ -64,6 +64,6 @@ IsPartOfCheckedFile f (part, None) = part ≡ part_of (expected_of f.wanted) tru
 -- pieces are those of its bytes, and then the further ones. Or the first failed test
 abbrev pub IsOpenResult : PiecesRead → List ℕ → PiecesRead → Result FileCheck Cause → Type 0
 IsOpenResult before payload further (Ok f) =
-    (before ≡ pieces_in f [] (contents_bytes payload) further) × HasTaken f []
-    × (length (contents_bytes payload) ≡ f.wanted.size)
+    (before ≡ pieces_in f [] (contents_from_block_payload payload) further) × HasTaken f []
+    × (length (contents_from_block_payload payload) ≡ f.wanted.size)
 IsOpenResult before payload further (Err c) = before ≡ refusal c

@@ -5,10 +5,10 @@ use Rattle.sha2.specs.Sha256.{sha256}
 use Rattle.base_core.specs.declared.cause.Cause.{Cause}
 use Rattle.base_core.specs.declared.cause.Cause.TheVariants.{WrongSchema}
 use Rattle.adb_block.specs.Header.{schema_of_header}
-use Rattle.adb_block.specs.ReaderPosition.{first_block_position_of_schema_and_file}
+use Rattle.adb_block.specs.PositionBetweenBlocks.{first_block_position_of_schema_and_file}
 use Rattle.adb_block.specs.Reading.{Reading, done, fault, more, block_stream_from}
 use Rattle.adb_view.specs.Plain.{Plain}
-use Rattle.adb_schema.specs.Soundness.{file_fault_with_rest_test, further_blocks_fault_unless_package, payload_in, root_value_of_payload}
+use Rattle.adb_schema.specs.Soundness.{file_fault_with_rest_test, remaining_blocks_fault_unless_package, payload_in, root_value_of_payload}
 use Rattle.adb_view.specs.declared.tables.Which.{Which}
 use Rattle.adb_view.specs.declared.tables.Which.TheVariants.{Package, Index, Idb, Intent}
 use Rattle.adb_schema.specs.declared.read.TheConstants.{PACKAGE_WORD, INDEX_WORD, IDB_WORD, INTENT_WORD}
@@ -27,13 +27,13 @@ table_of_schema schema =
 
 -- the first failed test of the blocks after the first: for a package the contents of its files, for
 -- another container that no block has contents
-abbrev pub fault_of_further_blocks : Which → Plain → Reading → Option Cause
-fault_of_further_blocks Package value r = contents_fault (expected_files_of_package value) r
-fault_of_further_blocks which value r = further_blocks_fault_unless_package which r
+abbrev pub fault_of_contents_blocks_by_root_table : Which → Plain → Reading → Option Cause
+fault_of_contents_blocks_by_root_table Package value r = contents_fault (expected_files_of_package value) r
+fault_of_contents_blocks_by_root_table which value r = remaining_blocks_fault_unless_package which r
 
 -- the first failed test of a file that is to be a container with this table at its root
 unfoldable pub container_fault_of_table : Which → List ℕ → Option Cause
-container_fault_of_table which file = file_fault_with_rest_test (fault_of_further_blocks which) which file
+container_fault_of_table which file = file_fault_with_rest_test (fault_of_contents_blocks_by_root_table which) which file
 
 -- the first failed test of a file with this schema, given the table of the schema. None is the table of
 -- any other schema than the four
@@ -58,8 +58,8 @@ abbrev pub package_fault : List ℕ → Option Cause
 package_fault file = container_fault_of_table Package file
 
 -- the id of a package: the SHA-256 of its ADB payload
-abbrev pub package_id : List ℕ → List ℕ
-package_id file = sha256 (payload_in file)
+abbrev pub payload_sha256_of_package_file : List ℕ → List ℕ
+payload_sha256_of_package_file file = sha256 (payload_in file)
 
 -- the files that are read from the blocks of a package. The value of the first block lists the
 -- expected files; the blocks after it have their contents

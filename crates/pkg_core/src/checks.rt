@@ -5,7 +5,7 @@
 ghost use Rattle.std.specs.Prelude.{◌≡◌, ◌≢◌, None, IfOk, IfErr, IfSome, IsTrue, is_some, length, ℕ, List, Some};
 ghost use Rattle.std.specs.Option.{option_or};
 ghost use Rattle.std.specs.Result.{result_err};
-ghost use Rattle.pkg_core.specs.Contents.{fault_of_files_read, fault_if_digests_differ, hash_fault, contents_fault, contents_in, expected_files_of_package, files_read_from_blocks, ExpectedFile};
+ghost use Rattle.pkg_core.specs.Contents.{fault_of_files_read, fault_if_wanted_and_found_digests_differ, fault_if_digest_is_not_of_bytes, contents_fault, contents_in, expected_files_of_package, files_read_from_blocks, ExpectedFile};
 ghost use Rattle.pkg_core.specs.Opened.{opened_files};
 ghost use Rattle.pkg_core.specs.Whole.{container_fault, package_fault, table_of_schema, container_fault_of_table, files_read_from_package, package_with_contents};
 ghost use Rattle.pkg_core.specs.Refusals.{IsFaultOf};
@@ -16,9 +16,9 @@ ghost use Rattle.adb_view.specs.declared.tables.Which.TheVariants as Tables;
 ghost use Rattle.base_core.specs.declared.cause.Digest.TheVariants as Digests;
 ghost use Rattle.base_core.specs.declared.cause.Cause.{Cause};
 ghost use Rattle.adb_block.specs.Reading.{Reading};
-ghost use Rattle.adb_schema.specs.Soundness.{container_fault_except_contents, schema_word};
+ghost use Rattle.adb_schema.specs.Soundness.{container_fault_except_contents, header_schema_if_root_table};
 ghost use Rattle.pkg_core.specs.FirstContents.{IsFirstContentsFault};
-ghost use Rattle.pkg_core.specs.GoodContents.{AreContentsOfExpectedFiles, MatchEachExpectedSizeAndDigest};
+ghost use Rattle.pkg_core.specs.GoodContents.{MatchEachExpectedSizeAndKnownDigest, MatchEachExpectedSizeAndDigest};
 
 use crate::pack::{Package, PackageFault};
 use adb_block::Blocks;
@@ -59,7 +59,7 @@ pub fn verify(alloc: Global, bytes: &[u8]) -> Result<(), PackageFault>
 pub fn table_of_schema(schema: u32) -> Option<Which>
     ensures root { result ≡ table_of_schema schema }
     // A table in the result is one that has a schema.
-    ensures known { IfSome result (λ which. IsTrue (is_some (schema_word which))) }
+    ensures known { IfSome result (λ which. IsTrue (is_some (header_schema_if_root_table which))) }
 {
     match schema {
         PACKAGE_WORD => Some(Which::Package),
@@ -124,9 +124,9 @@ fn verify_other(alloc: Global, bytes: &[u8], which: Which) -> Result<(), Package
 /// Why bytes do not have the digest `hash`; None if they have it. The length of the digest selects
 /// the function: SHA-1, SHA-256 or SHA-512 (FIPS 180-4). A digest of another length is ignored; no
 /// file with contents has one in a checked package.
-#[tactic(auto, unfolding(crate::specs::Contents::hash_fault))]
-pub(crate) fn hash_fault(hash: &[u8], bytes: &[u8]) -> Option<Cause>
-    ensures { result ≡ hash_fault hash.now bytes.now }
+#[tactic(auto, unfolding(crate::specs::Contents::fault_if_digest_is_not_of_bytes))]
+pub(crate) fn fault_if_digest_is_not_of_bytes(hash: &[u8], bytes: &[u8]) -> Option<Cause>
+    ensures { result ≡ fault_if_digest_is_not_of_bytes hash.now bytes.now }
 {
     // The lengths in bytes of a SHA-1, a SHA-256 and a SHA-512.
     match hash.len() {
@@ -142,7 +142,7 @@ pub(crate) fn hash_fault(hash: &[u8], bytes: &[u8]) -> Option<Cause>
 pub fn sha1_fault(hash: &[u8], found: [u8; 20]) -> Option<Cause>
     // The listed digest has the length of a SHA-1.
     requires { length hash.now ≡ 20 }
-    ensures { result ≡ fault_if_digests_differ Digests.Sha1 hash.now found }
+    ensures { result ≡ fault_if_wanted_and_found_digests_differ Digests.Sha1 hash.now found }
 {
     if hash == found.as_slice() {
         return None;
@@ -160,7 +160,7 @@ pub fn sha1_fault(hash: &[u8], found: [u8; 20]) -> Option<Cause>
 pub fn sha256_fault(hash: &[u8], found: [u8; 32]) -> Option<Cause>
     // The listed digest has the length of a SHA-256.
     requires { length hash.now ≡ 32 }
-    ensures { result ≡ fault_if_digests_differ Digests.Sha256 hash.now found }
+    ensures { result ≡ fault_if_wanted_and_found_digests_differ Digests.Sha256 hash.now found }
 {
     if hash == found.as_slice() {
         return None;
@@ -178,7 +178,7 @@ pub fn sha256_fault(hash: &[u8], found: [u8; 32]) -> Option<Cause>
 pub fn sha512_fault(hash: &[u8], found: [u8; 64]) -> Option<Cause>
     // The listed digest has the length of a SHA-512.
     requires { length hash.now ≡ 64 }
-    ensures { result ≡ fault_if_digests_differ Digests.Sha512 hash.now found }
+    ensures { result ≡ fault_if_wanted_and_found_digests_differ Digests.Sha512 hash.now found }
 {
     if hash == found.as_slice() {
         return None;
@@ -195,7 +195,7 @@ pub fn sha512_fault(hash: &[u8], found: [u8; 64]) -> Option<Cause>
 /// others: each with the positions, the size and the digest of its file.
 pub fn good_blocks_give_the_contents_of_each_file()
     ensures { (expected : List ExpectedFile) (r : Reading) → contents_fault expected r ≡ None
-        → AreContentsOfExpectedFiles expected (contents_in (files_read_from_blocks expected r)) }
+        → MatchEachExpectedSizeAndKnownDigest expected (contents_in (files_read_from_blocks expected r)) }
 {}
 
 /// The reported fault of the blocks is the first one. Each block of contents is tested against the

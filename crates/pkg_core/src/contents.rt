@@ -28,7 +28,7 @@ pub struct Contents<'a> {
 }
 
 impl<'a> Contents<'a> {
-    ghost use Rattle.adb_schema.specs.SoundValues.{ObeysFieldRulesOfTable};
+    ghost use Rattle.adb_schema.specs.SoundValues.{ObeysTextAndNumberRulesOfTable};
     ghost use Rattle.adb_schema.specs.Views.{package_value};
     ghost use Rattle.adb_schema.specs.SoundContainers.{IsSoundValue};
     ghost use Rattle.adb_view.specs.Plain.{IsNormal};
@@ -82,7 +82,7 @@ impl<'a> Contents<'a> {
     /// A law: each text and number of the package obeys the rule of its field. For example, the
     /// name of a folder is a path.
     pub fn values_keep_their_rules(&self)
-        ensures { ObeysFieldRulesOfTable Tables.Package (value_of_contents self.now) }
+        ensures { ObeysTextAndNumberRulesOfTable Tables.Package (value_of_contents self.now) }
     {
         // A law that the proof needs; it has no effect at run time.
         no_text_is_bad_where_each_keeps_its_rule();

@@ -2,8 +2,8 @@
 //! `docs/formats.md`, "The other blocks", point 2 of the last list; the tests in the first list.
 
 ghost use Rattle.std.specs.Prelude.{◌≡◌, ◌<◌, ◌≤◌, ◌+◌, ◌-◌, ℕ, List, [], ◌∷◌, ◌++◌, length, take, None, IfNone, IfOk, IfSome};
-ghost use Rattle.adb_schema.specs.Soundness.{contents_positions};
-ghost use Rattle.pkg_core.specs.Contents.{ExpectedFile, POSITIONS_LEN, contents_bytes, files_read_from_blocks};
+ghost use Rattle.adb_schema.specs.Soundness.{folder_and_file_positions_from_payload};
+ghost use Rattle.pkg_core.specs.Contents.{ExpectedFile, POSITIONS_LEN, contents_from_block_payload, files_read_from_blocks};
 ghost use Rattle.pkg_core.specs.Opened.{expected_of, files_left_in_walk};
 ghost use Rattle.pkg_core.specs.Pieces.{PiecesRead, part_of, pieces_of_payload, position_or_size_fault, files_joined_from_pieces, pieces_read_from_blocks};
 ghost use Rattle.pkg_core.specs.Taking.{HasTaken, IsOpenResult, IsPartOfCheckedFile, IsTakeResult, HasTakenOrPassedDigest, file_bytes_left, next_piece_len};
@@ -11,7 +11,7 @@ ghost use Rattle.adb_block.specs.Reading.{Reading};
 
 use crate::hasher::Hasher;
 use crate::walk::{POSITIONS_LEN, Walk, Wanted};
-use adb_schema::contents_positions;
+use adb_schema::folder_and_file_positions_from_payload;
 use base_core::Cause;
 
 /// The check of one file whose contents are taken in pieces: the expected file, and how many of the
@@ -148,7 +148,7 @@ pub fn open_file<'a>(
         files_left_in_walk walk.old ≡ expected_of file.wanted ∷ files_left_in_walk walk.new) }
 {
     // The positions that the block names.
-    let found = contents_positions(positions);
+    let found = folder_and_file_positions_from_payload(positions);
     let Some(wanted) = walk.next() else {
         return Err(Cause::DataOrder {
             expected: (0, 0),
@@ -165,8 +165,8 @@ pub fn open_file<'a>(
 /// wanted file. First the positions are compared, then the size. None if both agree.
 fn position_or_size_fault(found: (u32, u32), size: u64, wanted: Wanted<'_>) -> Option<Cause>
     // The result is that of the definition for each payload with these positions and this size.
-    ensures exact { (payload : List ℕ) → length (contents_bytes payload) ≡ size
-        → contents_positions payload ≡ found
+    ensures exact { (payload : List ℕ) → length (contents_from_block_payload payload) ≡ size
+        → folder_and_file_positions_from_payload payload ≡ found
         → result ≡ position_or_size_fault payload (expected_of wanted.entry) }
     // Without a fault, the block has a file of the expected size.
     ensures size { result ≡ None → size ≡ wanted.entry.size }

@@ -2,7 +2,7 @@
 //! digests.
 
 ghost use Rattle.std.specs.Prelude.{◌≡◌, ℕ, List, [], ◌++◌};
-ghost use Rattle.pkg_core.specs.Contents.{hash_fault};
+ghost use Rattle.pkg_core.specs.Contents.{fault_if_digest_is_not_of_bytes};
 ghost use Rattle.pkg_core.specs.Hashing.{HasHashedMessage};
 
 use crate::checks::{sha1_fault, sha256_fault, sha512_fault};
@@ -27,7 +27,7 @@ pub enum Hasher {
 impl Hasher {
     /// A hasher before the first byte, whose digest will be compared with this one. The lengths are
     /// those of SHA-1, SHA-256 and SHA-512.
-    #[tactic(auto, unfolding(crate::specs::Contents::hash_fault))]
+    #[tactic(auto, unfolding(crate::specs::Contents::fault_if_digest_is_not_of_bytes))]
     pub fn new(hash: &[u8]) -> Hasher
         // The hasher has taken no bytes yet.
         ensures { HasHashedMessage result hash.now [] }
@@ -56,11 +56,11 @@ impl Hasher {
     }
 
     /// Why the bytes that were taken do not have the digest `hash`; None if they have it.
-    #[tactic(auto, unfolding(crate::specs::Contents::hash_fault))]
+    #[tactic(auto, unfolding(crate::specs::Contents::fault_if_digest_is_not_of_bytes))]
     pub fn fault(self, hash: &[u8]) -> Option<Cause>
         // The fault is that of `so_far`, all bytes that were taken.
         ensures { (so_far : List ℕ) → HasHashedMessage self hash.now so_far
-            → result ≡ hash_fault hash.now so_far }
+            → result ≡ fault_if_digest_is_not_of_bytes hash.now so_far }
     {
         match self {
             Hasher::Sha1(hasher) if hash.len() == 20 => sha1_fault(hash, hasher.finalize()),

@@ -76,10 +76,10 @@ pub struct Package<'a> {
 }
 
 impl<'a> Package<'a> {
-    ghost use Rattle.adb_schema.specs.SoundValues.{ObeysFieldRulesOfTable};
+    ghost use Rattle.adb_schema.specs.SoundValues.{ObeysTextAndNumberRulesOfTable};
     ghost use Rattle.adb_schema.specs.Views.{package_value};
     ghost use Rattle.pkg_core.specs.Opened.{opened_files, opened_payload, opened_value, IsNextFile};
-    ghost use Rattle.pkg_core.specs.Whole.{package_id};
+    ghost use Rattle.pkg_core.specs.Whole.{payload_sha256_of_package_file};
     ghost use Rattle.pkg_core.specs.Refusals.{IsFaultOf};
 
     /// Reads the values of a package, and tests them in this order: the file's header, its schema,
@@ -104,7 +104,7 @@ impl<'a> Package<'a> {
         // The payload is that of the package's first block.
         ensures payload { IfOk result (λ pkg. opened_payload pkg ≡ payload_in bytes.entry.now) }
         // The id of the package is the SHA-256 digest of its payload.
-        ensures id { IfOk result (λ pkg. sha256 (opened_payload pkg) ≡ package_id bytes.entry.now) }
+        ensures id { IfOk result (λ pkg. sha256 (opened_payload pkg) ≡ payload_sha256_of_package_file bytes.entry.now) }
         // The files that `next_file` will read are those of the package.
         ensures files { IfOk result (λ pkg. opened_files pkg
             ≡ files_read_from_package bytes.entry.now) }
@@ -124,7 +124,7 @@ impl<'a> Package<'a> {
     /// A law: each text and number of the package obeys the rule of its field. For example, the
     /// name of a folder is a path.
     pub fn values_keep_their_rules(&self)
-        ensures { ObeysFieldRulesOfTable Tables.Package (opened_value self.now) }
+        ensures { ObeysTextAndNumberRulesOfTable Tables.Package (opened_value self.now) }
     {
         // A law that the proof needs; it has no effect at run time.
         self.checked.values_keep_their_rules();

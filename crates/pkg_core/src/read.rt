@@ -6,7 +6,7 @@ ghost use Rattle.std.specs.Prelude.{◌≡◌, ◌≤◌, ◌+◌, ◌-◌, ℕ,
 ghost use Rattle.adb_block.specs.Framing.{next_block_result_at_offset};
 ghost use Rattle.adb_block.specs.Frames.{IsHeadPrefix, IsFrameOfBlockResult, head_len, raw_size};
 ghost use Rattle.adb_block.specs.Header.{schema_of_header};
-ghost use Rattle.adb_block.specs.Piece.{may_be_next_kind, padding_of};
+ghost use Rattle.adb_block.specs.BlockWithoutOffset.{may_be_next_kind, padding_of};
 ghost use Rattle.base_core.specs.Calls.{IfObservable};
 ghost use Rattle.base_core.specs.Read.{OnlyReads};
 ghost use Rattle.base_core.specs.Tree.{files_of};

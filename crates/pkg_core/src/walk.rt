@@ -8,12 +8,12 @@ ghost use Rattle.adb_schema.specs.Views.{file_value, package_value};
 ghost use Rattle.adb_schema.specs.adb_fields.ListValue.{list_value};
 ghost use Rattle.adb_schema.specs.adb_fields.Repeated.{list_of};
 ghost use Rattle.adb_schema.specs.Texts.{is_file_with_contents};
-ghost use Rattle.pkg_core.specs.Contents.{POSITIONS_LEN, expected_files_of_package, expected_files_of_folder, expected_files_of_folders, contents_bytes, contents_fault_for_expected_file, missing_contents_fault};
+ghost use Rattle.pkg_core.specs.Contents.{POSITIONS_LEN, expected_files_of_package, expected_files_of_folder, expected_files_of_folders, contents_from_block_payload, contents_fault_for_expected_file, missing_contents_fault};
 ghost use Rattle.pkg_core.specs.Opened.{expected_file_at, expected_of};
 
-use crate::checks::hash_fault;
+use crate::checks::fault_if_digest_is_not_of_bytes;
 use adb_block::{BlockKind, Blocks};
-use adb_schema::{DirInfo, FileInfo, List, PackageView, contents_positions};
+use adb_schema::{DirInfo, FileInfo, List, PackageView, folder_and_file_positions_from_payload};
 use base_core::Cause;
 
 /// A walk over the files of a package that have contents: its position, after this many folders,
@@ -259,7 +259,7 @@ impl<'a> Walk<'a> {
         let Some(wanted) = self.next() else {
             return Err(Cause::DataOrder {
                 expected: (0, 0),
-                found: contents_positions(payload),
+                found: folder_and_file_positions_from_payload(payload),
             });
         };
         match contents_fault_for_expected_file(payload, wanted) {
@@ -281,7 +281,7 @@ fn contents_fault_for_expected_file(payload: &[u8], wanted: Wanted<'_>) -> Optio
     ensures { result ≡ contents_fault_for_expected_file payload.now (expected_of wanted.entry) }
 {
     let expected = (wanted.folder, wanted.file);
-    let found = contents_positions(payload);
+    let found = folder_and_file_positions_from_payload(payload);
     if found != expected {
         return Some(Cause::DataOrder { expected, found });
     }
@@ -293,5 +293,5 @@ fn contents_fault_for_expected_file(payload: &[u8], wanted: Wanted<'_>) -> Optio
             found: size,
         });
     }
-    hash_fault(wanted.hash, bytes)
+    fault_if_digest_is_not_of_bytes(wanted.hash, bytes)
 }

@@ -9,7 +9,7 @@ use Rattle.base_core.proofs.Booleans.{both_second, both_first, or_weaker}
 use Rattle.dep_core.specs.Dependency.{Dependency}
 use Rattle.dep_core.specs.Meets.{constraint_accepts}
 use Rattle.option_ranks.specs.candidate_core.Candidates.{Candidate, Need, entry, named, is_eligible, is_met_by_provides_entry, meets_dependency, offers_name, need_name}
-use Rattle.option_ranks.specs.candidate_core.Rank.{SealedPool, candidate_at_passes, meets_at}
+use Rattle.option_ranks.specs.candidate_core.Rank.{SelectionProblem, candidate_at_passes, meets_at}
 use Rattle.option_ranks.specs.candidate_core.Options.{is_eligible_for_need, places_offering, places_passing_counted_from}
 
 any_weaker : (p q : Dependency → Bool) (xs : List Dependency) → ((x : Dependency) → p x ≡ true → q x ≡ true) → list_any p xs ≡ true → list_any q xs ≡ true
@@ -43,17 +43,17 @@ filter_places weak strong all n (c ∷ cs) to there =
       ]
     ]
 
-entry_places : (pool : SealedPool) (d : Dependency) → filter (λ k. candidate_at_passes pool (is_eligible_for_need pool (entry d)) k) (places_offering d.name pool.candidates) ≡ places_passing_counted_from 0 (is_eligible_for_need pool (entry d)) pool.candidates
+entry_places : (pool : SelectionProblem) (d : Dependency) → filter (λ k. candidate_at_passes pool (is_eligible_for_need pool (entry d)) k) (places_offering d.name pool.candidates) ≡ places_passing_counted_from 0 (is_eligible_for_need pool (entry d)) pool.candidates
 entry_places pool d =
     filter_places (offers_name d.name) (is_eligible_for_need pool (entry d)) (λ k. slice_get pool.candidates k) 0 pool.candidates
     (λ c h. meeting_offers d c (both_second (is_eligible pool.world c) (meets_dependency d c) h)) (λ k. ap (slice_get pool.candidates) (omega arith))
 
-named_places : (pool : SealedPool) (name : List ℕ) → filter (λ k. candidate_at_passes pool (is_eligible_for_need pool (named name)) k) (places_offering name pool.candidates) ≡ places_passing_counted_from 0 (is_eligible_for_need pool (named name)) pool.candidates
+named_places : (pool : SelectionProblem) (name : List ℕ) → filter (λ k. candidate_at_passes pool (is_eligible_for_need pool (named name)) k) (places_offering name pool.candidates) ≡ places_passing_counted_from 0 (is_eligible_for_need pool (named name)) pool.candidates
 named_places pool name =
     filter_places (offers_name name) (is_eligible_for_need pool (named name)) (λ k. slice_get pool.candidates k) 0 pool.candidates
     (λ c h. rw (both_second (is_eligible pool.world c) (bytes_eq name c.name) h) refl) (λ k. ap (slice_get pool.candidates) (omega arith))
 
-pub fitting_places : (pool : SealedPool) (need : Need) → filter (λ k. candidate_at_passes pool (is_eligible_for_need pool need) k) (places_offering (need_name need) pool.candidates) ≡ places_passing_counted_from 0 (is_eligible_for_need pool need) pool.candidates
+pub fitting_places : (pool : SelectionProblem) (need : Need) → filter (λ k. candidate_at_passes pool (is_eligible_for_need pool need) k) (places_offering (need_name need) pool.candidates) ≡ places_passing_counted_from 0 (is_eligible_for_need pool need) pool.candidates
 fitting_places pool (entry d) = entry_places pool d
 fitting_places pool (named name) = named_places pool name
 
@@ -62,6 +62,6 @@ at_weaker p q None to h = absurd (cc)
 at_weaker p q (Some c) to h = to c h
 
 -- what meets a need offers its name
-pub meeting_is_offered : (pool : SealedPool) (need : Need) (c : ℕ) → meets_at pool c need ≡ true → candidate_at_passes pool (offers_name (need_name need)) c ≡ true
+pub meeting_is_offered : (pool : SelectionProblem) (need : Need) (c : ℕ) → meets_at pool c need ≡ true → candidate_at_passes pool (offers_name (need_name need)) c ≡ true
 meeting_is_offered pool (entry d) c h = at_weaker (meets_dependency d) (offers_name d.name) (slice_get pool.candidates c) (λ k m. meeting_offers d k m) h
 meeting_is_offered pool (named name) c h = at_weaker (λ (k : Candidate). bytes_eq name k.name) (offers_name name) (slice_get pool.candidates c) (λ k m. rw m refl) h

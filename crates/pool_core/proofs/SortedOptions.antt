@@ -6,7 +6,7 @@ use Rattle.std.specs.List.Sorted.{IsPermutation, IsSortedBy, ties}
 use Rattle.std.specs.Cmp.{IsStrictWeakOrder}
 use Rattle.std.proofs.lemmas.Bool.{cases_eq, cases_Bool}
 use Rattle.std.proofs.lemmas.List.Sorted.{IsPermutation-sym, sorted_far}
-use Rattle.option_ranks.specs.candidate_core.Options.{AreDistinct, IsIn, IsSortedBestFirst, rank_order_of}
+use Rattle.option_ranks.specs.candidate_core.Options.{AreDistinct, IsIn, IsStrictlySortedBestFirst, rank_order_of}
 use Rattle.option_ranks.proofs.MovedMembers.{moved_filter, moved_member}
 use Rattle.option_ranks.proofs.candidate_core.OptionLists.{ranked_in, in_ranked}
 
@@ -84,7 +84,7 @@ module _ (better : ℕ → ℕ → Bool) (weak : IsStrictWeakOrder better) (chai
       let e : suc k + 1 ≡ suc (k + 1) = omega arith in
       subst (λ (n : ℕ). better (get_or (y ∷ ys) n d) (get_or ys k d) ≡ false) e h
 
-  pub sorted_ranked : (ys : List ℕ) → IsSortedBy better ys → AreDistinct ys → IsSortedBestFirst better ys
+  pub sorted_ranked : (ys : List ℕ) → IsSortedBy better ys → AreDistinct ys → IsStrictlySortedBestFirst better ys
   sorted_ranked [] up r = tt
   sorted_ranked (y ∷ ys) up r = (
     (λ d h. elim (one_of y d (λ e. r.0 (subst (λ (z : ℕ). IsIn z ys) (sym e) h))) [
@@ -94,7 +94,7 @@ module _ (better : ℕ → ℕ → Bool) (weak : IsStrictWeakOrder better) (chai
     sorted_ranked ys (tail_up y ys up) r.1,
   )
 
-  same_ranked : (xs ys : List ℕ) → IsSortedBestFirst better xs → IsSortedBestFirst better ys → ((c : ℕ) → (IsIn c xs → IsIn c ys) × (IsIn c ys → IsIn c xs)) → xs ≡ ys
+  same_ranked : (xs ys : List ℕ) → IsStrictlySortedBestFirst better xs → IsStrictlySortedBestFirst better ys → ((c : ℕ) → (IsIn c xs → IsIn c ys) × (IsIn c ys → IsIn c xs)) → xs ≡ ys
   same_ranked [] [] r s same = refl
   same_ranked [] (y ∷ ys) r s same = absurd ((same y).1 (inl refl))
   same_ranked (x ∷ xs) [] r s same = absurd ((same x).0 (inl refl))
@@ -110,7 +110,7 @@ module _ (better : ℕ → ℕ → Bool) (weak : IsStrictWeakOrder better) (chai
       cc
 
   -- places that stand apart, sorted, are their ranked list
-  pub sorted_is_ranked : (xs ys : List ℕ) → AreDistinct xs → IsSortedBy better ys → IsPermutation xs ys → IsSortedBestFirst better (rank_order_of better xs) → ys ≡ rank_order_of better xs
+  pub sorted_is_ranked : (xs ys : List ℕ) → AreDistinct xs → IsSortedBy better ys → IsPermutation xs ys → IsStrictlySortedBestFirst better (rank_order_of better xs) → ys ≡ rank_order_of better xs
   sorted_is_ranked xs ys r up moved is =
       let apart = apart_of ys (λ a. let few = once a xs r in omega (arith, few, moved_filter (ties better a) xs ys moved)) in
       same_ranked ys (rank_order_of better xs) (sorted_ranked ys up apart) is (λ c.

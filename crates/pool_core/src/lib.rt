@@ -23,7 +23,7 @@ pub use laws::{
 pub use option_ranks::{
     CandId, Candidate, Deps, Details, MOST_CANDIDATES, Need, NeedRef, Options, PackageDep,
     PackageMatches, Packages, PoolFault, RankedOption, RankedVersion, Upgrade, VersionKey, is_long,
-    is_same_id, rank_long_versions,
+    is_same_id_by_nonempty_prefix, rank_long_versions,
 };
 pub use pool::Pool;
 pub use sealed::Sealed;

@@ -250,7 +250,7 @@ fn bars(
     if !is_long(&entry.version) {
         return Ok(one.meets(entry));
     }
-    packages.meets_need(place, &NeedRef::Entry(entry), known)
+    packages.meets_dependency_or_has_package_name(place, &NeedRef::Entry(entry), known)
 }
 
 // Whether an entry of world pins the candidate's name to the candidate's tag: the entry has this

@@ -2,12 +2,12 @@
 //! The rules are in `docs/selection.md`, "What there is to choose from".
 ghost use Rattle.std.specs.Prelude.{◌≡◌, ◌≤◌, ◌<◌, ◌+◌, [], ◌++◌, length, true, None, Some, IfOk, OnOk, OnErr, IfErr, option_copied};
 ghost use Rattle.option_ranks.specs.adb_schema.Views.{index_value, info_value};
-ghost use Rattle.adb_view.specs.Values.{count_of, entries_in, entry_in};
+ghost use Rattle.adb_view.specs.Values.{count_of, entries_in, entry_at_index};
 ghost use Rattle.option_ranks.specs.candidate_core.declared.candidate_list.TheConstants.{MOST_CANDIDATES};
 ghost use Rattle.option_ranks.specs.candidate_core.Candidates.{candidate_of, candidates_of_index, with_installed_marked_or_added};
 ghost use Rattle.option_ranks.specs.candidate_core.CandidateList.{IsCandidateList};
 ghost use Rattle.option_ranks.specs.candidate_core.Packages.{candidates_of_packages};
-ghost use Rattle.option_ranks.specs.candidate_core.Rank.{sealed_pool_from_parts};
+ghost use Rattle.option_ranks.specs.candidate_core.Rank.{selection_problem_from_parts};
 ghost use Rattle.option_ranks.specs.candidate_core.Values.{IsPoolFault, names_upgraded_by};
 
 use crate::sealed::{Sealed, seal_list};
@@ -110,13 +110,13 @@ impl<'a> Pool<'a> {
         // the index of the field with the packages.
         ensures ok { OnOk result (self.new ≡ self.old
             ++ candidates_of_index repo (option_copied tag.entry)
-            (entries_in (entry_in (index_value index.entry) 1))) }
+            (entries_in (entry_at_index (index_value index.entry) 1))) }
         // The list has at most as many candidates as its limit allows.
         ensures fits { OnOk result (length self.new ≤ MOST_CANDIDATES) }
         // A refusal for too many candidates is right for the number of candidates that the list
         // would have.
         ensures fault { IfErr result (λ fault. IsPoolFault fault
-            (length self.old + count_of (entries_in (entry_in (index_value index.entry) 1)))) }
+            (length self.old + count_of (entries_in (entry_at_index (index_value index.entry) 1)))) }
         ensures err { OnErr result (self.new ≡ []) }
     {
         let mut list = self.take_list();
@@ -162,7 +162,7 @@ impl<'a> Pool<'a> {
     /// Joins the candidates to a world and to the names that a command upgrades.
     pub fn seal(self, world: &'a World, upgrade: Upgrade<'a>) -> Result<Sealed<'a>, AllocError>
         ensures { IfOk result (λ sealed. sealed
-            ≡ sealed_pool_from_parts self.entry world.entry.now (names_upgraded_by upgrade.entry)) }
+            ≡ selection_problem_from_parts self.entry world.entry.now (names_upgraded_by upgrade.entry)) }
     {
         let mut pool = self;
         let alloc = pool.alloc;

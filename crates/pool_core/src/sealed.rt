@@ -8,7 +8,7 @@ ghost use Rattle.option_ranks.specs.candidate_core.Candidates.{is_eligible_with_
 ghost use Rattle.option_ranks.specs.candidate_core.CandidateList.{IsCandidateList};
 ghost use Rattle.option_ranks.specs.candidate_core.Options.{is_eligible_for_need, places_offering, options_for, places_passing_counted_from};
 ghost use Rattle.option_ranks.specs.candidate_core.Packages.{candidates_of_packages};
-ghost use Rattle.option_ranks.specs.candidate_core.Rank.{candidate_at, candidate_at_passes, is_kept_installed, is_pinned, is_pinned_at, sealed_pool_from_parts};
+ghost use Rattle.option_ranks.specs.candidate_core.Rank.{candidate_at, candidate_at_passes, is_kept_installed, is_pinned, is_pinned_at, selection_problem_from_parts};
 ghost use Rattle.option_ranks.specs.Ranking.{IsRankingIn};
 ghost use Rattle.option_ranks.specs.candidate_core.Values.{candidate_value, names_upgraded_by, need_of_ref, need_of_owned};
 ghost use Rattle.pool_core.specs.PoolMatches.{AreMatchesInPool, AreMatchesOfPackages, places_fitting};
@@ -56,11 +56,11 @@ impl<'a> Model for Sealed<'a> {
     ghost use Rattle.option_ranks.specs.candidate_core.Candidates.{is_eligible_with_positive_install_if, is_eligible};
     ghost use Rattle.option_ranks.specs.candidate_core.Options.{places_passing_counted_from};
     ghost use Rattle.option_ranks.specs.candidate_core.Packages.{candidates_of_packages};
-    ghost use Rattle.option_ranks.specs.candidate_core.Rank.{SealedPool, is_kept_installed, is_pinned, sealed_pool_from_parts};
+    ghost use Rattle.option_ranks.specs.candidate_core.Rank.{SelectionProblem, is_kept_installed, is_pinned, selection_problem_from_parts};
     ghost use Rattle.option_ranks.specs.candidate_core.Table.{HasPlacesOfEachName};
     ghost use Rattle.option_ranks.specs.candidate_core.Values.{names_upgraded_by};
 
-    ghost Value = { SealedPool };
+    ghost Value = { SelectionProblem };
 
     // Pools with equal codes are equal (`Coded`).
     ghost coded = { Prim.hlevel (codes, plain_code) };
@@ -68,7 +68,7 @@ impl<'a> Model for Sealed<'a> {
     // The value has the candidates, world, and the names to upgrade; all other fields follow from
     // these.
     ghost view = { λ s.
-        sealed_pool_from_parts (candidates_of_packages s.packages) s.world.now
+        selection_problem_from_parts (candidates_of_packages s.packages) s.world.now
         (names_upgraded_by s.upgrade) };
 
     // The table, the marks and the list of install-ifs are those of the candidates under this
@@ -359,9 +359,9 @@ impl<'a> Sealed<'a> {
             return Ok(false);
         }
         if !need.has_long_version() {
-            return Ok(packages.get(place).meets_need(need));
+            return Ok(packages.get(place).meets_dependency_or_has_package_name(need));
         }
-        packages.meets_need(place, need, known)
+        packages.meets_dependency_or_has_package_name(place, need, known)
     }
 
     // Whether world pins the name of the candidate at a place to its tag.
@@ -415,7 +415,7 @@ pub(crate) fn seal_list<'a>(
     requires { IsCandidateList list }
     // The pool has these candidates, this world and these names to upgrade.
     ensures { IfOk result (λ sealed. sealed
-        ≡ sealed_pool_from_parts (candidates_of_packages list.entry.packages) world.entry.now
+        ≡ selection_problem_from_parts (candidates_of_packages list.entry.packages) world.entry.now
         (names_upgraded_by upgrade.entry)) }
 {
     let marks = marks_by_world(alloc, &list, world)?;

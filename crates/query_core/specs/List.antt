@@ -1,8 +1,8 @@
 -- What `list` prints (apk(8)). The rule is in `docs/commands.md`, "`list`".
 use Rattle.std.specs.Prelude.{ℕ, ◌==◌, Bool, not, ◌&&◌, ◌||◌, List, length}
 use Rattle.std.specs.List.{flat_map, list_any}
-use Rattle.adb_view.specs.FieldIndexes.{INFO_ARCH, INFO_LICENSE, INFO_ORIGIN}
-use Rattle.adb_view.specs.Values.{entry_in, text_in}
+use Rattle.adb_view.specs.FieldIndexes.{INFO_ARCH_INDEX, INFO_LICENSE_INDEX, INFO_ORIGIN_INDEX}
+use Rattle.adb_view.specs.Values.{entry_at_index, text_in}
 use Rattle.pool_core.specs.candidate_core.Candidates.{Candidate}
 use Rattle.command_core.specs.declared.operands.Operand.{Operand}
 use Rattle.report_core.specs.QueryReports.{list_line}
@@ -24,8 +24,8 @@ is_list_candidate patterns installed_only c =
 -- the line that `list` prints of a candidate
 abbrev pub list_line_of_candidate : Candidate → List ℕ
 list_line_of_candidate c =
-    list_line c.name (printed_version c.version) (text_in (entry_in c.info INFO_ARCH))
-    (text_in (entry_in c.info INFO_ORIGIN)) (text_in (entry_in c.info INFO_LICENSE)) c.installed
+    list_line c.name (printed_version c.version) (text_in (entry_at_index c.info INFO_ARCH_INDEX))
+    (text_in (entry_at_index c.info INFO_ORIGIN_INDEX)) (text_in (entry_at_index c.info INFO_LICENSE_INDEX)) c.installed
 
 -- what `list` prints: the lines of those candidates that the patterns and `installed_only` admit, in the order of
 -- queries

@@ -2,7 +2,7 @@
 //! rules are in `docs/commands.md`, "`list`", "`search`" and "`policy`".
 ghost use Rattle.pool_core.specs.candidate_core.Candidates.{Candidate};
 ghost use Rattle.pool_core.specs.candidate_core.Options.{IsIn};
-ghost use Rattle.pool_core.specs.candidate_core.Rank.{UpgradedNames, bytes_cmp, greater_version_first_cmp, sealed_pool_from_parts};
+ghost use Rattle.pool_core.specs.candidate_core.Rank.{UpgradedNames, bytes_cmp, greater_version_first_cmp, selection_problem_from_parts};
 ghost use Rattle.command_core.specs.Command.{CommandLine};
 ghost use Rattle.command_core.specs.declared.operands.Operand.{Operand};
 ghost use Rattle.dep_core.specs.Dependency.{Dependency};
@@ -130,6 +130,6 @@ pub fn policy_prints_each_version_once()
 pub fn world_changes_no_query()
     ensures { (command : CommandLine) (cs : List Candidate) (repositories : List Repository)
         (one other : List Dependency) (upgraded others : UpgradedNames) →
-        text_of_query command (sealed_pool_from_parts cs one upgraded) repositories
-        ≡ text_of_query command (sealed_pool_from_parts cs other others) repositories }
+        text_of_query command (selection_problem_from_parts cs one upgraded) repositories
+        ≡ text_of_query command (selection_problem_from_parts cs other others) repositories }
 {}

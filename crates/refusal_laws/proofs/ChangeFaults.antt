@@ -4,7 +4,7 @@ use Rattle.std.specs.Prelude.{if◌then◌else◌}
 use Rattle.std.proofs.lemmas.Bool.{and_parts}
 use Rattle.outcome.specs.adb_fields.FirstPair.{IsIn}
 use Rattle.adb_view.specs.Plain.{Plain}
-use Rattle.outcome.specs.adb_write.Canonical.{ByteAndValueCounts, counts_after_values, empty_layout, exceeds_a_limit, overflow_of, payload_or_overflow}
+use Rattle.outcome.specs.adb_write.Canonical.{ByteAndValueCounts, counts_after_values, empty_layout_counting_root, exceeds_a_limit, counts_at_first_overflow, payload_or_counts_at_overflow}
 use Rattle.base_core.specs.Files.{Files}
 use Rattle.outcome.specs.change_files.FileChange.{FileChange}
 use Rattle.outcome.specs.change_files.PlanLists.{first_reserved_added_path_in_byte_order}
@@ -35,14 +35,14 @@ use Rattle.refusal_laws.proofs.Paths.{contested_is, first_reserved_is}
 
 -- ---- limits
 
-pub too_large : (v : Plain) (counts : ByteAndValueCounts) → overflow_of v ≡ Some counts → IsTooLarge v counts.0 counts.1
-too_large v counts e = (e, (found_in exceeds_a_limit (counts_after_values v empty_layout) counts e).1)
+pub too_large : (v : Plain) (counts : ByteAndValueCounts) → counts_at_first_overflow v ≡ Some counts → IsTooLarge v counts.0 counts.1
+too_large v counts e = (e, (found_in exceeds_a_limit (counts_after_values v empty_layout_counting_root) counts e).1)
 
-database_err : (members : List Member) (flags : List Bool) (counts : ByteAndValueCounts) → database_of members flags ≡ Err counts → payload_or_overflow (database_value members flags) ≡ Err counts
+database_err : (members : List Member) (flags : List Bool) (counts : ByteAndValueCounts) → database_of members flags ≡ Err counts → payload_or_counts_at_overflow (database_value members flags) ≡ Err counts
 unfolding database_of
-database_err members flags counts e = by_written (payload_or_overflow (database_value members flags)) refl e
+database_err members flags counts e = by_written (payload_or_counts_at_overflow (database_value members flags)) refl e
   where
-    by_written : (w : Result (List ℕ) ByteAndValueCounts) → payload_or_overflow (database_value members flags) ≡ w → database_file_of_payload_unless_too_large w ≡ Err counts → payload_or_overflow (database_value members flags) ≡ Err counts
+    by_written : (w : Result (List ℕ) ByteAndValueCounts) → payload_or_counts_at_overflow (database_value members flags) ≡ w → database_file_of_payload_unless_too_large w ≡ Err counts → payload_or_counts_at_overflow (database_value members flags) ≡ Err counts
     by_written (Ok payload) is e = absurd (cc (e))
     by_written (Err first) is e = let same : first ≡ counts = cc in is ∙ ap (λ (c : ByteAndValueCounts). Err c) same
 
@@ -115,11 +115,11 @@ module _ (inputs : Inputs) (r : Replacement) (wishes : ChangeWishes) (files : Fi
   pub large_told : (refusal : Refusal) → change_done_unless_too_large inputs r wishes found files ≡ Err refusal → (bytes : ℕ) × (values : ℕ) × (ResultTooLarge bytes values ≡ refusal)
   large_told refusal e =
       elim (and_then_err (or_result_too_large (database_of change.members (owned_flags_of change.members))) (λ database.
-      unless_overflow (overflow_of (value_of_intent (intent_of_lists (intent_of_change inputs change files (database_and_world_after_change inputs database)).removals (intent_of_change inputs change files (database_and_world_after_change inputs database)).writes)))
+      unless_overflow (counts_at_first_overflow (value_of_intent (intent_of_lists (intent_of_change inputs change files (database_and_world_after_change inputs database)).removals (intent_of_change inputs change files (database_and_world_after_change inputs database)).writes)))
       (change_done inputs r wishes found files (database_and_world_after_change inputs database))) refusal e) [
         | inl first ↦ (let large = large_err (database_of change.members (owned_flags_of change.members)) refusal first in (large.0.0, large.0.1, large.2))
         | inr next ↦ (let intent : Plain = value_of_intent (intent_of_lists (intent_of_change inputs change files (database_and_world_after_change inputs next.0)).removals (intent_of_change inputs change files (database_and_world_after_change inputs next.0)).writes) in
-            let over = overflow_err (overflow_of intent) (change_done inputs r wishes found files (database_and_world_after_change inputs next.0)) refusal next.2 in
+            let over = overflow_err (counts_at_first_overflow intent) (change_done inputs r wishes found files (database_and_world_after_change inputs next.0)) refusal next.2 in
             (over.0.0, over.0.1, over.2))
       ]
 
@@ -129,14 +129,14 @@ module _ (inputs : Inputs) (r : Replacement) (wishes : ChangeWishes) (files : Fi
   large_fault : (refusal : Refusal) → change_done_unless_too_large inputs r wishes found files ≡ Err refusal → IsSo refusal
   large_fault refusal e =
       elim (and_then_err (or_result_too_large (database_of change.members (owned_flags_of change.members))) (λ database.
-      unless_overflow (overflow_of (value_of_intent (intent_of_lists (intent_of_change inputs change files (database_and_world_after_change inputs database)).removals (intent_of_change inputs change files (database_and_world_after_change inputs database)).writes)))
+      unless_overflow (counts_at_first_overflow (value_of_intent (intent_of_lists (intent_of_change inputs change files (database_and_world_after_change inputs database)).removals (intent_of_change inputs change files (database_and_world_after_change inputs database)).writes)))
       (change_done inputs r wishes found files (database_and_world_after_change inputs database))) refusal e) [
         | inl first ↦ (let large = large_err (database_of change.members (owned_flags_of change.members)) refusal first in
             result_fault large.0.0 large.0.1 refusal
             (inl (too_large (database_value change.members (owned_flags_of change.members)) large.0
             (payload_large (database_value change.members (owned_flags_of change.members)) large.0 (database_err change.members (owned_flags_of change.members) large.0 large.1)))) large.2)
         | inr next ↦ (let intent : Plain = value_of_intent (intent_of_lists (intent_of_change inputs change files (database_and_world_after_change inputs next.0)).removals (intent_of_change inputs change files (database_and_world_after_change inputs next.0)).writes) in
-            let over = overflow_err (overflow_of intent) (change_done inputs r wishes found files (database_and_world_after_change inputs next.0)) refusal next.2 in
+            let over = overflow_err (counts_at_first_overflow intent) (change_done inputs r wishes found files (database_and_world_after_change inputs next.0)) refusal next.2 in
             result_fault over.0.0 over.0.1 refusal
             (inr (record { database = next.0; fits = large_ok (database_of change.members (owned_flags_of change.members)) next.0 next.1; passes = too_large intent over.0 over.1 })) over.2)
       ]

@@ -14,7 +14,7 @@ use Rattle.outcome.specs.file_owners.Replaces.{package_version_text}
 use Rattle.outcome.specs.make_info.Reads.{Reads}
 use Rattle.outcome.specs.package_changes.Changes.{Replacement, change_of_name, is_candidate_named, names_before_and_selected, candidate_version_text}
 use Rattle.outcome.specs.pkg_core.Whole.{package_fault}
-use Rattle.outcome.specs.candidate_core.Candidates.{Candidate, is_same_id}
+use Rattle.outcome.specs.candidate_core.Candidates.{Candidate, is_same_id_by_nonempty_prefix}
 use Rattle.report_core.specs.Numbers.{HASHES_FIELD, NAME_FIELD, VERSION_FIELD}
 use Rattle.report_core.specs.Reports.{Change}
 use Rattle.report_core.specs.declared.refusal.Refusal.{Refusal}
@@ -45,9 +45,9 @@ module _ (c : Candidate) (pkg : AddedPackage) where
       else if not v then Err (differs c VERSION_FIELD (candidate_version_text c) (package_version_text pkg.value)) else Ok pkg
 
   pub different_err : (refusal : Refusal) → package_unless_other_than_candidate c pkg ≡ Err refusal → IsTold c pkg refusal
-  different_err refusal e = by_tests (is_same_id c.id pkg.id) refl (bytes_eq c.name (package_name pkg.value)) refl (bytes_eq (candidate_version_text c) (package_version_text pkg.value)) refl e
+  different_err refusal e = by_tests (is_same_id_by_nonempty_prefix c.id pkg.id) refl (bytes_eq c.name (package_name pkg.value)) refl (bytes_eq (candidate_version_text c) (package_version_text pkg.value)) refl e
     where
-      by_tests : (a : Bool) → is_same_id c.id pkg.id ≡ a → (b : Bool) → bytes_eq c.name (package_name pkg.value) ≡ b → (v : Bool) → bytes_eq (candidate_version_text c) (package_version_text pkg.value) ≡ v
+      by_tests : (a : Bool) → is_same_id_by_nonempty_prefix c.id pkg.id ≡ a → (b : Bool) → bytes_eq c.name (package_name pkg.value) ≡ b → (v : Bool) → bytes_eq (candidate_version_text c) (package_version_text pkg.value) ≡ v
           → by_fields a b v ≡ Err refusal → IsTold c pkg refusal
       by_tests false i b n v w e = (HASHES_FIELD, c.id, pkg.id, inl (refl, (refl, refl, i)), (let same : differs c HASHES_FIELD c.id pkg.id ≡ refusal = cc in same))
       by_tests true i false n v w e = (
@@ -66,11 +66,11 @@ module _ (c : Candidate) (pkg : AddedPackage) where
       )
       by_tests true i true n true w e = absurd (cc (e))
 
-  different_ok : (p : AddedPackage) → package_unless_other_than_candidate c pkg ≡ Ok p → (p ≡ pkg) × (is_same_id c.id pkg.id ≡ true) × (package_name pkg.value ≡ c.name) × (package_version_text pkg.value ≡ candidate_version_text c)
-  different_ok p e = by_tests (is_same_id c.id pkg.id) refl (bytes_eq c.name (package_name pkg.value)) refl (bytes_eq (candidate_version_text c) (package_version_text pkg.value)) refl e
+  different_ok : (p : AddedPackage) → package_unless_other_than_candidate c pkg ≡ Ok p → (p ≡ pkg) × (is_same_id_by_nonempty_prefix c.id pkg.id ≡ true) × (package_name pkg.value ≡ c.name) × (package_version_text pkg.value ≡ candidate_version_text c)
+  different_ok p e = by_tests (is_same_id_by_nonempty_prefix c.id pkg.id) refl (bytes_eq c.name (package_name pkg.value)) refl (bytes_eq (candidate_version_text c) (package_version_text pkg.value)) refl e
     where
-      by_tests : (a : Bool) → is_same_id c.id pkg.id ≡ a → (b : Bool) → bytes_eq c.name (package_name pkg.value) ≡ b → (v : Bool) → bytes_eq (candidate_version_text c) (package_version_text pkg.value) ≡ v
-          → by_fields a b v ≡ Ok p → (p ≡ pkg) × (is_same_id c.id pkg.id ≡ true) × (package_name pkg.value ≡ c.name) × (package_version_text pkg.value ≡ candidate_version_text c)
+      by_tests : (a : Bool) → is_same_id_by_nonempty_prefix c.id pkg.id ≡ a → (b : Bool) → bytes_eq c.name (package_name pkg.value) ≡ b → (v : Bool) → bytes_eq (candidate_version_text c) (package_version_text pkg.value) ≡ v
+          → by_fields a b v ≡ Ok p → (p ≡ pkg) × (is_same_id_by_nonempty_prefix c.id pkg.id ≡ true) × (package_name pkg.value ≡ c.name) × (package_version_text pkg.value ≡ candidate_version_text c)
       by_tests false i b n v w e = absurd (cc (e))
       by_tests true i false n v w e = absurd (cc (e))
       by_tests true i true n false w e = absurd (cc (e))

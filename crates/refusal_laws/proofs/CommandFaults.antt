@@ -19,7 +19,7 @@ use Rattle.outcome.specs.engine_core.Selecting.{pool_of_inputs, pool_of_command}
 use Rattle.outcome.specs.engine_core.Wishes.{place_of_first_unknown_operand, is_installed_name, is_name_in_world_or_installed, names_to_upgrade, unknown_operand_place, unless_unknown_operand, wishes_of}
 use Rattle.outcome.specs.make_info.Reads.{Reads}
 use Rattle.outcome.specs.path_clashes.Clash.{NamePair}
-use Rattle.outcome.specs.candidate_core.Rank.{SealedPool, UpgradedNames, sealed_pool_from_parts}
+use Rattle.outcome.specs.candidate_core.Rank.{SelectionProblem, UpgradedNames, selection_problem_from_parts}
 use Rattle.outcome.specs.candidate_core.declared.candidate_list.TheConstants.{MOST_CANDIDATES}
 use Rattle.report_core.specs.declared.refusal.Refusal.{Refusal}
 use Rattle.report_core.specs.declared.refusal.Refusal.TheVariants.{NotInstalled, TooMany, Unsatisfied}
@@ -34,7 +34,7 @@ use Rattle.refusal_laws.proofs.Lists.{and_then_err}
 abbrev pub kept_done : Result ChangeDone Refusal → Result ChangeDone Refusal
 kept_done r = r
 
-abbrev kept_pool : Result SealedPool Refusal → Result SealedPool Refusal
+abbrev kept_pool : Result SelectionProblem Refusal → Result SelectionProblem Refusal
 kept_pool r = r
 
 pub pool_fault : (inputs : Inputs) (upgraded : UpgradedNames) (refusal : Refusal) → root_pool inputs upgraded ≡ Err refusal → (count : ℕ) × AreTooManyAndCountIsLimitPlusOne inputs count × (TooMany count ≡ refusal)
@@ -42,7 +42,7 @@ unfolding root_pool
 pool_fault inputs upgraded refusal e = by_count (nat_lt MOST_CANDIDATES (length (candidates_of inputs))) refl e
   where
     by_count : (b : Bool) → nat_lt MOST_CANDIDATES (length (candidates_of inputs)) ≡ b
-        → kept_pool (if b then Err (TooMany (MOST_CANDIDATES + 1)) else Ok (sealed_pool_from_parts (candidates_of inputs) inputs.root.new_world upgraded)) ≡ Err refusal
+        → kept_pool (if b then Err (TooMany (MOST_CANDIDATES + 1)) else Ok (selection_problem_from_parts (candidates_of inputs) inputs.root.new_world upgraded)) ≡ Err refusal
         → (count : ℕ) × AreTooManyAndCountIsLimitPlusOne inputs count × (TooMany count ≡ refusal)
     by_count true more e = (MOST_CANDIDATES + 1, record { more = ltb-true MOST_CANDIDATES (length (candidates_of inputs)) more; told = refl }, (let same : TooMany (MOST_CANDIDATES + 1) ≡ refusal = cc in same))
     by_count false more e = absurd (cc (e))
@@ -73,13 +73,13 @@ module _ (command : CommandLine) (read : Reads) (chosen : Option (List ℕ)) (ch
   abbrev IsSo : Inputs → Refusal → Type 0
   IsSo inputs refusal = IsFaultOfSelection command inputs refusal
 
-  none_chosen : (inputs : Inputs) (pool : SealedPool) (o : Option (List ℕ)) (refusal : Refusal) → pool_of_inputs command inputs ≡ Ok pool → IsPreferredChoiceUnlessRefused (Ok pool) o → selected_from_pool_by_choice command inputs pool o ≡ Err refusal → IsSo inputs refusal
+  none_chosen : (inputs : Inputs) (pool : SelectionProblem) (o : Option (List ℕ)) (refusal : Refusal) → pool_of_inputs command inputs ≡ Ok pool → IsPreferredChoiceUnlessRefused (Ok pool) o → selected_from_pool_by_choice command inputs pool o ≡ Err refusal → IsSo inputs refusal
   none_chosen inputs pool None refusal is none e =
       let same : Unsatisfied ≡ refusal = cc in
       subst (IsSo inputs) same (record { pool = pool; is_pool = is; none = none })
   none_chosen inputs pool (Some trace) refusal is none e = absurd (cc (e))
 
-  place_fault : (inputs : Inputs) (pool : SealedPool) (o : Option ℕ) (refusal : Refusal) → pool_of_inputs command inputs ≡ Ok pool → IsPreferredChoiceUnlessRefused (Ok pool) chosen → unknown_operand_place command.applet inputs command.operands ≡ o
+  place_fault : (inputs : Inputs) (pool : SelectionProblem) (o : Option ℕ) (refusal : Refusal) → pool_of_inputs command inputs ≡ Ok pool → IsPreferredChoiceUnlessRefused (Ok pool) chosen → unknown_operand_place command.applet inputs command.operands ≡ o
       → unless_unknown_operand o (selected_from_pool_by_choice command inputs pool chosen) ≡ Err refusal → IsSo inputs refusal
   place_fault inputs pool None refusal is from known e = none_chosen inputs pool chosen refusal is from e
   place_fault inputs pool (Some place) refusal is from unknown e =
@@ -87,10 +87,10 @@ module _ (command : CommandLine) (read : Reads) (chosen : Option (List ℕ)) (ch
       let same : NotInstalled place ≡ refusal = cc in
       subst (IsSo inputs) same (record { operand = found.0; given = found.1; at = found.2; unknown = found.3 })
 
-  choice_of : (inputs : Inputs) (pool : SealedPool) → inputs_of command read ≡ Ok inputs → pool_of_inputs command inputs ≡ Ok pool → IsPreferredChoiceUnlessRefused (Ok pool) chosen
+  choice_of : (inputs : Inputs) (pool : SelectionProblem) → inputs_of command read ≡ Ok inputs → pool_of_inputs command inputs ≡ Ok pool → IsPreferredChoiceUnlessRefused (Ok pool) chosen
   choice_of inputs pool is has =
       let same : pool_of_command command read ≡ Ok pool = ap (λ (x : Result Inputs Refusal). and_then x (pool_of_inputs command)) is ∙ has in
-      subst (λ (x : Result SealedPool Refusal). IsPreferredChoiceUnlessRefused x chosen) same choice
+      subst (λ (x : Result SelectionProblem Refusal). IsPreferredChoiceUnlessRefused x chosen) same choice
 
   selection_fault : (inputs : Inputs) (refusal : Refusal) → inputs_of command read ≡ Ok inputs → selected_from_inputs_by_choice command chosen inputs ≡ Err refusal → IsSo inputs refusal
   selection_fault inputs refusal is e =

@@ -24,7 +24,7 @@ use Rattle.outcome.specs.make_info.Reads.{Reads}
 use Rattle.outcome.specs.package_changes.Changes.{Replacement, change_of_name, is_candidate_named, names_before_and_selected, candidate_version_text}
 use Rattle.outcome.proofs.path_clashes.PairOrder.{precedes_itself}
 use Rattle.outcome.specs.pkg_core.Whole.{package_fault}
-use Rattle.outcome.specs.candidate_core.Candidates.{Candidate, is_same_id}
+use Rattle.outcome.specs.candidate_core.Candidates.{Candidate, is_same_id_by_nonempty_prefix}
 use Rattle.report_core.specs.Reports.{Change}
 use Rattle.report_core.specs.declared.refusal.Refusal.{Refusal}
 use Rattle.report_core.specs.declared.refusal.Refusal.TheVariants.{PackageBad, PackageDiffers, PackageMissing, ScriptNeeded}
@@ -166,9 +166,9 @@ module _ (inputs : Inputs) (r : Replacement) (wishes : ChangeWishes) (read : Rea
   different_told name version file is field wanted found sound other = ap (λ o. package_unless_bad_or_different is.candidate o (package_in_file file)) sound ∙ by other
     where
       by : IsFirstOfIdNameVersionThatDiffers is.candidate (package_in_file file) field wanted found
-          → by_fields is.candidate (package_in_file file) (is_same_id is.candidate.id (package_in_file file).id) (bytes_eq is.candidate.name (package_name (package_in_file file).value)) (bytes_eq (candidate_version_text is.candidate) (package_version_text (package_in_file file).value)) ≡ Err (PackageDiffers name version field wanted found)
+          → by_fields is.candidate (package_in_file file) (is_same_id_by_nonempty_prefix is.candidate.id (package_in_file file).id) (bytes_eq is.candidate.name (package_name (package_in_file file).value)) (bytes_eq (candidate_version_text is.candidate) (package_version_text (package_in_file file).value)) ≡ Err (PackageDiffers name version field wanted found)
       by (inl (field_is, (wanted_is, found_is, off))) =
-          ap (λ a. by_fields is.candidate (package_in_file file) a (bytes_eq is.candidate.name (package_name (package_in_file file).value)) (bytes_eq (candidate_version_text is.candidate) (package_version_text (package_in_file file).value))) ((λ i. is_same_id (sym wanted_is i) (sym found_is i)) ∙ off)
+          ap (λ a. by_fields is.candidate (package_in_file file) a (bytes_eq is.candidate.name (package_name (package_in_file file).value)) (bytes_eq (candidate_version_text is.candidate) (package_version_text (package_in_file file).value))) ((λ i. is_same_id_by_nonempty_prefix (sym wanted_is i) (sym found_is i)) ∙ off)
           ∙ (λ i. Err (PackageDiffers (named name version (Some file) is i) (is.has_version i) (sym field_is i) (sym wanted_is i) (sym found_is i)))
       by (inr (inl (field_is, same_id, (wanted_is, found_is, differ)))) =
           (λ i. by_fields is.candidate (package_in_file file) (same_id i) (apart_bytes is.candidate.name (package_name (package_in_file file).value) wanted found wanted_is found_is differ i) (bytes_eq (candidate_version_text is.candidate) (package_version_text (package_in_file file).value)))

@@ -17,7 +17,7 @@ use Rattle.outcome.specs.db_core.Packages.{is_package_named}
 use Rattle.outcome.specs.make_info.Reads.{Reads}
 use Rattle.outcome.specs.package_changes.Changes.{Replacement, change_of_name, is_candidate_named, names_before_and_selected}
 use Rattle.outcome.specs.pkg_core.Whole.{package_fault}
-use Rattle.outcome.specs.candidate_core.Candidates.{Candidate, is_same_id}
+use Rattle.outcome.specs.candidate_core.Candidates.{Candidate, is_same_id_by_nonempty_prefix}
 use Rattle.report_core.specs.Reports.{Change}
 use Rattle.report_core.specs.declared.refusal.Refusal.{Refusal}
 use Rattle.report_core.specs.declared.refusal.Refusal.TheVariants.{PackageBad, PackageDiffers, PackageMissing, ScriptNeeded}
@@ -38,7 +38,7 @@ member_name_at_place (x ∷ xs) q (inr more) = let other = member_name_at_place 
 
 not_other : (c : Candidate) (file : List ℕ) (field : ℕ) (wanted found : List ℕ) → IsSoundFileWithIdNameAndVersionOf c file → IsFirstOfIdNameVersionThatDiffers c (package_in_file file) field wanted found → ⊥
 not_other c file field wanted found agrees (inl other) =
-    true≢false (sym agrees.id ∙ (ap (λ w. is_same_id w (package_in_file file).id) (sym other.1.0) ∙ (ap (is_same_id wanted) (sym other.1.1) ∙ other.1.2)))
+    true≢false (sym agrees.id ∙ (ap (λ w. is_same_id_by_nonempty_prefix w (package_in_file file).id) (sym other.1.0) ∙ (ap (is_same_id_by_nonempty_prefix wanted) (sym other.1.1) ∙ other.1.2)))
 not_other c file field wanted found agrees (inr (inl other)) = other.2.2 (other.2.0 ∙ (sym agrees.name ∙ sym other.2.1))
 not_other c file field wanted found agrees (inr (inr other)) = other.3.2 (other.3.0 ∙ (sym agrees.version ∙ sym other.3.1))
 

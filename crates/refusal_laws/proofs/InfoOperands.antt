@@ -9,7 +9,7 @@ use Rattle.command_core.specs.Command.{CommandLine}
 use Rattle.command_core.specs.declared.command.Flags.{Flags}
 use Rattle.command_core.specs.declared.operands.Operand.{Operand}
 use Rattle.outcome.specs.db_core.Packages.{is_package_named, lists_path}
-use Rattle.dep_core.specs.LeadingSlash.{without_slash}
+use Rattle.dep_core.specs.LeadingSlash.{without_leading_slash}
 use Rattle.report_core.specs.declared.refusal.Refusal.{Refusal}
 use Rattle.report_core.specs.declared.refusal.Refusal.TheVariants.{NotInstalled}
 use Rattle.outcome.specs.installed_info.Form.{info_form_of_flags}
@@ -42,16 +42,16 @@ lists path pkg e =
 is_listed : (path : List ℕ) (pkg : Plain) → IsIn path (paths_of_package_files pkg) → lists_path path pkg ≡ true
 is_listed path pkg here = in_any (bytes_eq path) (paths_of_package_files pkg) path here ((bytes_eq-Decides path path).1 refl)
 
-owner_there : (packages : List Plain) (path : List ℕ) → is_some (path_owner packages (without_slash path)) ≡ true → IsThere true packages path
+owner_there : (packages : List Plain) (path : List ℕ) → is_some (path_owner packages (without_leading_slash path)) ≡ true → IsThere true packages path
 owner_there packages path e =
-    let some = some_is (path_owner packages (without_slash path)) e in
-    let found = found_in (lists_path (without_slash path)) packages some.0 some.1 in
-    (some.0, found.0, lists (without_slash path) some.0 found.1)
+    let some = some_is (path_owner packages (without_leading_slash path)) e in
+    let found = found_in (lists_path (without_leading_slash path)) packages some.0 some.1 in
+    (some.0, found.0, lists (without_leading_slash path) some.0 found.1)
 
-no_owner_there : (packages : List Plain) (path : List ℕ) → is_some (path_owner packages (without_slash path)) ≡ false → ¬ IsThere true packages path
+no_owner_there : (packages : List Plain) (path : List ℕ) → is_some (path_owner packages (without_leading_slash path)) ≡ false → ¬ IsThere true packages path
 no_owner_there packages path e there =
-    let none = none_found (lists_path (without_slash path)) packages there.0 (none_is (path_owner packages (without_slash path)) e) there.1 in
-    true≢false (sym (is_listed (without_slash path) there.0 there.2) ∙ none)
+    let none = none_found (lists_path (without_leading_slash path)) packages there.0 (none_is (path_owner packages (without_leading_slash path)) e) there.1 in
+    true≢false (sym (is_listed (without_leading_slash path) there.0 there.2) ∙ none)
 
 pub named_there : (packages : List Plain) (name : List ℕ) → is_some (package_named packages name) ≡ true → IsThere false packages name
 named_there packages name e =

@@ -3,9 +3,9 @@ use Rattle.command_core.specs.declared.values.TheConstants.{FILES, SCRIPT, TRIGG
 use Rattle.std.proofs.Common.{◌≡◌, ◌⊎◌, inl, inr, ◌∙◌, ℕ, ◌+◌, List, [], ◌∷◌, length, Option, Some, None, Result, Ok, Err, refl, ap}
 use Rattle.outcome.specs.adb_sound.Container.{package_with_contents_from_parts}
 use Rattle.adb_view.specs.Plain.{Plain}
-use Rattle.outcome.specs.adb_write.Canonical.{ByteAndValueCounts, overflow_of}
+use Rattle.outcome.specs.adb_write.Canonical.{ByteAndValueCounts, counts_at_first_overflow}
 use Rattle.command_core.specs.Command.{CommandLine}
-use Rattle.command_core.specs.Files.{without_dot_slash}
+use Rattle.command_core.specs.Files.{without_one_leading_dot_slash}
 use Rattle.command_core.specs.Values.{script_file, script_type}
 use Rattle.command_core.specs.declared.values.OptionValue.{OptionValue}
 use Rattle.outcome.specs.make_core.ReadBack.{packed_of_parts, package_with_contents_of_command}
@@ -50,7 +50,7 @@ module _ (bytes values : ℕ) where
   found_never place (Some b) next e = cc (e)
 
   script_never : (read : Reads) (n : ℕ) (v : OptionValue) → IsNever (script_at read n v)
-  script_never read n v e = found_never v.place (read n (without_dot_slash (script_file v.text))) (λ b. script_with (script_type v.text) b) e
+  script_never read n v e = found_never v.place (read n (without_one_leading_dot_slash (script_file v.text))) (λ b. script_with (script_type v.text) b) e
 
   folder_never : (place : ℕ) (read : Reads) (n : ℕ) (folder : FolderListing) → IsNever (source_folder_at_place_by_read place read n folder)
   folder_never place read n folder e =
@@ -68,7 +68,7 @@ module _ (bytes values : ℕ) where
   folders_never : (read : Reads) (n : ℕ) (vs : List OptionValue) (names : List (List ℕ)) → IsNever (source_folders_of_first_option_only read n vs names)
   folders_never read n [] names e = cc (e)
   folders_never read n (v ∷ vs) names e =
-      each_never (λ (folder : FolderListing). length folder.files) (source_folder_at_place_by_read v.place read) (folder_never v.place read) n (folder_listings_by_tree_names (without_dot_slash v.text) names) e
+      each_never (λ (folder : FolderListing). length folder.files) (source_folder_at_place_by_read v.place read) (folder_never v.place read) n (folder_listings_by_tree_names (without_one_leading_dot_slash v.text) names) e
 
   info_never : (r : Result (List FieldWithValue) ℕ) → IsNever (or_info_bad r)
   info_never (Ok items) e = cc (e)
@@ -84,9 +84,9 @@ module _ (bytes values : ℕ) where
       let second : counts.1 ≡ values = cc in
       λ j. Some (first j, second j)
 
-  container_counts : (v : Plain) (contents : List Contents) → package_container v contents ≡ Err (TooLarge bytes values) → overflow_of v ≡ Some (bytes, values)
+  container_counts : (v : Plain) (contents : List Contents) → package_container v contents ≡ Err (TooLarge bytes values) → counts_at_first_overflow v ≡ Some (bytes, values)
   unfolding package_container
-  container_counts v contents e = counts_of (overflow_of v) v contents e
+  container_counts v contents e = counts_of (counts_at_first_overflow v) v contents e
 
   pub made_too_large : (command : CommandLine) (names : List (List ℕ)) (read : Reads) → made_package command names read ≡ Err (TooLarge bytes values) → IsPackageToBeMadeTooLarge command names read bytes values
   unfolding made_package

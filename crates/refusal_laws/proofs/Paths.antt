@@ -25,7 +25,7 @@ use Rattle.base_core.proofs.Sorting.{Each, Rises, ranks, rises_in_order}
 use Rattle.base_core.proofs.Numbers.{same_number}
 use Rattle.outcome.proofs.own_core.Listings.{IsPlaced, each_placed}
 use Rattle.outcome.proofs.own_core.NamesOnce.{not_below}
-use Rattle.outcome.specs.path_claims.Claims.{ContestedPath, claimants, path_with_rivals_of_first_claimant, first_contested_path, first_path_without_owner, is_claim_of_path, owner_among}
+use Rattle.outcome.specs.path_claims.Claims.{ContestedPath, claimants, path_with_rivals_of_first_claimant, first_contested_path_in_byte_order, first_path_without_owner_in_byte_order, is_claim_of_path, owner_among}
 use Rattle.outcome.specs.path_claims.Contest.{are_all_others_beaten_by, first_with_unbeaten_rival, rivals_of, member_beating_all_others}
 use Rattle.outcome.specs.path_claims.declared.contest.Rivals.{Rivals}
 use Rattle.refusal_laws.specs.ChangeFaults.{IsFirstContestedPath, IsFirstReservedAddedPath}
@@ -185,7 +185,7 @@ module _ (members : List Member) where
           ]) in
           absurd (true≢false (sym each ∙ none_found (are_all_others_beaten_by (member_beats members) ms) ms x unowned here))
 
-  contested_rivals : (path : List ℕ) (rivals : Rivals) → first_path_without_owner (member_beats members) (claims_in members) ≡ Some path → first_with_unbeaten_rival (member_beats members) (claimants (claims_in members) path) ≡ Some rivals
+  contested_rivals : (path : List ℕ) (rivals : Rivals) → first_path_without_owner_in_byte_order (member_beats members) (claims_in members) ≡ Some path → first_with_unbeaten_rival (member_beats members) (claimants (claims_in members) path) ≡ Some rivals
       → IsFirstContestedPath members path (member_name_at_place members rivals.first) (member_name_at_place members rivals.second)
   unfolding claims_in
   contested_rivals path rivals found e =
@@ -250,10 +250,10 @@ module _ (members : List Member) where
   owned_where path e = owned_or_not path (λ t. true≢false (sym t ∙ e))
 
   pub have_owners : first_contested_member_path_in_byte_order members ≡ None → EachListedPathHasOwner members
-  unfolding first_contested_member_path_in_byte_order first_contested_path claims_in
-  have_owners e l here = by_path (first_path_without_owner (member_beats members) (claims_in members)) refl e
+  unfolding first_contested_member_path_in_byte_order first_contested_path_in_byte_order claims_in
+  have_owners e l here = by_path (first_path_without_owner_in_byte_order (member_beats members) (claims_in members)) refl e
     where
-      by_path : (o : Option (List ℕ)) → first_path_without_owner (member_beats members) (claims_in members) ≡ o → option_and_then (path_with_rivals_of_first_claimant (member_beats members) (claims_in members)) o ≡ None → is_some (owner_of_path members l.path) ≡ true
+      by_path : (o : Option (List ℕ)) → first_path_without_owner_in_byte_order (member_beats members) (claims_in members) ≡ o → option_and_then (path_with_rivals_of_first_claimant (member_beats members) (claims_in members)) o ≡ None → is_some (owner_of_path members l.path) ≡ true
       by_path None is e =
           let paths : List (List ℕ) = map (λ c. c.path) (claims_in members) in
           let sorted : Names.IsIn l.path (sorted_by bytes_cmp paths) = in_sorted l.path paths (listing_claimed 0 (listings_of_members members) l here) in
@@ -271,17 +271,17 @@ module _ (members : List Member) where
           no_rivals (Some rivals) e = absurd (cc (e))
 
   pub contested_is : (c : ContestedPath) → first_contested_member_path_in_byte_order members ≡ Some c → IsFirstContestedPath members c.path (member_name_at_place members c.rivals.first) (member_name_at_place members c.rivals.second)
-  unfolding first_contested_member_path_in_byte_order first_contested_path
-  contested_is c e = by_path (first_path_without_owner (member_beats members) (claims_in members)) refl e
+  unfolding first_contested_member_path_in_byte_order first_contested_path_in_byte_order
+  contested_is c e = by_path (first_path_without_owner_in_byte_order (member_beats members) (claims_in members)) refl e
     where
-      by_rivals : (path : List ℕ) → first_path_without_owner (member_beats members) (claims_in members) ≡ Some path → (o : Option Rivals) → first_with_unbeaten_rival (member_beats members) (claimants (claims_in members) path) ≡ o
+      by_rivals : (path : List ℕ) → first_path_without_owner_in_byte_order (member_beats members) (claims_in members) ≡ Some path → (o : Option Rivals) → first_with_unbeaten_rival (member_beats members) (claimants (claims_in members) path) ≡ o
           → option_map (λ rivals. record { path = path; rivals = rivals }) o ≡ Some c → IsFirstContestedPath members c.path (member_name_at_place members c.rivals.first) (member_name_at_place members c.rivals.second)
       by_rivals path found None is e = absurd (cc (e))
       by_rivals path found (Some rivals) is e =
           let same : record { path = path; rivals = rivals } ≡ c = cc in
           subst (λ (d : ContestedPath). IsFirstContestedPath members d.path (member_name_at_place members d.rivals.first) (member_name_at_place members d.rivals.second)) same (contested_rivals path rivals found is)
 
-      by_path : (o : Option (List ℕ)) → first_path_without_owner (member_beats members) (claims_in members) ≡ o → option_and_then (path_with_rivals_of_first_claimant (member_beats members) (claims_in members)) o ≡ Some c
+      by_path : (o : Option (List ℕ)) → first_path_without_owner_in_byte_order (member_beats members) (claims_in members) ≡ o → option_and_then (path_with_rivals_of_first_claimant (member_beats members) (claims_in members)) o ≡ Some c
           → IsFirstContestedPath members c.path (member_name_at_place members c.rivals.first) (member_name_at_place members c.rivals.second)
       by_path None is e = absurd (cc (e))
       by_path (Some path) is e = by_rivals path is (first_with_unbeaten_rival (member_beats members) (claimants (claims_in members) path)) refl e

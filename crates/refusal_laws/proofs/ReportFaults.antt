@@ -5,7 +5,7 @@ use Rattle.outcome.specs.adb_fields.FirstPair.{IsIn}
 use Rattle.outcome.specs.adb_fields.Repeated.{package_name}
 use Rattle.adb_view.specs.Plain.{Plain}
 use Rattle.outcome.specs.audit_core.Manifest.{manifest_of, manifest_with_package_of_operand, package_named_by_operand, package_manifest, manifest_with_lines_before}
-use Rattle.outcome.specs.candidate_core.Rank.{SealedPool, no_names}
+use Rattle.outcome.specs.candidate_core.Rank.{SelectionProblem, no_names}
 use Rattle.outcome.specs.change_inputs.Candidates.{root_pool}
 use Rattle.outcome.specs.change_inputs.Database.{Database}
 use Rattle.outcome.specs.change_inputs.Inputs.{Inputs, database_for, database_read_number, inputs_of, text_database_read_number}
@@ -131,7 +131,7 @@ module _ (command : CommandLine) (read : Reads) where
 
   too_many : (inputs : Inputs) (refusal : Refusal) → inputs_of command read ≡ Ok inputs → query_report_or_refusal command inputs ≡ Err refusal → HasTooManyCandidates command read refusal
   too_many inputs refusal are e =
-      elim (and_then_err (root_pool inputs no_names) (λ (pool : SealedPool). Ok (report_and_refusal (text_of_query command pool inputs.root.repositories) None)) refusal e) [
+      elim (and_then_err (root_pool inputs no_names) (λ (pool : SelectionProblem). Ok (report_and_refusal (text_of_query command pool inputs.root.repositories) None)) refusal e) [
         | inl first ↦ (let fault = pool_fault inputs no_names refusal first in record { inputs = inputs; are_inputs = are; count = fault.0; too_many = fault.1; is = sym fault.2 })
         | inr next ↦ absurd (no_refusal _ refusal next.2)
       ]

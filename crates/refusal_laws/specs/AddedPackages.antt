@@ -11,7 +11,7 @@ use Rattle.outcome.specs.file_owners.Replaces.{package_version_text}
 use Rattle.outcome.specs.make_info.Reads.{Reads}
 use Rattle.outcome.specs.package_changes.Changes.{Replacement, change_of_name, is_candidate_named, names_before_and_selected, candidate_version_text}
 use Rattle.outcome.specs.pkg_core.Whole.{package_fault}
-use Rattle.outcome.specs.candidate_core.Candidates.{Candidate, is_same_id}
+use Rattle.outcome.specs.candidate_core.Candidates.{Candidate, is_same_id_by_nonempty_prefix}
 use Rattle.report_core.specs.Reports.{Change}
 
 -- the selected candidate of a name, if there is one
@@ -51,7 +51,7 @@ pub record IsSoundFileWithIdNameAndVersionOf (c : Candidate) (file : List ℕ) :
   -- the file passes all tests
   pub sound : package_fault file ≡ None
   -- the package in the file has the candidate's id
-  pub id : is_same_id c.id (package_in_file file).id ≡ true
+  pub id : is_same_id_by_nonempty_prefix c.id (package_in_file file).id ≡ true
   -- the package in the file has the candidate's name
   pub name : package_name (package_in_file file).value ≡ c.name
   -- the package in the file has the text of the candidate's version

@@ -4,7 +4,7 @@ use Rattle.std.specs.Prelude.{◌≡◌, ◌⊎◌, ℕ, true, false, List, Some
 use Rattle.outcome.specs.adb_fields.FirstPair.{IsIn}
 use Rattle.outcome.specs.adb_schema.Reserved.{is_reserved}
 use Rattle.adb_view.specs.Plain.{Plain}
-use Rattle.outcome.specs.adb_write.Canonical.{exceeds_a_limit, overflow_of}
+use Rattle.outcome.specs.adb_write.Canonical.{exceeds_a_limit, counts_at_first_overflow}
 use Rattle.base_core.specs.Files.{Files}
 use Rattle.outcome.specs.change_files.FileChange.{FileChange}
 use Rattle.outcome.specs.change_files.NamesAfter.{added_paths, name_change}
@@ -106,7 +106,7 @@ pub record IsTriggerDueAndNotSkipped (wishes : ChangeWishes) (change : FileChang
 -- the payload of a value exceeds a limit of the writer, first at these numbers of bytes and values
 abbrev pub IsTooLarge : Plain → ℕ → ℕ → Type 0
 IsTooLarge v bytes values =
-    (overflow_of v ≡ Some (bytes, values)) × (exceeds_a_limit (bytes, values) ≡ true)
+    (counts_at_first_overflow v ≡ Some (bytes, values)) × (exceeds_a_limit (bytes, values) ≡ true)
 
 -- the database after the change, with these members, exceeds a limit of the writer at these numbers of bytes and values
 abbrev pub IsDatabaseTooLarge : List Member → ℕ → ℕ → Type 0

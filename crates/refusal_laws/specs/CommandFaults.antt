@@ -13,7 +13,7 @@ use Rattle.outcome.specs.engine_core.Changed.{InputsAndReplacement, selected_fro
 use Rattle.outcome.specs.engine_core.Selecting.{pool_of_inputs}
 use Rattle.outcome.specs.engine_core.Wishes.{is_installed_name, wishes_of}
 use Rattle.outcome.specs.make_info.Reads.{Reads}
-use Rattle.outcome.specs.candidate_core.Rank.{SealedPool}
+use Rattle.outcome.specs.candidate_core.Rank.{SelectionProblem}
 use Rattle.report_core.specs.declared.refusal.Refusal.{Refusal}
 use Rattle.report_core.specs.declared.refusal.Refusal.TheVariants.{NotInstalled, TooMany, Unsatisfied}
 use Rattle.outcome.specs.search_tables.Selection.{IsSatisfying}
@@ -44,7 +44,7 @@ pub record IsUnknownOperand (command : CommandLine) (inputs : Inputs) (place : �
 -- no selection of the candidates satisfies the new world
 pub record IsNewWorldUnsatisfiable (command : CommandLine) (inputs : Inputs) : Type 0 where
   -- the candidates of the command, under its new world
-  pub pool : SealedPool
+  pub pool : SelectionProblem
   pub is_pool : pool_of_inputs command inputs ≡ Ok pool
   -- no selection of these candidates satisfies the new world
   pub none : (selection : List ℕ) → IsSatisfying pool selection → ⊥

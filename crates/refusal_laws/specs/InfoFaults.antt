@@ -8,7 +8,7 @@ use Rattle.outcome.specs.change_inputs.Database.{Database}
 use Rattle.outcome.specs.change_inputs.Inputs.{database_for}
 use Rattle.command_core.specs.Command.{CommandLine}
 use Rattle.command_core.specs.declared.operands.Operand.{Operand}
-use Rattle.dep_core.specs.LeadingSlash.{without_slash}
+use Rattle.dep_core.specs.LeadingSlash.{without_leading_slash}
 use Rattle.outcome.specs.make_info.Reads.{Reads}
 use Rattle.report_core.specs.declared.refusal.Refusal.{Refusal}
 use Rattle.report_core.specs.declared.refusal.Refusal.TheVariants.{DatabaseBad, NoDatabase, NotInstalled, ResultTooLarge}
@@ -31,7 +31,7 @@ IsFaultOfDatabase command read other = ⊥
 -- a text asks for this package: with `--who-owns` (true) the package lists the path, of which one leading `/` is
 -- dropped; otherwise it has the name
 abbrev pub IsPackageAskedFor : Bool → List ℕ → Plain → Type 0
-IsPackageAskedFor true path pkg = IsIn (without_slash path) (paths_of_package_files pkg)
+IsPackageAskedFor true path pkg = IsIn (without_leading_slash path) (paths_of_package_files pkg)
 IsPackageAskedFor false name pkg = package_name pkg ≡ name
 
 -- what the text of an operand asks for is among these installed packages

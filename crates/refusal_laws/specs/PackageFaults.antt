@@ -15,7 +15,7 @@ use Rattle.outcome.specs.file_owners.Replaces.{package_version_text}
 use Rattle.outcome.specs.make_info.Reads.{Reads}
 use Rattle.outcome.specs.package_changes.Changes.{Replacement, change_of_name, candidate_version_text}
 use Rattle.outcome.specs.pkg_core.Whole.{package_fault}
-use Rattle.outcome.specs.candidate_core.Candidates.{Candidate, is_same_id}
+use Rattle.outcome.specs.candidate_core.Candidates.{Candidate, is_same_id_by_nonempty_prefix}
 use Rattle.report_core.specs.Numbers.{HASHES_FIELD, NAME_FIELD, VERSION_FIELD}
 use Rattle.report_core.specs.Reports.{Change}
 use Rattle.refusal_laws.specs.AddedPackages.{IsAddedAsSelected, IsFileReadForAddedPackage, selected_candidate_of_name}
@@ -41,7 +41,7 @@ pub record IsAddedPackageFileBad (inputs : Inputs) (r : Replacement) (read : Rea
 -- the id of the candidate (`wanted`, from the index) and that of the package in the file (`found`) differ
 abbrev pub HasOtherId : Candidate → AddedPackage → List ℕ → List ℕ → Type 0
 HasOtherId c pkg wanted found =
-    (wanted ≡ c.id) × (found ≡ pkg.id) × (is_same_id wanted found ≡ false)
+    (wanted ≡ c.id) × (found ≡ pkg.id) × (is_same_id_by_nonempty_prefix wanted found ≡ false)
 
 -- the name of the candidate (`wanted`, from the index) and that of the package in the file (`found`) differ
 abbrev pub HasOtherName : Candidate → AddedPackage → List ℕ → List ℕ → Type 0
@@ -58,8 +58,8 @@ HasOtherVersion c pkg wanted found =
 abbrev pub IsFirstOfIdNameVersionThatDiffers : Candidate → AddedPackage → ℕ → List ℕ → List ℕ → Type 0
 IsFirstOfIdNameVersionThatDiffers c pkg field wanted found =
     ((field ≡ HASHES_FIELD) × HasOtherId c pkg wanted found)
-    ⊎ (((field ≡ NAME_FIELD) × (is_same_id c.id pkg.id ≡ true) × HasOtherName c pkg wanted found)
-    ⊎ ((field ≡ VERSION_FIELD) × (is_same_id c.id pkg.id ≡ true) × (c.name ≡ package_name pkg.value)
+    ⊎ (((field ≡ NAME_FIELD) × (is_same_id_by_nonempty_prefix c.id pkg.id ≡ true) × HasOtherName c pkg wanted found)
+    ⊎ ((field ≡ VERSION_FIELD) × (is_same_id_by_nonempty_prefix c.id pkg.id ≡ true) × (c.name ≡ package_name pkg.value)
     × HasOtherVersion c pkg wanted found))
 
 -- the file of an added package passes all tests, and the package in it is not the one that the index lists: `field` is

@@ -10,7 +10,7 @@ use Rattle.outcome.specs.engine_core.Selecting.{pool_of_command}
 use Rattle.outcome.specs.engine_core.Wishes.{wishes_of}
 use Rattle.outcome.specs.Commands.{reads_in}
 use Rattle.outcome.specs.package_changes.Placed.{candidates_at}
-use Rattle.outcome.specs.candidate_core.Rank.{SealedPool}
+use Rattle.outcome.specs.candidate_core.Rank.{SelectionProblem}
 use Rattle.outcome.specs.search_tables.Selection.{IsFirstPreferredSelection}
 use Rattle.refusal_laws.specs.PackagesAfter.{AreSelectedMembers}
 use Rattle.refusal_laws.specs.TestsPassed.{PassesChangeTestsExceptLimits}
@@ -19,7 +19,7 @@ use Rattle.refusal_laws.specs.TestsPassed.{PassesChangeTestsExceptLimits}
 -- ones, and the files that they leave have no fault
 pub record HasFirstSelectionFaultlessExceptLimits (command : CommandLine) (files : Files) : Type 0 where
   -- the candidates of the command, under its new world
-  pub pool : SealedPool
+  pub pool : SelectionProblem
   pub is_pool : pool_of_command command (reads_in files) ≡ Ok pool
   -- the places of the candidates of the first preferred selection
   pub trace : List ℕ

@@ -1,11 +1,11 @@
 -- A text behind another on a sink.
 use Rattle.std.proofs.Common.{◌≡◌, ◌∙◌, ℕ, List, ◌++◌, Option, Result, Ok, Err, subst, refl, sym, codes, append_assoc}
-use Rattle.base_core.specs.Faults.{Counts, CountsOnlyRise, CountsNoNewFault}
+use Rattle.base_core.specs.Faults.{Counts, CountsOnlyRise, CountsNoNewFaultOrLackOfMemory}
 use Rattle.base_core.specs.Sink.{AddsBytesToSink, SinkBeforeAndAfter}
 use Rattle.base_core.specs.Write.{Writes}
 use Rattle.base_core.proofs.Counting.{goes_on_twice, no_fault_twice}
 use Rattle.base_core.proofs.Added.{AddsBytesToSink-more}
-use Rattle.report_core.specs.Texts.{package_refusal_text}
+use Rattle.report_core.specs.Texts.{refusal_text_of_package_and_reason}
 use Rattle.report_core.proofs.Counting.{fails_after}
 use Rattle.report_core.proofs.Fronts.{AddsPrefixToSink-grows, AddsPrefixToSink-after}
 
@@ -17,7 +17,7 @@ Between told before told_then after = record { bytes_before = told; bytes_after 
 pub record IsDone (text : List ℕ) (sink : SinkBeforeAndAfter) : Type 0 where
   pub added : AddsBytesToSink sink.bytes_before sink.bytes_after text
   pub goes_on : CountsOnlyRise sink.before sink.after
-  pub kept : CountsNoNewFault sink.before sink.after
+  pub kept : CountsNoNewFaultOrLackOfMemory sink.before sink.after
   pub proper : sink.after.misuses ≡ sink.before.misuses
 
 pub done_by : {T E : Type 0} (text : List ℕ) (sink : SinkBeforeAndAfter) (x : T) → Writes {T = T} {E = E} text sink (Ok x) → IsDone text sink
@@ -59,7 +59,7 @@ cut_in_the_first {T} a b c sink e f w = cut_short (a ++ b) c sink e f (cut_short
 
 pub differs_text : (name version wanted found n v w f : List ℕ) → n ≡ name → v ≡ version → w ≡ wanted → f ≡ found
     → n ++ codes "-" ++ v ++ codes ": differs from its index: " ++ w ++ codes ", " ++ f
-    ≡ package_refusal_text name version (codes "differs from its index: " ++ wanted ++ codes ", " ++ found)
+    ≡ refusal_text_of_package_and_reason name version (codes "differs from its index: " ++ wanted ++ codes ", " ++ found)
 differs_text name version wanted found n v w f is_n is_v is_w is_f = rw is_n (rw is_v (rw is_w (rw is_f (simp append_assoc))))
 
 pub clash_text : (path other p o : List ℕ) → p ≡ path → o ≡ other → p ++ codes ": is a folder of " ++ o ≡ path ++ codes ": is a folder of " ++ other

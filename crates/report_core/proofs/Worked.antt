@@ -1,7 +1,7 @@
 -- Worked reports: what the definitions say of them, by computation.
 use Rattle.std.proofs.Common.{◌≡◌, ◌++◌, [], ◌∷◌, codes, refl}
 use Rattle.std.specs.Fmt.{digits}
-use Rattle.report_core.specs.Reports.{Change, change_lines, contents_section, description_section, depends_section, owner_text, still_needed_text, bytes_and_package_count_text, trigger_due_text}
+use Rattle.report_core.specs.Reports.{Change, change_lines, contents_section, description_section, depends_section, owner_text, still_needed_text, bytes_and_package_count_text, trigger_due_for_folder_text}
 
 changes : change_lines (Change.Install (codes "hello") (codes "1.2-r0") ∷ (Change.Upgrade (codes "greet") (codes "1.0-r0") (codes "1.1-r0") ∷ (Change.Purge (codes "world") (codes "1-r0") ∷ []))) ≡ codes "(1/3) Installing hello (1.2-r0)\n(2/3) Upgrading greet (1.0-r0 -> 1.1-r0)\n(3/3) Purging world (1-r0)\n"
 unfolding digits
@@ -17,7 +17,7 @@ stays = refl
 stays_for_others : still_needed_text (codes "greet") (codes "hello" ∷ (codes "world" ∷ [])) ≡ codes "greet stays; required by: hello world"
 stays_for_others = refl
 
-trigger : trigger_due_text (codes "man") (codes "usr/share/man") ++ trigger_due_text (codes "m") [] ≡ codes "man: trigger due for usr/share/manm: trigger due for /"
+trigger : trigger_due_for_folder_text (codes "man") (codes "usr/share/man") ++ trigger_due_for_folder_text (codes "m") [] ≡ codes "man: trigger due for usr/share/manm: trigger due for /"
 trigger = refl
 
 sum : bytes_and_package_count_text 1 2 ≡ codes "OK: 1 bytes in 2 packages"

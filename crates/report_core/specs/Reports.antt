@@ -77,13 +77,13 @@ still_needed_text name (first ∷ others) =
     name ++ codes " stays; required by:" ++ with_spaces_before (first ∷ others)
 
 -- the path of a folder for which a trigger is due, as it is printed: `/` for the root folder, whose name is empty
-abbrev pub trigger_folder_text : List ℕ → List ℕ
-trigger_folder_text [] = codes "/"
-trigger_folder_text (b ∷ bytes) = b ∷ bytes
+abbrev pub folder_path_or_slash_for_root : List ℕ → List ℕ
+folder_path_or_slash_for_root [] = codes "/"
+folder_path_or_slash_for_root (b ∷ bytes) = b ∷ bytes
 
 -- the text for a trigger of the package `name` that is due for a folder
-abbrev pub trigger_due_text : List ℕ → List ℕ → List ℕ
-trigger_due_text name folder = name ++ codes ": trigger due for " ++ trigger_folder_text folder
+abbrev pub trigger_due_for_folder_text : List ℕ → List ℕ → List ℕ
+trigger_due_for_folder_text name folder = name ++ codes ": trigger due for " ++ folder_path_or_slash_for_root folder
 
 -- the text of the last line of a change: the sum of the sizes of all installed packages in bytes, and their number
 abbrev pub bytes_and_package_count_text : ℕ → ℕ → List ℕ

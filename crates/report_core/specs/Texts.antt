@@ -57,21 +57,21 @@ cause_text (TextLine line) = codes "bad line " ++ decimal line
 -- ---- refusals
 
 -- the text of a refusal of a word: the place of the word, counted from 1, and the reason (`text`)
-abbrev pub word_refusal_text : ℕ → List ℕ → List ℕ
-word_refusal_text place text = codes "word " ++ decimal place ++ codes ": " ++ text
+abbrev pub refusal_text_of_word_place_and_reason : ℕ → List ℕ → List ℕ
+refusal_text_of_word_place_and_reason place text = codes "word " ++ decimal place ++ codes ": " ++ text
 
 -- the text of a refusal of a repository: the number of the repository, counted from 1, and the reason (`text`)
-abbrev pub repository_refusal_text : ℕ → List ℕ → List ℕ
-repository_refusal_text number text = codes "repository " ++ decimal number ++ codes ": " ++ text
+abbrev pub refusal_text_of_repository_and_reason : ℕ → List ℕ → List ℕ
+refusal_text_of_repository_and_reason number text = codes "repository " ++ decimal number ++ codes ": " ++ text
 
 -- the text of a refusal of a package: the package's name and version, and the reason (`text`)
-abbrev pub package_refusal_text : List ℕ → List ℕ → List ℕ → List ℕ
-package_refusal_text name version text = name ++ codes "-" ++ version ++ codes ": " ++ text
+abbrev pub refusal_text_of_package_and_reason : List ℕ → List ℕ → List ℕ → List ℕ
+refusal_text_of_package_and_reason name version text = name ++ codes "-" ++ version ++ codes ": " ++ text
 
 -- the value `bytes` of the field with this number in a package's information, as it is printed: the id (the field
 -- *hashes*) in hexadecimal digits, the name and the version as they are
-abbrev pub package_field_text : ℕ → List ℕ → List ℕ
-package_field_text field bytes = if field == HASHES_FIELD then encode_lower bytes else bytes
+abbrev pub package_field_value_text_by_number : ℕ → List ℕ → List ℕ
+package_field_value_text_by_number field bytes = if field == HASHES_FIELD then encode_lower bytes else bytes
 
 -- the name of the script with this number; a number that no script has is printed as a number
 abbrev pub script_name : ℕ → List ℕ
@@ -88,28 +88,28 @@ script_name script =
 abbrev pub refusal_text : Refusal → List ℕ
 refusal_text (Usage place) = codes "usage error at word " ++ decimal place
 refusal_text (IntentBad cause) = codes "lib/apk/intent: " ++ cause_text cause
-refusal_text (FileMissing place) = word_refusal_text place (codes "no such file")
-refusal_text (FileBad place cause) = word_refusal_text place (cause_text cause)
-refusal_text (TextBad place line) = word_refusal_text place (codes "bad line " ++ decimal line)
-refusal_text (VersionBad place) = word_refusal_text place (codes "invalid version")
-refusal_text (InfoBad place) = word_refusal_text place (codes "invalid package information")
+refusal_text (FileMissing place) = refusal_text_of_word_place_and_reason place (codes "no such file")
+refusal_text (FileBad place cause) = refusal_text_of_word_place_and_reason place (cause_text cause)
+refusal_text (TextBad place line) = refusal_text_of_word_place_and_reason place (codes "bad line " ++ decimal line)
+refusal_text (VersionBad place) = refusal_text_of_word_place_and_reason place (codes "invalid version")
+refusal_text (InfoBad place) = refusal_text_of_word_place_and_reason place (codes "invalid package information")
 refusal_text NoDatabase = codes "no package database"
 refusal_text (DatabaseBad cause) = codes "package database: " ++ cause_text cause
 refusal_text (WorldBad line) = codes "etc/apk/world: line " ++ decimal line
 refusal_text (RepositoriesBad line) = codes "etc/apk/repositories: line " ++ decimal line
 refusal_text Untrusted = codes "repositories need --allow-untrusted"
-refusal_text (IndexMissing repository) = repository_refusal_text repository (codes "no such index")
-refusal_text (IndexBad repository cause) = repository_refusal_text repository (cause_text cause)
+refusal_text (IndexMissing repository) = refusal_text_of_repository_and_reason repository (codes "no such index")
+refusal_text (IndexBad repository cause) = refusal_text_of_repository_and_reason repository (cause_text cause)
 refusal_text (TooMany count) = decimal count ++ codes " candidates are too many"
-refusal_text (NotInstalled place) = word_refusal_text place (codes "not installed")
+refusal_text (NotInstalled place) = refusal_text_of_word_place_and_reason place (codes "not installed")
 refusal_text Unsatisfied = codes "unable to select packages"
 refusal_text (PackageMissing name version) =
-    package_refusal_text name version (codes "no such package file")
-refusal_text (PackageBad name version cause) = package_refusal_text name version (cause_text cause)
+    refusal_text_of_package_and_reason name version (codes "no such package file")
+refusal_text (PackageBad name version cause) = refusal_text_of_package_and_reason name version (cause_text cause)
 refusal_text (PackageDiffers name version field wanted found) =
-    package_refusal_text name version
-    (codes "differs from its index: " ++ package_field_text field wanted ++ codes ", "
-    ++ package_field_text field found)
+    refusal_text_of_package_and_reason name version
+    (codes "differs from its index: " ++ package_field_value_text_by_number field wanted ++ codes ", "
+    ++ package_field_value_text_by_number field found)
 refusal_text (ScriptNeeded name script) =
     name ++ codes ": script " ++ script_name script ++ codes " needs --no-scripts"
 refusal_text (Reserved path) = path ++ codes ": reserved name"

@@ -2,7 +2,7 @@
 //! `docs/commands.md`, "Error lines": the table of refusals, and the table of causes.
 ghost use Rattle.std.specs.Prelude.{◌≡◌, ◌++◌};
 ghost use Rattle.report_core.specs.Pieces.{piece_text, pieces_text, sentence_text};
-ghost use Rattle.report_core.specs.Texts.{cause_text, package_field_text, word_refusal_text, refusal_text, script_name};
+ghost use Rattle.report_core.specs.Texts.{cause_text, package_field_value_text_by_number, refusal_text_of_word_place_and_reason, refusal_text, script_name};
 
 use crate::lines::Piece::{Bytes, Digest, Hex, HexNumber, Nothing, Number, Position};
 use crate::lines::{Piece, Pieces};
@@ -113,7 +113,7 @@ fn caused<'a>(pieces: Pieces<'a>, cause: Cause) -> Sentence<'a>
 
 // The text `word PLACE: TEXT`, for a refusal of the word at this place of the command line.
 fn at_word(place: u32, text: &'static [u8]) -> Sentence<'static>
-    ensures { sentence_text result ≡ word_refusal_text place text.now }
+    ensures { sentence_text result ≡ refusal_text_of_word_place_and_reason place text.now }
 {
     plain(four(
         Bytes(b"word "),
@@ -306,7 +306,7 @@ pub(crate) fn cause_pieces(cause: Cause) -> Pieces<'static>
 // The piece with the value `bytes` of the field with this number in a package's information: the id
 // in hexadecimal digits, the name or the version as it is.
 fn field_piece(field: u16, bytes: &[u8]) -> Piece<'_>
-    ensures { piece_text result ≡ package_field_text field bytes.now }
+    ensures { piece_text result ≡ package_field_value_text_by_number field bytes.now }
 {
     if field == HASHES_FIELD {
         Hex(bytes)

@@ -8,7 +8,7 @@ use Rattle.sha2.proofs.Facts256.{length-sha256}
 use Rattle.make_index.specs.adb_fields.FirstPair.{IsIn}
 use Rattle.make_index.specs.adb_fields.Repeated.{package_name}
 use Rattle.make_index.specs.adb_schema.Rules.{is_digest_length}
-use Rattle.make_index.specs.adb_schema.SoundContainers.{IsSoundContainer}
+use Rattle.make_index.specs.adb_schema.SoundContainers.{IsSoundContainerExceptContents}
 use Rattle.make_index.specs.adb_schema.Soundness.{container_fault_except_contents, payload_in, root_value_of_payload}
 use Rattle.adb_view.specs.declared.tables.Which.TheVariants.{Package}
 use Rattle.adb_view.specs.Plain.{Plain}
@@ -30,8 +30,8 @@ use Rattle.make_index.proofs.IndexSound.{payload_all}
 use Rattle.make_index.specs.make_info.Reads.{Reads}
 use Rattle.engine_core.specs.package_changes.Changes.{Replacement, change_of_name, is_candidate_named, names_before_and_selected, candidate_version_text}
 use Rattle.make_index.specs.pkg_core.Contents.{fault_of_files_read}
-use Rattle.make_index.specs.pkg_core.Whole.{files_read_from_package, package_fault, package_id}
-use Rattle.engine_core.specs.candidate_core.Candidates.{Candidate, is_same_id}
+use Rattle.make_index.specs.pkg_core.Whole.{files_read_from_package, package_fault, payload_sha256_of_package_file}
+use Rattle.engine_core.specs.candidate_core.Candidates.{Candidate, is_same_id_by_nonempty_prefix}
 use Rattle.report_core.specs.Reports.{Change}
 use Rattle.report_core.specs.declared.refusal.Refusal.{Refusal}
 use Rattle.root_laws.specs.RootLeft.{AreAllReadFilesBytes}
@@ -39,7 +39,7 @@ use Rattle.root_laws.proofs.SoundBefore.{AllSound}
 
 -- what the laws of the crates below say
 abbrev pub FilesMayCome : Type 0
-FilesMayCome = (file id : List ℕ) → IsSoundContainer Package file → All (λ b. b < 256) (payload_in file) → is_digest_length (length id) ≡ true → IsPackageOfSoundContainer (root_value_of_payload Package (payload_in file)) (Some id)
+FilesMayCome = (file id : List ℕ) → IsSoundContainerExceptContents Package file → All (λ b. b < 256) (payload_in file) → is_digest_length (length id) ≡ true → IsPackageOfSoundContainer (root_value_of_payload Package (payload_in file)) (Some id)
 
 abbrev pub PackagesAreTested : Type 0
 PackagesAreTested = (file : List ℕ) → package_fault file ≡ option_or (container_fault_except_contents Package file) (fault_of_files_read (files_read_from_package file))
@@ -74,7 +74,7 @@ kept_found o = Ok o
 module _ (come : FilesMayCome) (tested : PackagesAreTested) (read : Reads) (bytes : AreAllReadFilesBytes read) where
   -- its name and its version are the candidate's
   different_ok : (c : Candidate) (pkg p : AddedPackage) → package_unless_other_than_candidate c pkg ≡ Ok p → (p ≡ pkg) × (package_name pkg.value ≡ c.name)
-  different_ok c pkg p e = by_tests _ _ _ (is_same_id c.id pkg.id) (bytes_eq c.name (package_name pkg.value)) (bytes_eq (candidate_version_text c) (package_version_text pkg.value)) refl e
+  different_ok c pkg p e = by_tests _ _ _ (is_same_id_by_nonempty_prefix c.id pkg.id) (bytes_eq c.name (package_name pkg.value)) (bytes_eq (candidate_version_text c) (package_version_text pkg.value)) refl e
     where
       by_tests : (x y z : Refusal) (a b v : Bool) → bytes_eq c.name (package_name pkg.value) ≡ b
           → kept_package (if not a then Err x else if not b then Err y else if not v then Err z else Ok pkg) ≡ Ok p → (p ≡ pkg) × (package_name pkg.value ≡ c.name)
@@ -91,7 +91,7 @@ module _ (come : FilesMayCome) (tested : PackagesAreTested) (read : Reads) (byte
           let is = different_ok c (package_in_file file) pkg e in
           subst (λ (p : AddedPackage). IsFoundAs c.name (added_member_found p).member) (sym is.0)
           (record {
-            sound = come file (package_id file) (first_none (container_fault_except_contents Package file) (fault_of_files_read (files_read_from_package file)) (sym (tested file) ∙ sound))
+            sound = come file (payload_sha256_of_package_file file) (first_none (container_fault_except_contents Package file) (fault_of_files_read (files_read_from_package file)) (sym (tested file) ∙ sound))
                 (payload_all (λ b. b < 256) file small) (ap is_digest_length (length-sha256 (payload_in file)));
             named = is.1;
           })

@@ -18,7 +18,7 @@ use Rattle.engine_core.specs.Selecting.{pool_of_inputs}
 use Rattle.engine_core.specs.Wishes.{unknown_operand_place, unless_unknown_operand, wishes_of}
 use Rattle.make_index.specs.make_info.Reads.{Reads}
 use Rattle.engine_core.specs.path_clashes.Clash.{NamePair}
-use Rattle.engine_core.specs.candidate_core.Rank.{SealedPool}
+use Rattle.engine_core.specs.candidate_core.Rank.{SelectionProblem}
 use Rattle.report_core.specs.declared.refusal.Refusal.{Refusal}
 use Rattle.root_names.specs.RootNames.{database_name, text_database_name, world_name}
 use Rattle.root_laws.specs.RootLeft.{AreAllReadFilesBytes, IsRootLeftToLaterCommandsByChange}
@@ -45,7 +45,7 @@ record IsSelectedOf (command : CommandLine) (read : Reads) (s : InputsAndReplace
 abbrev kept : InputsAndReplacement → Result InputsAndReplacement Refusal
 kept s = Ok s
 
-chosen_ok : (command : CommandLine) (inputs : Inputs) (pool : SealedPool) (chosen : Option (List ℕ)) (s : InputsAndReplacement) → selected_from_pool_by_choice command inputs pool chosen ≡ Ok s
+chosen_ok : (command : CommandLine) (inputs : Inputs) (pool : SelectionProblem) (chosen : Option (List ℕ)) (s : InputsAndReplacement) → selected_from_pool_by_choice command inputs pool chosen ≡ Ok s
     → (s.inputs ≡ inputs) × (s.replacement.before ≡ inputs.root.database.packages)
 chosen_ok command inputs pool None s e = absurd (cc (e))
 chosen_ok command inputs pool (Some trace) s e = by_same _ refl refl e

@@ -2,8 +2,8 @@
 use Rattle.std.proofs.Common.{◌≡◌, ◌∙◌, ℕ, ◌<◌, Bool, true, false, List, [], Option, Some, None, Result, Ok, Err, refl, sym, ap, subst}
 use Rattle.std.specs.Prelude.{All}
 use Rattle.make_index.specs.adb_fields.FirstPair.{IsIn}
-use Rattle.make_index.specs.adb_fields.Repeated.{entries_at}
-use Rattle.make_index.specs.adb_schema.SoundContainers.{IsSoundContainer}
+use Rattle.make_index.specs.adb_fields.Repeated.{entries_of_field_at_index}
+use Rattle.make_index.specs.adb_schema.SoundContainers.{IsSoundContainerExceptContents}
 use Rattle.make_index.proofs.adb_schema.Sound as Values
 use Rattle.make_index.specs.adb_schema.Soundness.{container_fault_except_contents, payload_in, root_value_of_payload}
 use Rattle.adb_view.specs.declared.tables.Which.TheVariants.{Idb}
@@ -19,7 +19,7 @@ use Rattle.command_core.specs.Command.{CommandLine}
 use Rattle.engine_core.specs.db_core.SoundMembers.{IsPackageOfSoundContainer, IsOfSoundDatabase}
 use Rattle.dep_core.specs.Dependency.{Dependency}
 use Rattle.dep_core.specs.Repositories.{Repository}
-use Rattle.dep_core.specs.World.{IsWorld}
+use Rattle.dep_core.specs.World.{IsWorldSortedByName}
 use Rattle.make_index.proofs.IndexSound.{payload_all}
 use Rattle.make_index.specs.make_info.Reads.{Reads}
 use Rattle.report_core.specs.declared.refusal.Refusal.{Refusal}
@@ -38,10 +38,10 @@ AllSound pkgs = (pkg : Plain) → IsIn pkg pkgs → IsOfSoundDatabase pkg
 
 -- what is said of a file and of a text
 abbrev pub FilesMayStay : Type 0
-FilesMayStay = (file : List ℕ) (pkg : Plain) → IsSoundContainer Idb file → All (λ b. b < 256) (payload_in file) → IsIn pkg (entries_at 0 (root_value_of_payload Idb (payload_in file))) → IsPackageOfSoundContainer pkg None
+FilesMayStay = (file : List ℕ) (pkg : Plain) → IsSoundContainerExceptContents Idb file → All (λ b. b < 256) (payload_in file) → IsIn pkg (entries_of_field_at_index 0 (root_value_of_payload Idb (payload_in file))) → IsPackageOfSoundContainer pkg None
 
 abbrev pub TextsAreSound : Type 0
-TextsAreSound = (text payload : List ℕ) → payload_of_text text ≡ Ok payload → AllSound (entries_at 0 (root_value_of_payload Idb payload))
+TextsAreSound = (text payload : List ℕ) → payload_of_text text ≡ Ok payload → AllSound (entries_of_field_at_index 0 (root_value_of_payload Idb payload))
 
 -- what a text says is sound
 pub texts_are_sound : Values.Laws → ReadBack → Exact → TextsAreSound
@@ -62,9 +62,9 @@ same_sound d database sound e = let same : d ≡ database = cc in subst (λ (x :
 container_sound : FilesMayStay → (file : List ℕ) (database : Database) → All (λ b. b < 256) file → container_database file ≡ Ok database → AllSound database.packages
 container_sound stay file database bytes e = by_fault (container_fault_except_contents Idb file) refl e
   where
-    by_fault : (fault : Option Cause) → container_fault_except_contents Idb file ≡ fault → unless_cause DatabaseBad fault (database_of_packages_file_and_is_text (entries_at 0 (root_value_of_payload Idb (payload_in file))) (Some file) false) ≡ Ok database → AllSound database.packages
+    by_fault : (fault : Option Cause) → container_fault_except_contents Idb file ≡ fault → unless_cause DatabaseBad fault (database_of_packages_file_and_is_text (entries_of_field_at_index 0 (root_value_of_payload Idb (payload_in file))) (Some file) false) ≡ Ok database → AllSound database.packages
     by_fault None sound e =
-        same_sound (database_of_packages_file_and_is_text (entries_at 0 (root_value_of_payload Idb (payload_in file))) (Some file) false) database
+        same_sound (database_of_packages_file_and_is_text (entries_of_field_at_index 0 (root_value_of_payload Idb (payload_in file))) (Some file) false) database
         (λ pkg here. stay file pkg sound (payload_all (λ b. b < 256) file bytes) here) e
     by_fault (Some cause) sound e = absurd (cc (e))
 
@@ -72,7 +72,7 @@ text_sound : TextsAreSound → (text : List ℕ) (database : Database) → paylo
 text_sound texts text database e = by_payload (payload_of_text text) refl e
   where
     by_payload : (r : Result (List ℕ) V2Fault) → payload_of_text text ≡ r → payload_database r ≡ Ok database → AllSound database.packages
-    by_payload (Ok payload) is e = same_sound (database_of_packages_file_and_is_text (entries_at 0 (root_value_of_payload Idb payload)) None true) database (texts text payload is) e
+    by_payload (Ok payload) is e = same_sound (database_of_packages_file_and_is_text (entries_of_field_at_index 0 (root_value_of_payload Idb payload)) None true) database (texts text payload is) e
     by_payload (Err (Bad cause)) is e = absurd (cc (e))
     by_payload (Err (TooLarge n values)) is e = absurd (cc (e))
     by_payload (Err Memory) is e = absurd (cc (e))
@@ -128,6 +128,6 @@ before_sound stay texts command read root bytes is =
     database_sound stay texts command.flags.initdb (read database_read_number database_name) (read text_database_read_number text_database_name) root.database
     (bytes database_read_number database_name) is.database
 
-pub new_world_sound : (command : CommandLine) (read : Reads) (root : Root) → IsRootFor command read root → IsWorld root.new_world
+pub new_world_sound : (command : CommandLine) (read : Reads) (root : Root) → IsRootFor command read root → IsWorldSortedByName root.new_world
 new_world_sound command read root is =
-    subst IsWorld (sym is.new) (new_world_is command.applet command.operands root.world (read_world_is (found_text_or_empty (read world_read_number world_name)) root.world is.world))
+    subst IsWorldSortedByName (sym is.new) (new_world_is command.applet command.operands root.world (read_world_is (found_text_or_empty (read world_read_number world_name)) root.world is.world))

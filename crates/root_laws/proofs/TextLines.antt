@@ -10,7 +10,7 @@ use Rattle.adb_view.specs.Shaped.{Each, HasShape, HaveShapes}
 use Rattle.adb_view.proofs.FoundShapes.{arr_value_shape, blob_value_text, obj_value_shape}
 use Rattle.adb_view.proofs.Normal.{arr_normal, blob_value_normal, obj_normal}
 use Rattle.engine_core.proofs.db_write.RootParts.{EachIn}
-use Rattle.dep_core.specs.Dependency.{Dependency, is_dep_name}
+use Rattle.dep_core.specs.Dependency.{Dependency, is_dependency_name_by_bytes_and_length}
 use Rattle.dep_core.specs.DependencyText.{IsDependency, is_constraint_or_none, is_tag_or_none, operator_text}
 use Rattle.dep_core.specs.Reading.{dependency_of}
 use Rattle.dep_core.specs.Value.{match_number_of}
@@ -18,11 +18,11 @@ use Rattle.dep_core.proofs.Operators.{each_operator}
 use Rattle.dep_core.proofs.ReadOut.{read-out}
 use Rattle.version_core.specs.Order.{is_version}
 use Rattle.dep_core.specs.Dependency.{is_package_name}
-use Rattle.command_core.specs.Operands.{is_decimal}
+use Rattle.command_core.specs.Operands.{is_decimal_without_leading_zeros}
 use Rattle.hex.specs.Hex.{decode_of as hex_bytes}
 use Rattle.hex.specs.declared.error.FromHexError.{FromHexError}
 use Rattle.std.specs.Str.Parse.{digits_value}
-use Rattle.make_index.specs.make_info.Fields.{FieldValue, need, dependency_value_and_others, decimal_number, dependency_if_untagged, untagged_dependency_in, dependency_values_in, nonempty_parts_between_spaces, text_value_if}
+use Rattle.make_index.specs.make_info.Fields.{TextNumberOrDependency, need, dependency_value_and_others, decimal_number_without_leading_zeros, dependency_if_untagged, untagged_dependency_in, dependency_values_of_parts, nonempty_parts_between_spaces, text_value_if}
 use Rattle.make_index.specs.make_info.Information.{plain_value}
 use Rattle.make_index.specs.make_info.Values.{number_or_null, plains_of_list}
 use Rattle.engine_core.specs.v2_core.Database.{array_or_null_of_list, trimmed_object_or_null_of_list}
@@ -124,8 +124,8 @@ matching_fit (Some n) h = int_fit n h
 need_fit : (d : Dependency) → IsDependency d → IsFit (shape_of (Obj Tables.Dep)) (plain_value (need d))
 unfolding shape_of
 need_fit d h =
-    let parts = and_parts (is_dep_name d.name && is_constraint_or_none d.version d.bits) (is_tag_or_none d.tag) h in
-    let limit = and_parts (is_dep_name d.name) (is_constraint_or_none d.version d.bits) parts.0 in
+    let parts = and_parts (is_dependency_name_by_bytes_and_length d.name && is_constraint_or_none d.version d.bits) (is_tag_or_none d.tag) h in
+    let limit = and_parts (is_dependency_name_by_bytes_and_length d.name) (is_constraint_or_none d.version d.bits) parts.0 in
     object_fit 1 _ (blob_or_null d.name ∷ blob_or_null (unwrap_or d.version []) ∷ number_or_null (match_number_of d.version d.bits d.conflict) ∷ [])
     (text_fit d.name, (text_fit (unwrap_or d.version []), (matching_fit (match_number_of d.version d.bits d.conflict) (small_matching d.version d.bits d.conflict limit.1), tt)))
 
@@ -140,7 +140,7 @@ shape_for Grammars.Number = number_shape
 shape_for Grammars.Commit = hash_shape
 shape_for Grammars.Dependencies = shape_of (Obj Tables.Dep)
 
-abbrev pub IsOfGrammar : Grammar → FieldValue → Type 0
+abbrev pub IsOfGrammar : Grammar → TextNumberOrDependency → Type 0
 IsOfGrammar g x = IsFit (shape_for g) (plain_value x)
 
 abbrev pub IsGoodLine : InfoLine → Type 0
@@ -162,8 +162,8 @@ text_good : (b : Bool) (value : List ℕ) → IfSome (text_value_if b value) (Ea
 text_good true value = (text_fit value, tt)
 text_good false value = tt
 
-number_good : (value : List ℕ) → IfSome (decimal_number value) (λ n. n < 2 ^ 64)
-number_good value = by_test (is_decimal value) (nat_lt (digits_value 10 value) (2 ^ 64)) refl
+number_good : (value : List ℕ) → IfSome (decimal_number_without_leading_zeros value) (λ n. n < 2 ^ 64)
+number_good value = by_test (is_decimal_without_leading_zeros value) (nat_lt (digits_value 10 value) (2 ^ 64)) refl
   where
     by_test : (a b : Bool) → nat_lt (digits_value 10 value) (2 ^ 64) ≡ b → IfSome (if a && b then Some (digits_value 10 value) else None) (λ n. n < 2 ^ 64)
     by_test true true e = ltb-true (digits_value 10 value) (2 ^ 64) e
@@ -188,11 +188,11 @@ need_good part = by_read (dependency_of part) refl
     by_read None e = tt
     by_read (Some d) e = untagged_good d (read-out part d e).0
 
-needs_good : (parts : List (List ℕ)) → IfSome (dependency_values_in parts) (EachIn (IsOfGrammar Grammars.Dependencies))
+needs_good : (parts : List (List ℕ)) → IfSome (dependency_values_of_parts parts) (EachIn (IsOfGrammar Grammars.Dependencies))
 needs_good [] = tt
-needs_good (part ∷ parts) = both (untagged_dependency_in part) (dependency_values_in parts) (need_good part) (needs_good parts)
+needs_good (part ∷ parts) = both (untagged_dependency_in part) (dependency_values_of_parts parts) (need_good part) (needs_good parts)
   where
-    both : (d : Option Dependency) (others : Option (List FieldValue)) → IfSome d IsDependency → IfSome others (EachIn (IsOfGrammar Grammars.Dependencies))
+    both : (d : Option Dependency) (others : Option (List TextNumberOrDependency)) → IfSome d IsDependency → IfSome others (EachIn (IsOfGrammar Grammars.Dependencies))
         → IfSome (dependency_value_and_others d others) (EachIn (IsOfGrammar Grammars.Dependencies))
     both None others h g = tt
     both (Some d) None h g = tt
@@ -205,7 +205,7 @@ values_good Grammars.PackageName value = text_good (is_package_name value) value
 values_good Grammars.PackageVersion value = text_good (is_version value) value
 values_good Grammars.AnyText value = text_good true value
 values_good Grammars.Number value =
-    map_some (λ n. n < 2 ^ 64) (EachIn (IsOfGrammar Grammars.Number)) list_of_one_number_value (decimal_number value) (λ n h. (int_fit n h, tt)) (number_good value)
+    map_some (λ n. n < 2 ^ 64) (EachIn (IsOfGrammar Grammars.Number)) list_of_one_number_value (decimal_number_without_leading_zeros value) (λ n h. (int_fit n h, tt)) (number_good value)
 values_good Grammars.Commit value = commit_good (hex_bytes value)
 values_good Grammars.Dependencies value = needs_good (nonempty_parts_between_spaces value)
 

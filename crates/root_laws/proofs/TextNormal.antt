@@ -10,7 +10,7 @@ use Rattle.adb_view.specs.declared.tables.Which.TheVariants as Tables
 use Rattle.adb_view.specs.Head.{root_word_of_payload}
 use Rattle.adb_view.specs.Plain.{IsNormal, Plain, Shape, null, plain_of, root_value_with_shape}
 use Rattle.adb_view.specs.Shaped.{HasShape}
-use Rattle.make_index.specs.adb_write.Canonical.{MOST_BYTES, ByteAndValueCounts, canonical, exceeds_a_limit, payload_unless_overflow, overflow_of, payload_or_overflow}
+use Rattle.make_index.specs.adb_write.Canonical.{MOST_BYTES, ByteAndValueCounts, canonical, exceeds_a_limit, payload_unless_overflow, counts_at_first_overflow, payload_or_counts_at_overflow}
 use Rattle.make_index.specs.adb_write.Size.{payload_size_of, value_count}
 use Rattle.base_core.specs.declared.cause.Cause.{Cause}
 use Rattle.base_core.proofs.Booleans.{neither_first}
@@ -27,7 +27,7 @@ abbrev pub ReadBack : Type 0
 ReadBack = (shape : Shape) (v : Plain) → IsNormal v → HasShape shape v → payload_size_of v ≤ MOST_BYTES → root_value_with_shape (canonical v) shape ≡ Some v
 
 abbrev pub Exact : Type 0
-Exact = (v : Plain) → IsNormal v → is_some (overflow_of v) ≡ exceeds_a_limit (payload_size_of v, value_count v)
+Exact = (v : Plain) → IsNormal v → is_some (counts_at_first_overflow v) ≡ exceeds_a_limit (payload_size_of v, value_count v)
 
 -- ---- a payload that is written
 
@@ -50,10 +50,10 @@ unfolding value_at
 root_is payload v e = value_is (shape_of (Obj Tables.Idb)) payload v e
 
 module _ (back : ReadBack) (exact : Exact) where
-  written_normal : (v : Plain) (payload : List ℕ) → IsFit (shape_of (Obj Tables.Idb)) v → payload_if_sound (payload_unless_too_large (payload_or_overflow v)) ≡ kept payload → IsNormal (root_value_of_payload Tables.Idb payload)
-  unfolding payload_or_overflow
+  written_normal : (v : Plain) (payload : List ℕ) → IsFit (shape_of (Obj Tables.Idb)) v → payload_if_sound (payload_unless_too_large (payload_or_counts_at_overflow v)) ≡ kept payload → IsNormal (root_value_of_payload Tables.Idb payload)
+  unfolding payload_or_counts_at_overflow
   written_normal v payload fit e =
-      let written = written_ok v (overflow_of v) payload e in
+      let written = written_ok v (counts_at_first_overflow v) payload e in
       let few : payload_size_of v ≤ MOST_BYTES = ltb-false MOST_BYTES (payload_size_of v) (neither_first _ _ (sym (exact v fit.0) ∙ written.0)) in
       subst (λ (p : List ℕ). IsNormal (root_value_of_payload Tables.Idb p)) written.1
       (subst IsNormal (sym (root_is (canonical v) v (back (shape_of (Obj Tables.Idb)) v fit.0 fit.1 few))) fit.0)

@@ -10,7 +10,7 @@ use Rattle.adb_view.specs.declared.tables.Which.TheVariants as Tables
 use Rattle.adb_view.specs.Plain.{Plain, Shape, null, int, blob_or_null, number as number_shape, hash as hash_shape, array}
 use Rattle.engine_core.proofs.db_write.RootParts.{EachIn}
 use Rattle.dep_core.specs.World.{lines_of}
-use Rattle.make_index.specs.make_info.Fields.{FieldValue}
+use Rattle.make_index.specs.make_info.Fields.{TextNumberOrDependency}
 use Rattle.make_index.specs.make_info.Information.{plain_value}
 use Rattle.engine_core.specs.v2_core.Database.{array_or_null_of_list, array_of_field_values, listed_access_value, listed_file_value, listed_folder_value, listed_hash_value, record_info_value, record_value, value_of_single_line_field, value_of_first_or_null, value_of_line, database_value_of_records, values_if_line_of_field}
 use Rattle.engine_core.specs.v2_core.Reading.{records_from_record_end, records_from_unfinished_record, records_of, records_followed_by, record_with_text_line}
@@ -156,7 +156,7 @@ same_grammar f line e =
     some_same (grammar_of line.field) (grammar_of f)
     (sym (by_letter line.field) ∙ (ap grammar_by_letter (eqb-true (letter_of line.field) (letter_of f) e) ∙ by_letter f))
 
-first_fit : (g : Grammar) (values : List FieldValue) → EachIn (IsOfGrammar g) values → IsFit (shape_for g) (value_of_first_or_null values)
+first_fit : (g : Grammar) (values : List TextNumberOrDependency) → EachIn (IsOfGrammar g) values → IsFit (shape_for g) (value_of_first_or_null values)
 first_fit g [] h = null_fit (shape_for g)
 first_fit g (v ∷ vs) h = h.0
 
@@ -176,7 +176,7 @@ each_append : {A : Type 0} (P : A → Type 0) (xs ys : List A) → EachIn P xs �
 each_append P [] ys h g = g
 each_append P (x ∷ xs) ys h g = (h.0, each_append P xs ys h.1 g)
 
-each_plain : (g : Grammar) (values : List FieldValue) → EachIn (IsOfGrammar g) values → EachIn (IsFit (shape_for g)) (map plain_value values)
+each_plain : (g : Grammar) (values : List TextNumberOrDependency) → EachIn (IsOfGrammar g) values → EachIn (IsFit (shape_for g)) (map plain_value values)
 each_plain g [] h = tt
 each_plain g (v ∷ vs) h = (h.0, each_plain g vs h.1)
 

@@ -5,15 +5,15 @@ use Rattle.std.specs.List.{filter}
 use Rattle.std.proofs.lemmas.Bool.{not-true}
 use Rattle.adb_view.specs.Plain.{Plain, Plains, none, more}
 use Rattle.adb_view.specs.Shaped.{Each}
-use Rattle.adb_view.specs.Values.{entries_in, entry_in}
+use Rattle.adb_view.specs.Values.{entries_in, entry_at_index}
 use Rattle.adb_view.specs.declared.tables.Which.TheVariants.{Idb}
 use Rattle.make_index.specs.adb_fields.FirstPair.{IsIn}
 use Rattle.make_index.specs.adb_fields.Paths.{path_of}
 use Rattle.make_index.specs.adb_fields.Repeated.{files_in, folders_in, list_of, name_of}
 use Rattle.make_index.specs.adb_schema.Reserved.{is_reserved}
-use Rattle.make_index.specs.adb_schema.SoundValues.{IsSoundFileInFolder, IsSoundFolder, IsSoundPackage}
+use Rattle.make_index.specs.adb_schema.SoundValues.{ObeysTextAndNumberRulesOfFileInFolder, ObeysTextAndNumberRulesOfFolder, ObeysTextAndNumberRulesOfPackage}
 use Rattle.engine_core.specs.change_files.PlanLists.{first_reserved_added_path_in_byte_order}
-use Rattle.engine_core.specs.db_core.Members.{Listing, Member, is_added, listings_of_member, listings_of_members_from, listings_in_folder_from_file, listings_in_folders_from, listings_of_members}
+use Rattle.engine_core.specs.db_core.Members.{Listing, Member, is_added, listings_of_member, listings_of_members_from, listings_from_member_folder_file_places, listings_in_folders_from, listings_of_members}
 use Rattle.engine_core.specs.db_core.OwnedListings.{HaveAtMostOneOwnerForEachPath, owned_listings}
 use Rattle.engine_core.specs.db_core.SoundMembers.{AreMembersOfSoundContainers, IsPackageOfSoundContainer, IsOfSoundDatabase, HaveOneOwnerPerPathAndNoneReserved, NoneReserved}
 use Rattle.base_core.specs.ByteOrder.{precedes, smaller_text, smallest_text}
@@ -44,18 +44,18 @@ each_in P v (more u us) h (inr here) = each_in P v us h.1 here
 abbrev IsFree : Listing → Type 0
 IsFree l = is_reserved l.path ≡ false
 
-file_free : (folder : List ℕ) (v : Plain) → IsSoundFileInFolder Idb folder v → is_reserved (path_of folder (name_of v)) ≡ false
+file_free : (folder : List ℕ) (v : Plain) → ObeysTextAndNumberRulesOfFileInFolder Idb folder v → is_reserved (path_of folder (name_of v)) ≡ false
 file_free folder v is = not-true (is_reserved (path_of folder (name_of v))) is.listed
 
-folder_free : (m : Member) (place folder i : ℕ) (above : List ℕ) (vs : Plains) → Each (IsSoundFileInFolder Idb above) vs → EachListing IsFree (listings_in_folder_from_file m place folder i above (list_of vs))
+folder_free : (m : Member) (place folder i : ℕ) (above : List ℕ) (vs : Plains) → Each (ObeysTextAndNumberRulesOfFileInFolder Idb above) vs → EachListing IsFree (listings_from_member_folder_file_places m place folder i above (list_of vs))
 folder_free m place folder i above none h = tt
 folder_free m place folder i above (more v vs) h = (file_free above v h.0, folder_free m place folder (i + 1) above vs h.1)
 
-folders_free : (m : Member) (place i : ℕ) (vs : Plains) → Each (IsSoundFolder Idb) vs → EachListing IsFree (listings_in_folders_from m place i (list_of vs))
+folders_free : (m : Member) (place i : ℕ) (vs : Plains) → Each (ObeysTextAndNumberRulesOfFolder Idb) vs → EachListing IsFree (listings_in_folders_from m place i (list_of vs))
 folders_free m place i none h = tt
 folders_free m place i (more v vs) h =
-    each_appended IsFree (listings_in_folder_from_file m place i 1 (name_of v) (files_in v)) (listings_in_folders_from m place (i + 1) (list_of vs))
-    (folder_free m place i 1 (name_of v) (entries_in (entry_in v 2)) h.0.files) (folders_free m place (i + 1) vs h.1)
+    each_appended IsFree (listings_from_member_folder_file_places m place i 1 (name_of v) (files_in v)) (listings_in_folders_from m place (i + 1) (list_of vs))
+    (folder_free m place i 1 (name_of v) (entries_in (entry_at_index v 2)) h.0.files) (folders_free m place (i + 1) vs h.1)
 
 -- it is of a member that comes, or its path is free
 abbrev IsFreeIfStays : Listing → Type 0
@@ -67,20 +67,20 @@ weaker (l ∷ ls) h = (λ stays. h.0, weaker ls h.1)
 
 listed_free : (m : Member) (place : ℕ) → IsOfSoundDatabase m.pkg → EachListing IsFreeIfStays (listings_of_member place m)
 listed_free m place h =
-    let rules : IsSoundPackage Idb m.pkg = each_in (IsSoundPackage Idb) m.pkg (entries_in (entry_in h.database 0)) h.sound.rules h.listed in
-    weaker (listings_of_member place m) (folders_free m place 1 (entries_in (entry_in m.pkg 1)) rules.folders)
+    let rules : ObeysTextAndNumberRulesOfPackage Idb m.pkg = each_in (ObeysTextAndNumberRulesOfPackage Idb) m.pkg (entries_in (entry_at_index h.database 0)) h.sound.rules h.listed in
+    weaker (listings_of_member place m) (folders_free m place 1 (entries_in (entry_at_index m.pkg 1)) rules.folders)
 
 -- ---- of a member that comes nothing is asked
 
 module _ (m : Member) (place : ℕ) (comes : is_added m ≡ true) where
-  folder_comes : (folder i : ℕ) (above : List ℕ) (es : List Plain) → EachListing IsFreeIfStays (listings_in_folder_from_file m place folder i above es)
+  folder_comes : (folder i : ℕ) (above : List ℕ) (es : List Plain) → EachListing IsFreeIfStays (listings_from_member_folder_file_places m place folder i above es)
   folder_comes folder i above [] = tt
   folder_comes folder i above (e ∷ es) = (λ stays. absurd (true≢false (sym comes ∙ stays)), folder_comes folder (i + 1) above es)
 
   folders_come : (i : ℕ) (fs : List Plain) → EachListing IsFreeIfStays (listings_in_folders_from m place i fs)
   folders_come i [] = tt
   folders_come i (f ∷ fs) =
-      each_appended IsFreeIfStays (listings_in_folder_from_file m place i 1 (name_of f) (files_in f)) (listings_in_folders_from m place (i + 1) fs)
+      each_appended IsFreeIfStays (listings_from_member_folder_file_places m place i 1 (name_of f) (files_in f)) (listings_in_folders_from m place (i + 1) fs)
       (folder_comes i 1 (name_of f) (files_in f)) (folders_come (i + 1) fs)
 
 member_free : (m : Member) (place : ℕ) → IsPackageOfSoundContainer m.pkg m.id → EachListing IsFreeIfStays (listings_of_member place m)

@@ -9,9 +9,9 @@ abbrev pub has_slash : List ℕ → Bool
 has_slash path = list_any (λ b. b == 47) path
 
 -- the folder of a path: its bytes up to the last slash, with this slash; empty if there is none
-abbrev pub folder_prefix_of : List ℕ → List ℕ
-folder_prefix_of [] = []
-folder_prefix_of (b ∷ bytes) = if has_slash (b ∷ bytes) then b ∷ folder_prefix_of bytes else []
+abbrev pub path_up_to_last_slash : List ℕ → List ℕ
+path_up_to_last_slash [] = []
+path_up_to_last_slash (b ∷ bytes) = if has_slash (b ∷ bytes) then b ∷ path_up_to_last_slash bytes else []
 
 -- the last part of the path of a package's file: NAME-VERSION.apk
 abbrev pub package_file_name : List ℕ → List ℕ → List ℕ
@@ -20,7 +20,7 @@ package_file_name name version = (name ++ codes "-" ++ version) ++ codes ".apk"
 -- the path of the file of the package `name` in this version: NAME-VERSION.apk in the folder of the index, whose path
 -- is `index`
 abbrev pub package_path : List ℕ → List ℕ → List ℕ → List ℕ
-package_path index name version = folder_prefix_of index ++ package_file_name name version
+package_path index name version = path_up_to_last_slash index ++ package_file_name name version
 
 -- the path, if it is a valid name, else None: a path of more than 1,024 bytes, for example, is no valid name
 abbrev pub path_if_valid_name : List ℕ → Option (List ℕ)

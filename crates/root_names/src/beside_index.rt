@@ -1,7 +1,7 @@
 //! The path of a package's file: `NAME-VERSION.apk`, beside the index that has the package.
 //! The rule is in `docs/commands.md`, "`add` and `del`", **What is read**; which bytes are a name,
 //! in "Words" there.
-ghost use Rattle.root_names.specs.PackagePath.{folder_prefix_of, path_if_valid_name, package_path};
+ghost use Rattle.root_names.specs.PackagePath.{path_up_to_last_slash, path_if_valid_name, package_path};
 ghost use Rattle.std.specs.Prelude.{◌≡◌, IfOk};
 
 use base_core::Name;
@@ -32,7 +32,7 @@ pub fn package_path(
 ) -> Result<Vec<u8>, AllocError>
     ensures { IfOk result (λ path. path.items ≡ package_path index.now name.now version.now) }
 {
-    let mut path = Vec::from_slice(alloc, folder_prefix_of(index))?;
+    let mut path = Vec::from_slice(alloc, path_up_to_last_slash(index))?;
     path.extend_from_slice(name)?;
     path.extend_from_slice(b"-")?;
     path.extend_from_slice(version)?;
@@ -41,8 +41,8 @@ pub fn package_path(
 }
 
 /// The folder of a path: its bytes up to the last `/`, with this `/`; empty if there is none.
-fn folder_prefix_of(path: &[u8]) -> &[u8]
-    ensures { result.now ≡ folder_prefix_of path.now }
+fn path_up_to_last_slash(path: &[u8]) -> &[u8]
+    ensures { result.now ≡ path_up_to_last_slash path.now }
 {
     // The number of bytes up to the last `/` so far.
     let mut end = 0;

@@ -6,7 +6,7 @@ use Rattle.apk_front.specs.Moments.{IsOkRefusedOrOutputFault, AreStatesAsRecover
 use Rattle.base_core.specs.Calls.{HoldsNow, IfObservable}
 use Rattle.base_core.specs.Crash.{Since}
 use Rattle.base_core.specs.Undone.{IsDurable}
-use Rattle.base_core.specs.Faults.{IsFaultCountedWithCause}
+use Rattle.base_core.specs.Faults.{CountsNewFaultWithCause}
 use Rattle.base_core.specs.Tree.{TreeState, files_of}
 use Rattle.apk_front.specs.journal_core.Quiet.{StateIsUnchanged}
 use Rattle.apk_front.specs.journal_core.Recovery.{StateDependsOn, intent_name}
@@ -33,7 +33,7 @@ AllAtomic = (v : TreeState) (run : Run) → IsRunFrom v run → IsAtomicFromOneC
 
 pub called : AllSafe → AllAtomic → (run : Run)
     → (IsTrue (do_arguments_neither_recover_nor_write (command_of run.words)) → run.now ≡ run.old)
-    → IfObservable run.old (λ v. IsAnswerOfSomeOutcomeOrFailure (IsOutcome (command_of run.words) (files_of v)) (LeavesFiles run.now) (IsFaultCountedWithCause run.before run.after) run.answer run.out run.err)
+    → IfObservable run.old (λ v. IsAnswerOfSomeOutcomeOrFailure (IsOutcome (command_of run.words) (files_of v)) (LeavesFiles run.now) (CountsNewFaultWithCause run.before run.after) run.answer run.out run.err)
     → IfObservable run.old (λ v. IsRefusedOutOfMemoryOrCommitsNothing (IsOutcomeFrom v run) run.answer → HasNothingToRecover (effect_of_arguments (command_of run.words)) v → run.now ≡ run.old)
     → IfObservable run.old (λ v. IsSome (recovery_fault (effect_of_arguments (command_of run.words)) (files_of v)) → run.now ≡ run.old)
     → IfObservable run.old (λ v. AreStatesAsRecoveredOrOfCommittingRun (IsOutcomeFrom v run) (effect_of_arguments (command_of run.words)) (output run.words) v run.old run.now)
@@ -46,7 +46,7 @@ pub called : AllSafe → AllAtomic → (run : Run)
     → IfObservable run.old (λ v. IsRunFrom v run × IsSafeAfterAnyEvents v run × IsAtomicFromOneCrashState v run)
 called all_safe all_atomic run same =
     observed run.old
-    (λ v. IsAnswerOfSomeOutcomeOrFailure (IsOutcome (command_of run.words) (files_of v)) (LeavesFiles run.now) (IsFaultCountedWithCause run.before run.after) run.answer run.out run.err)
+    (λ v. IsAnswerOfSomeOutcomeOrFailure (IsOutcome (command_of run.words) (files_of v)) (LeavesFiles run.now) (CountsNewFaultWithCause run.before run.after) run.answer run.out run.err)
     (λ v. IsRefusedOutOfMemoryOrCommitsNothing (IsOutcomeFrom v run) run.answer → HasNothingToRecover (effect_of_arguments (command_of run.words)) v → run.now ≡ run.old)
     (λ v. IsSome (recovery_fault (effect_of_arguments (command_of run.words)) (files_of v)) → run.now ≡ run.old)
     (λ v. AreStatesAsRecoveredOrOfCommittingRun (IsOutcomeFrom v run) (effect_of_arguments (command_of run.words)) (output run.words) v run.old run.now)

@@ -9,7 +9,7 @@ use Rattle.apk_front.specs.declared.answer.Answer.{Answer}
 use Rattle.apk_front.specs.declared.answer.Answer.TheVariants.{Ok, TreeFault}
 use Rattle.base_core.specs.Calls.{HoldsNow}
 use Rattle.base_core.specs.Crash.{Since}
-use Rattle.base_core.specs.Faults.{Counts, IsFaultCountedWithCause}
+use Rattle.base_core.specs.Faults.{Counts, CountsNewFaultWithCause}
 use Rattle.base_core.specs.Sink.{SinkBeforeAndAfter}
 use Rattle.base_core.specs.Files.{NameMap}
 use Rattle.base_core.specs.Tree.{TreeState, files_of}
@@ -59,7 +59,7 @@ pub record IsRunFrom (v : TreeState) (run : Run) : Type 0 where
   pub begins : HoldsNow run.old (λ u. u ≡ v)
   -- the answer, the bytes printed and the files left are an outcome's; or a call failed, and this is answered
   pub stated : IsAnswerOfSomeOutcomeOrFailure (IsOutcomeFrom v run) (LeavesFiles run.now)
-      (IsFaultCountedWithCause run.before run.after) run.answer run.out run.err
+      (CountsNewFaultWithCause run.before run.after) run.answer run.out run.err
   -- a command that only reads leaves the tree unchanged
   pub same : IsTrue (do_arguments_neither_recover_nor_write (command_of run.words)) → run.now ≡ run.old
   -- with nothing to recover, a run that is refused, runs out of memory or commits nothing writes nothing

@@ -14,7 +14,7 @@ use Rattle.std.proofs.lemmas.Map.Text.{is_eq-slice_cmp}
 use Rattle.search_tables.proofs.pool_core.Filtered.{meeting_offers}
 use Rattle.dep_core.specs.Dependency.{Dependency}
 use Rattle.search_tables.specs.candidate_core.Candidates.{Candidate, Need, entry, is_eligible_with_positive_install_if, named, offers_name, meets_dependency}
-use Rattle.search_tables.specs.candidate_core.Rank.{SealedPool, bytes_cmp, candidate_at, meets_at}
+use Rattle.search_tables.specs.candidate_core.Rank.{SelectionProblem, bytes_cmp, candidate_at, meets_at}
 use Rattle.search_tables.specs.candidate_core.Options.{IsIn, options_for}
 use Rattle.search_tables.proofs.candidate_core.Places.{place_of}
 use Rattle.search_tables.specs.Selection.{AreAllMembersOf, is_met, is_unmet, names_whose_install_if_applies, install_if_applies, least_name, lesser_name, needs, next_need, needs_of_world_and_chosen}
@@ -57,14 +57,14 @@ past_of (x ∷ xs) (suc r) h = let g = past_of xs r h in omega (arith, g)
 -- ---- the first rank that asks
 
 -- where the cursor is past the last, none asks
-pub none_ask : (pool : SealedPool) (t by_name : List ℕ) (waiting : List (List ℕ × List ℕ)) (cursor : ℕ) → AreUsableInstallIfsByName pool by_name waiting → AreNoneTriggeredBelow pool t by_name cursor → slice_get by_name cursor ≡ None → IsNoInstallIfTriggered pool t
+pub none_ask : (pool : SelectionProblem) (t by_name : List ℕ) (waiting : List (List ℕ × List ℕ)) (cursor : ℕ) → AreUsableInstallIfsByName pool by_name waiting → AreNoneTriggeredBelow pool t by_name cursor → slice_get by_name cursor ≡ None → IsNoInstallIfTriggered pool t
 none_ask pool t by_name waiting cursor are free none = λ o usable.
     let r = rank_of by_name o (are.each o usable) in
     let past = past_of by_name cursor none in
     sym (some_at (λ (k : ℕ). is_install_if_triggered_at pool t k) (slice_get by_name r.0) o r.2) ∙ free r.0 (omega (arith, r.1, past))
 
 -- where the candidate at the cursor asks, it has the least name
-pub least_asks : (pool : SealedPool) (t by_name : List ℕ) (waiting : List (List ℕ × List ℕ)) (cursor k : ℕ) → AreUsableInstallIfsByName pool by_name waiting → AreNoneTriggeredBelow pool t by_name cursor → slice_get by_name cursor ≡ Some k → is_install_if_triggered_at pool t k ≡ true → IsLeastTriggeredInstallIf pool t k
+pub least_asks : (pool : SelectionProblem) (t by_name : List ℕ) (waiting : List (List ℕ × List ℕ)) (cursor k : ℕ) → AreUsableInstallIfsByName pool by_name waiting → AreNoneTriggeredBelow pool t by_name cursor → slice_get by_name cursor ≡ Some k → is_install_if_triggered_at pool t k ≡ true → IsLeastTriggeredInstallIf pool t k
 least_asks pool t by_name waiting cursor k are free here asks = record {
   usable = are.those k (there_is by_name cursor k here).1;
   asks = asks;
@@ -80,7 +80,7 @@ least_asks pool t by_name waiting cursor k are free here asks = record {
 }
 
 -- where it does not ask, the cursor moves on
-pub one_more_unasked : (pool : SealedPool) (t by_name : List ℕ) (cursor k : ℕ) → AreNoneTriggeredBelow pool t by_name cursor → slice_get by_name cursor ≡ Some k → is_install_if_triggered_at pool t k ≡ false → (cursor + 1 ≤ length by_name) × AreNoneTriggeredBelow pool t by_name (cursor + 1)
+pub one_more_unasked : (pool : SelectionProblem) (t by_name : List ℕ) (cursor k : ℕ) → AreNoneTriggeredBelow pool t by_name cursor → slice_get by_name cursor ≡ Some k → is_install_if_triggered_at pool t k ≡ false → (cursor + 1 ≤ length by_name) × AreNoneTriggeredBelow pool t by_name (cursor + 1)
 one_more_unasked pool t by_name cursor k free here asks = (
   (let g = there_is by_name cursor k here in omega (arith, g.0)),
   (λ rank low. elim (cases_lt rank cursor) [
@@ -91,11 +91,11 @@ one_more_unasked pool t by_name cursor k free here asks = (
   ]),
 )
 
-pub front_of : (pool : SealedPool) (t by_name : List ℕ) (waiting : List (List ℕ × List ℕ)) (cursor k : ℕ) (b : Bool) → AreUsableInstallIfsByName pool by_name waiting → AreNoneTriggeredBelow pool t by_name cursor → slice_get by_name cursor ≡ Some k → b ≡ is_install_if_triggered_at pool t k → MatchBool (not b) ((cursor + 1 ≤ length by_name) × AreNoneTriggeredBelow pool t by_name (cursor + 1)) (MatchOption (slice_get by_name cursor) (IsNoInstallIfTriggered pool t) (λ id. IsLeastTriggeredInstallIf pool t id))
+pub front_of : (pool : SelectionProblem) (t by_name : List ℕ) (waiting : List (List ℕ × List ℕ)) (cursor k : ℕ) (b : Bool) → AreUsableInstallIfsByName pool by_name waiting → AreNoneTriggeredBelow pool t by_name cursor → slice_get by_name cursor ≡ Some k → b ≡ is_install_if_triggered_at pool t k → MatchBool (not b) ((cursor + 1 ≤ length by_name) × AreNoneTriggeredBelow pool t by_name (cursor + 1)) (MatchOption (slice_get by_name cursor) (IsNoInstallIfTriggered pool t) (λ id. IsLeastTriggeredInstallIf pool t id))
 front_of pool t by_name waiting cursor k true are free here is = rw here (least_asks pool t by_name waiting cursor k are free here (sym is))
 front_of pool t by_name waiting cursor k false are free here is = one_more_unasked pool t by_name cursor k free here (sym is)
 
-pub front_past : (pool : SealedPool) (t by_name : List ℕ) (waiting : List (List ℕ × List ℕ)) (cursor : ℕ) → AreUsableInstallIfsByName pool by_name waiting → AreNoneTriggeredBelow pool t by_name cursor → slice_get by_name cursor ≡ None → MatchOption (slice_get by_name cursor) (IsNoInstallIfTriggered pool t) (λ id. IsLeastTriggeredInstallIf pool t id)
+pub front_past : (pool : SelectionProblem) (t by_name : List ℕ) (waiting : List (List ℕ × List ℕ)) (cursor : ℕ) → AreUsableInstallIfsByName pool by_name waiting → AreNoneTriggeredBelow pool t by_name cursor → slice_get by_name cursor ≡ None → MatchOption (slice_get by_name cursor) (IsNoInstallIfTriggered pool t) (λ id. IsLeastTriggeredInstallIf pool t id)
 front_past pool t by_name waiting cursor are free none = rw none (none_ask pool t by_name waiting cursor are free none)
 
 -- ---- what a further choice changes
@@ -112,7 +112,7 @@ not_all p (y ∷ xs) h = elim (cases_Bool (p y)) [
   | inl e ↦ let r = not_all p xs (rw e at h) in (r.0, inr r.1, r.2)
 ]
 
-met_by_last : (pool : SealedPool) (t : List ℕ) (c : ℕ) (q : Need) → is_met pool (t ++ c ∷ []) q ≡ true → is_met pool t q ≡ false → meets_at pool c q ≡ true
+met_by_last : (pool : SelectionProblem) (t : List ℕ) (c : ℕ) (q : Need) → is_met pool (t ++ c ∷ []) q ≡ true → is_met pool t q ≡ false → meets_at pool c q ≡ true
 met_by_last pool t c q h none =
     let r = any_in (λ k. meets_at pool k q) (t ++ c ∷ []) h in
     elim (in_append r.0 t (c ∷ []) r.1) [
@@ -120,14 +120,14 @@ met_by_last pool t c q h none =
       | inr b ↦ elim b [ inl e ↦ subst (λ (z : ℕ). meets_at pool z q ≡ true) e r.2 | inr bad ↦ absurd bad ]
     ]
 
-unmet_less : (pool : SealedPool) (t : List ℕ) (c : ℕ) (q : Need) → is_unmet pool (t ++ c ∷ []) q ≡ true → is_unmet pool t q ≡ true
+unmet_less : (pool : SelectionProblem) (t : List ℕ) (c : ℕ) (q : Need) → is_unmet pool (t ++ c ∷ []) q ≡ true → is_unmet pool t q ≡ true
 unmet_less pool t c q h = elim (cases_Bool (is_met pool t q)) [
   | inr e ↦ ap not e
   | inl e ↦ let m : is_met pool (t ++ c ∷ []) q ≡ true = any_append (λ k. meets_at pool k q) t (c ∷ []) e in absurd (true≢false (sym h ∙ (ap not m)))
 ]
 
 -- the ranks in front of the cursor stay unasked where it does not pass one that the choice makes ask
-pub unasked_more : (pool : SealedPool) (t : List ℕ) (c : ℕ) (details : Candidate) (by_name : List ℕ) (waiting : List (List ℕ × List ℕ)) (old new : ℕ) → AreUsableInstallIfsByName pool by_name waiting → candidate_at pool c ≡ Some details → AreNoneTriggeredBelow pool t by_name old → new ≤ old → ((name : List ℕ) (rank : ℕ) → offers_name name details ≡ true → IsIn rank (items_under_name waiting name) → rank < new → is_install_if_triggered_at_rank pool (t ++ c ∷ []) by_name rank ≡ false) → AreNoneTriggeredBelow pool (t ++ c ∷ []) by_name new
+pub unasked_more : (pool : SelectionProblem) (t : List ℕ) (c : ℕ) (details : Candidate) (by_name : List ℕ) (waiting : List (List ℕ × List ℕ)) (old new : ℕ) → AreUsableInstallIfsByName pool by_name waiting → candidate_at pool c ≡ Some details → AreNoneTriggeredBelow pool t by_name old → new ≤ old → ((name : List ℕ) (rank : ℕ) → offers_name name details ≡ true → IsIn rank (items_under_name waiting name) → rank < new → is_install_if_triggered_at_rank pool (t ++ c ∷ []) by_name rank ≡ false) → AreNoneTriggeredBelow pool (t ++ c ∷ []) by_name new
 unasked_more pool t c details by_name waiting old new are here was less now = λ rank low. elim (cases_Bool (is_install_if_triggered_at_rank pool (t ++ c ∷ []) by_name rank)) [
   | inr e ↦ e
   | inl e ↦
@@ -161,10 +161,10 @@ offered_names name c h = elim (or_cases (bytes_eq name c.name) (list_any (λ (p 
 
 -- ---- the least name
 
-abbrev asked_names : SealedPool → List ℕ → List (List ℕ)
+abbrev asked_names : SelectionProblem → List ℕ → List (List ℕ)
 asked_names pool t = filter (λ (name : List ℕ). is_unmet pool t (named name)) (names_whose_install_if_applies pool t)
 
-asked_by : (pool : SealedPool) (t : List ℕ) (name : List ℕ) → IsIn name (asked_names pool t) → (o : ℕ) × (name ≡ name_at pool o) × (is_eligible_with_positive_install_if_at pool o ≡ true) × (is_install_if_triggered_at pool t o ≡ true)
+asked_by : (pool : SelectionProblem) (t : List ℕ) (name : List ℕ) → IsIn name (asked_names pool t) → (o : ℕ) × (name ≡ name_at pool o) × (is_eligible_with_positive_install_if_at pool o ≡ true) × (is_install_if_triggered_at pool t o ≡ true)
 asked_by pool t name h =
     let f = filter_in (λ (n : List ℕ). is_unmet pool t (named n)) name (names_whose_install_if_applies pool t) h in
     let m = map_in (λ (c : Candidate). c.name) name (filter (install_if_applies pool t) pool.candidates) f.0 in
@@ -178,7 +178,7 @@ asked_by pool t name h =
       some_at (is_triggered_by_install_if pool t) (candidate_at pool k.0) m.0 k.1 ∙ rw both.1 unmet,
     )
 
-asked_there : (pool : SealedPool) (t : List ℕ) (o : ℕ) → is_eligible_with_positive_install_if_at pool o ≡ true → is_install_if_triggered_at pool t o ≡ true → IsIn (name_at pool o) (asked_names pool t)
+asked_there : (pool : SelectionProblem) (t : List ℕ) (o : ℕ) → is_eligible_with_positive_install_if_at pool o ≡ true → is_install_if_triggered_at pool t o ≡ true → IsIn (name_at pool o) (asked_names pool t)
 asked_there pool t o usable asks =
     let one = at_some (is_eligible_with_positive_install_if pool.world) (candidate_at pool o) usable in
     let both = and_parts (all_met pool t one.0.install_if) (is_unmet pool t (named one.0.name)) (sym (some_at (is_triggered_by_install_if pool t) (candidate_at pool o) one.0 one.1) ∙ asks) in
@@ -216,32 +216,32 @@ least_is x (y ∷ ys) (inr h) least =
       | inr e ↦ rw e (same_name y x above e)
     ]
 
-least_named : (pool : SealedPool) (t : List ℕ) (k : ℕ) → IsLeastTriggeredInstallIf pool t k → least_name (asked_names pool t) ≡ Some (name_at pool k)
+least_named : (pool : SelectionProblem) (t : List ℕ) (k : ℕ) → IsLeastTriggeredInstallIf pool t k → least_name (asked_names pool t) ≡ Some (name_at pool k)
 least_named pool t k is = least_is (name_at pool k) (asked_names pool t) (asked_there pool t k is.usable is.asks) (λ y h.
     let o = asked_by pool t y h in
     subst (λ (n : List ℕ). is_lt (bytes_cmp n (name_at pool k)) ≡ false) (sym o.1) (is.least o.0 o.2 o.3))
 
-none_named : (pool : SealedPool) (t : List ℕ) → IsNoInstallIfTriggered pool t → least_name (asked_names pool t) ≡ None
+none_named : (pool : SelectionProblem) (t : List ℕ) → IsNoInstallIfTriggered pool t → least_name (asked_names pool t) ≡ None
 none_named pool t none = elim (none_or_some (least_name (asked_names pool t))) [
   | inl e ↦ e
   | inr some ↦ let o = asked_by pool t some.0 (least_in (asked_names pool t) some.0 some.1) in absurd (true≢false (sym o.3 ∙ (none o.0 o.2)))
 ]
 
 -- no name is asked for and unmet
-pub none_asked : (pool : SealedPool) (t : List ℕ) → find (is_unmet_dep pool t) (queue_of pool t) ≡ None → IsNoInstallIfTriggered pool t → next_need pool t ≡ None
+pub none_asked : (pool : SelectionProblem) (t : List ℕ) → find (is_unmet_dep pool t) (queue_of pool t) ≡ None → IsNoInstallIfTriggered pool t → next_need pool t ≡ None
 unfolding next_need
 none_asked pool t met none = rw (none_raised pool t met) (ap (option_map named) (none_named pool t none))
 
-pub least_within : (pool : SealedPool) (t : List ℕ) (k : ℕ) → IsLeastTriggeredInstallIf pool t k → k < length pool.candidates
+pub least_within : (pool : SelectionProblem) (t : List ℕ) (k : ℕ) → IsLeastTriggeredInstallIf pool t k → k < length pool.candidates
 least_within pool t k is = passing_is_within pool (is_eligible_with_positive_install_if pool.world) k is.usable
 
 -- the entries of the asking candidate's install-if are met
-pub asks_all : (pool : SealedPool) (t : List ℕ) (k : ℕ) (c : Candidate) → IsLeastTriggeredInstallIf pool t k → candidate_at pool k ≡ Some c → all_met pool t c.install_if ≡ true
+pub asks_all : (pool : SelectionProblem) (t : List ℕ) (k : ℕ) (c : Candidate) → IsLeastTriggeredInstallIf pool t k → candidate_at pool k ≡ Some c → all_met pool t c.install_if ≡ true
 asks_all pool t k c is here =
     (and_parts (all_met pool t c.install_if) (is_unmet pool t (named c.name)) (sym (some_at (is_triggered_by_install_if pool t) (candidate_at pool k) c here) ∙ is.asks)).0
 
 -- the frame of the least name
-pub open_asked : (pool : SealedPool) (t : List ℕ) (k : ℕ) (c : Candidate) (by : List ℕ) (frame : FrameValue) → find (is_unmet_dep pool t) (queue_of pool t) ≡ None → IsLeastTriggeredInstallIf pool t k → candidate_at pool k ≡ Some c → AreAllMembersOf by t → all_met pool by c.install_if ≡ true → frame ≡ ([], options_for pool (named c.name), by) → IsFrameOf pool t frame
+pub open_asked : (pool : SelectionProblem) (t : List ℕ) (k : ℕ) (c : Candidate) (by : List ℕ) (frame : FrameValue) → find (is_unmet_dep pool t) (queue_of pool t) ≡ None → IsLeastTriggeredInstallIf pool t k → candidate_at pool k ≡ Some c → AreAllMembersOf by t → all_met pool by c.install_if ≡ true → frame ≡ ([], options_for pool (named c.name), by) → IsFrameOf pool t frame
 unfolding next_need
 open_asked pool t k c by frame met least here within all is =
     let name : name_at pool k ≡ c.name = ap (λ (o : Option Candidate). option_map_or (λ (x : Candidate). x.name) o []) here in

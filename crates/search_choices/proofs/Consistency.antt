@@ -6,7 +6,7 @@ use Rattle.dep_core.specs.Dependency.{Dependency}
 use Rattle.std.specs.Option.{option_map_or}
 use Rattle.std.specs.List.{filter, find, flat_map}
 use Rattle.search_tables.specs.candidate_core.Candidates.{Candidate, Need, entry, named}
-use Rattle.search_tables.specs.candidate_core.Rank.{SealedPool, candidate_at_passes}
+use Rattle.search_tables.specs.candidate_core.Rank.{SelectionProblem, candidate_at_passes}
 use Rattle.search_tables.specs.candidate_core.Candidates.{is_eligible}
 use Rattle.search_tables.specs.Reasons.{IsFrameTaking, ruled_out_options}
 use Rattle.std.proofs.lemmas.Bool.{cases_Bool}
@@ -29,7 +29,7 @@ use Rattle.search_tables.proofs.PoolFacts.{find_in, pool_facts}
 use Rattle.search_tables.proofs.ConflictTables.{listed_more}
 use Rattle.search_tables.proofs.Queued.{find_here, past_end, met_more, met_next, queue_more}
 
-module _ (pool : SealedPool) (install_ifs : List ℕ) where
+module _ (pool : SelectionProblem) (install_ifs : List ℕ) where
   abbrev pub IsBefore : List ℕ → Checkpoint → Type 0
   IsBefore u b = (b.queue_len ≡ length (queue_of pool u)) × AreFirstDepsMet pool u b.cursor × AreNoneTriggeredBelow pool u install_ifs b.asking_cursor
 
@@ -67,7 +67,7 @@ at_within p [] (suc k) h = absurd (cc)
 at_within p (x ∷ xs) zero h = omega arith
 at_within p (x ∷ xs) (suc k) h = let r = at_within p xs k h in omega arith
 
-pub passing_is_within : (pool : SealedPool) (p : Candidate → Bool) (k : ℕ) → candidate_at_passes pool p k ≡ true → k < length pool.candidates
+pub passing_is_within : (pool : SelectionProblem) (p : Candidate → Bool) (k : ℕ) → candidate_at_passes pool p k ≡ true → k < length pool.candidates
 passing_is_within pool p k h = at_within p pool.candidates k h
 
 -- ---- a choice is made
@@ -96,16 +96,16 @@ consistent_by old new t step are within queue met unasked listed conflicts check
     let w : List (List ℕ × List ℕ) = old.install_ifs.waiting in
     let same_waiting : w ≡ new.install_ifs.waiting = ap (λ (z : InstallIfs). z.waiting) (sym step.install_ifs) in
     record {
-      within = λ k h. subst (λ (q : SealedPool). k < length q.candidates) p (within k (subst (λ (z : List ℕ). IsIn k z) step.choices h));
-      queue = queue ∙ (ap (queue_of (pool_of old)) s ∙ ap (λ (q : SealedPool). queue_of q (choices_of new)) p);
-      met = subst (λ (q : SealedPool). AreFirstDepsMet q (choices_of new) new.cursor) p (subst (λ (z : List ℕ). AreFirstDepsMet (pool_of old) z new.cursor) s met);
-      install_ifs = subst (λ (q : SealedPool). AreUsableInstallIfsByName q (install_ifs_of new) new.install_ifs.waiting) p
+      within = λ k h. subst (λ (q : SelectionProblem). k < length q.candidates) p (within k (subst (λ (z : List ℕ). IsIn k z) step.choices h));
+      queue = queue ∙ (ap (queue_of (pool_of old)) s ∙ ap (λ (q : SelectionProblem). queue_of q (choices_of new)) p);
+      met = subst (λ (q : SelectionProblem). AreFirstDepsMet q (choices_of new) new.cursor) p (subst (λ (z : List ℕ). AreFirstDepsMet (pool_of old) z new.cursor) s met);
+      install_ifs = subst (λ (q : SelectionProblem). AreUsableInstallIfsByName q (install_ifs_of new) new.install_ifs.waiting) p
           (subst (λ (z : List ℕ). AreUsableInstallIfsByName (pool_of old) z new.install_ifs.waiting) i (subst (λ (z : List (List ℕ × List ℕ)). AreUsableInstallIfsByName (pool_of old) (install_ifs_of old) z) same_waiting are));
-      unasked = subst (λ (q : SealedPool). AreNoneTriggeredBelow q (choices_of new) (install_ifs_of new) new.asking_cursor) p
+      unasked = subst (λ (q : SelectionProblem). AreNoneTriggeredBelow q (choices_of new) (install_ifs_of new) new.asking_cursor) p
           (subst (λ (z : List ℕ). AreNoneTriggeredBelow (pool_of old) z (install_ifs_of new) new.asking_cursor) s (subst (λ (z : List ℕ). AreNoneTriggeredBelow (pool_of old) t z new.asking_cursor) i unasked));
-      listed = subst (λ (q : SealedPool). IsConflictTable q (choices_of new) new.conflicts) p (subst (λ (z : List ℕ). IsConflictTable (pool_of old) z new.conflicts) s listed);
-      conflicts = subst (λ (q : SealedPool). AreConflictsOf q.candidates new.conflicts.by_name) p conflicts;
-      checkpoints = subst (λ (q : SealedPool). AreCheckpointsOfLaterChoices q (install_ifs_of new) [] (choices_of new) new.checkpoints.items) p
+      listed = subst (λ (q : SelectionProblem). IsConflictTable q (choices_of new) new.conflicts) p (subst (λ (z : List ℕ). IsConflictTable (pool_of old) z new.conflicts) s listed);
+      conflicts = subst (λ (q : SelectionProblem). AreConflictsOf q.candidates new.conflicts.by_name) p conflicts;
+      checkpoints = subst (λ (q : SelectionProblem). AreCheckpointsOfLaterChoices q (install_ifs_of new) [] (choices_of new) new.checkpoints.items) p
           (subst (λ (z : List ℕ). AreCheckpointsOfLaterChoices (pool_of old) (install_ifs_of new) [] z new.checkpoints.items) s (subst (λ (z : List ℕ). AreCheckpointsOfLaterChoices (pool_of old) z [] t new.checkpoints.items) i checkpoints));
     }
 
@@ -134,7 +134,7 @@ take_none : {X : Type 0} (xs : List X) → take 0 xs ≡ []
 take_none [] = refl
 take_none (x ∷ xs) = refl
 
-pub met_start : (pool : SealedPool) (t : List ℕ) → AreFirstDepsMet pool t 0
+pub met_start : (pool : SelectionProblem) (t : List ℕ) → AreFirstDepsMet pool t 0
 met_start pool t = (omega arith, ap (find (is_unmet_dep pool t)) (take_none (queue_of pool t)))
 
 -- ---- no choices
@@ -172,7 +172,7 @@ get_within [] (suc i) x h = absurd (cc)
 get_within (y ∷ xs) zero x h = omega arith
 get_within (y ∷ xs) (suc i) x h = let r = get_within xs i x h in omega arith
 
-pub met_by : (pool : SealedPool) (t : List ℕ) (queue : List RaisedDepValue) (at : ℕ) (r : RaisedDepValue) (b : Bool) → queue ≡ queue_of pool t → AreFirstDepsMet pool t at → slice_get queue at ≡ Some r → b ≡ is_met pool t (entry r.0) → MatchBool b (AreFirstDepsMet pool t (at + 1)) (slice_get queue at ≡ find (is_unmet_dep pool t) (queue_of pool t))
+pub met_by : (pool : SelectionProblem) (t : List ℕ) (queue : List RaisedDepValue) (at : ℕ) (r : RaisedDepValue) (b : Bool) → queue ≡ queue_of pool t → AreFirstDepsMet pool t at → slice_get queue at ≡ Some r → b ≡ is_met pool t (entry r.0) → MatchBool b (AreFirstDepsMet pool t (at + 1)) (slice_get queue at ≡ find (is_unmet_dep pool t) (queue_of pool t))
 met_by pool t queue at r false is met here m =
     subst (λ (z : List RaisedDepValue). slice_get z at ≡ find (is_unmet_dep pool t) (queue_of pool t)) (sym is)
     (find_here (is_unmet_dep pool t) (queue_of pool t) at r met.1 (subst (λ (z : List RaisedDepValue). slice_get z at ≡ Some r) is here) (ap not (sym m)))
@@ -202,14 +202,14 @@ map_append : (f : RaisedDepValue → Need) (xs ys : List RaisedDepValue) → map
 map_append f [] ys = refl
 map_append f (x ∷ xs) ys = ap (λ (z : List Need). f x ∷ z) (map_append f xs ys)
 
-flat_raised : (pool : SealedPool) (t : List ℕ) → flat_map (λ c. positive_needs (depends_at pool c)) t ≡ map need_in (flat_map (raised_deps_at pool) t)
+flat_raised : (pool : SelectionProblem) (t : List ℕ) → flat_map (λ c. positive_needs (depends_at pool c)) t ≡ map need_in (flat_map (raised_deps_at pool) t)
 flat_raised pool [] = refl
 flat_raised pool (c ∷ t) =
     ap (λ (z : List Need). positive_needs (depends_at pool c) ++ z) (flat_raised pool t)
     ∙ (ap (λ (z : List Need). z ++ map need_in (flat_map (raised_deps_at pool) t)) (map_raised (Some c) 0 (depends_at pool c))
     ∙ sym (map_append need_in (raised_deps_at pool c) (flat_map (raised_deps_at pool) t)))
 
-pub raised_queue : (pool : SealedPool) (t : List ℕ) → needs_of_world_and_chosen pool t ≡ map need_in (queue_of pool t)
+pub raised_queue : (pool : SelectionProblem) (t : List ℕ) → needs_of_world_and_chosen pool t ≡ map need_in (queue_of pool t)
 raised_queue pool t =
     ap (λ (z : List Need). positive_needs pool.world ++ z) (flat_raised pool t)
     ∙ (ap (λ (z : List Need). z ++ map need_in (flat_map (raised_deps_at pool) t)) (map_raised None 0 pool.world)
@@ -274,7 +274,7 @@ raised_at by n (d ∷ ds) r h = elim (in_raised by n d ds r h) [
 ]
 
 -- what a choice raises is the dependency that it has at that index
-pub raised_of_choice : (pool : SealedPool) (t : List ℕ) (r : RaisedDepValue) (c : ℕ) → IsIn r (queue_of pool t) → r.1 ≡ Some c → slice_get (depends_at pool c) r.2 ≡ Some r.0
+pub raised_of_choice : (pool : SelectionProblem) (t : List ℕ) (r : RaisedDepValue) (c : ℕ) → IsIn r (queue_of pool t) → r.1 ≡ Some c → slice_get (depends_at pool c) r.2 ≡ Some r.0
 raised_of_choice pool t r c h by = elim (in_append r (raised_deps None pool.world) (flat_map (raised_deps_at pool) t) h) [
   | inl a ↦ let k = raised_in None 0 pool.world r a in let bad : ◌≡◌ {A = Option ℕ} None (Some c) = sym k.0 ∙ by in absurd (cc)
   | inr b ↦
@@ -287,7 +287,7 @@ raised_of_choice pool t r c h by = elim (in_append r (raised_deps None pool.worl
       subst (λ (z : ℕ). slice_get (depends_at pool z) r.2 ≡ Some r.0) same (subst (λ (n : ℕ). slice_get (depends_at pool f.0) n ≡ Some r.0) at g.2)
 ]
 
-in_needs : (pool : SealedPool) (t : List ℕ) (r : RaisedDepValue) → IsIn r (queue_of pool t) → AreAllMembersOf (option_to_list r.1) t × IsIn (entry r.0) (needs pool (option_to_list r.1))
+in_needs : (pool : SelectionProblem) (t : List ℕ) (r : RaisedDepValue) → IsIn r (queue_of pool t) → AreAllMembersOf (option_to_list r.1) t × IsIn (entry r.0) (needs pool (option_to_list r.1))
 in_needs pool t r h = elim (in_append r (raised_deps None pool.world) (flat_map (raised_deps_at pool) t) h) [
   | inl a ↦
       let k = raised_in None 0 pool.world r a in
@@ -302,7 +302,7 @@ in_needs pool t r h = elim (in_append r (raised_deps None pool.world) (flat_map 
       )
 ]
 
-pub open_raised : (pool : SealedPool) (t : List ℕ) (r : RaisedDepValue) (frame : FrameValue) → find (is_unmet_dep pool t) (queue_of pool t) ≡ Some r → frame ≡ ([], options_for pool (entry r.0), option_to_list r.1) → IsFrameOf pool t frame
+pub open_raised : (pool : SelectionProblem) (t : List ℕ) (r : RaisedDepValue) (frame : FrameValue) → find (is_unmet_dep pool t) (queue_of pool t) ≡ Some r → frame ≡ ([], options_for pool (entry r.0), option_to_list r.1) → IsFrameOf pool t frame
 unfolding next_need
 open_raised pool t r frame found is =
     let there = find_in (is_unmet_dep pool t) (queue_of pool t) r found in
@@ -313,23 +313,23 @@ open_raised pool t r frame found is =
     (entry r.0, rw first refl, refl, facts.0, facts.1, tt) in
     subst (λ (f : FrameValue). IsFrameOf pool t f) (sym is) open_now
 
-pub none_raised : (pool : SealedPool) (t : List ℕ) → find (is_unmet_dep pool t) (queue_of pool t) ≡ None → find (is_unmet pool t) (needs_of_world_and_chosen pool t) ≡ None
+pub none_raised : (pool : SelectionProblem) (t : List ℕ) → find (is_unmet_dep pool t) (queue_of pool t) ≡ None → find (is_unmet pool t) (needs_of_world_and_chosen pool t) ≡ None
 none_raised pool t h = ap (find (is_unmet pool t)) (raised_queue pool t) ∙ find_map (is_unmet pool t) (queue_of pool t) None h
 
-pub past_by : (pool : SealedPool) (t : List ℕ) (queue : List RaisedDepValue) (at : ℕ) → queue ≡ queue_of pool t → AreFirstDepsMet pool t at → slice_get queue at ≡ None → slice_get queue at ≡ find (is_unmet_dep pool t) (queue_of pool t)
+pub past_by : (pool : SelectionProblem) (t : List ℕ) (queue : List RaisedDepValue) (at : ℕ) → queue ≡ queue_of pool t → AreFirstDepsMet pool t at → slice_get queue at ≡ None → slice_get queue at ≡ find (is_unmet_dep pool t) (queue_of pool t)
 past_by pool t queue at is met none =
     let past = get_none queue at none in
     subst (λ (z : List RaisedDepValue). slice_get z at ≡ find (is_unmet_dep pool t) (queue_of pool t)) (sym is)
     (past_end (is_unmet_dep pool t) (queue_of pool t) at (subst (λ (z : List RaisedDepValue). length z ≤ at) is past) met.1)
 
 -- an option is a candidate
-pub taken_within : (pool : SealedPool) → ((need : Need) → HasOptions pool need) → (t : List ℕ) (f : FrameValue) (id : ℕ) → IsFrameTaking pool t f id → id < length pool.candidates
+pub taken_within : (pool : SelectionProblem) → ((need : Need) → HasOptions pool need) → (t : List ℕ) (f : FrameValue) (id : ℕ) → IsFrameTaking pool t f id → id < length pool.candidates
 taken_within pool has t f id taken =
     let there : IsIn id (options_for pool taken.0) = subst (λ (z : List ℕ). IsIn id z) (sym taken.2) (in_right id (ruled_out_options f.0) (id ∷ f.1) (inl refl)) in
     passing_is_within pool (is_eligible pool.world) id ((has taken.0).those id there).0
 
 -- an option of an unmet need is no choice
-pub taken_once : (pool : SealedPool) → ((need : Need) → HasOptions pool need) → (t : List ℕ) (f : FrameValue) (id : ℕ) → IsFrameTaking pool t f id → IsIn id t → ⊥
+pub taken_once : (pool : SelectionProblem) → ((need : Need) → HasOptions pool need) → (t : List ℕ) (f : FrameValue) (id : ℕ) → IsFrameTaking pool t f id → IsIn id t → ⊥
 taken_once pool has t f id taken h =
     let there : IsIn id (options_for pool taken.0) = subst (λ (z : List ℕ). IsIn id z) (sym taken.2) (in_right id (ruled_out_options f.0) (id ∷ f.1) (inl refl)) in
     ((pool_facts pool has).next_some t taken.0 taken.1).1 (id, h, ((has taken.0).those id there).1)

@@ -2,7 +2,7 @@
 -- of a document: serves the contracts of `src/choices.rt` and `src/search.rt` of `solve_core`. The
 -- search is described in `docs/selection.md`, "How the search works".
 use Rattle.std.specs.Prelude.{◌≡◌, ◌<◌, length, ℕ, List, [], ◌∷◌, ◌++◌}
-use Rattle.search_tables.specs.candidate_core.Rank.{SealedPool}
+use Rattle.search_tables.specs.candidate_core.Rank.{SelectionProblem}
 use Rattle.search_tables.specs.candidate_core.Options.{IsIn}
 use Rattle.search_tables.specs.Conflicts.{AreConflictsOf}
 use Rattle.search_tables.specs.Excluders.{IsConflictTable}
@@ -13,7 +13,7 @@ use Rattle.search_tables.specs.Reasons.{FrameValue, AreCompatible, AreTurnsFrom,
 use Rattle.search_choices.specs.declared.choices.Choices.{Choices}
 
 -- the pool of whose candidates some choices are made
-abbrev pub pool_of : Choices → SealedPool
+abbrev pub pool_of : Choices → SelectionProblem
 pool_of chosen = chosen.pool.now
 
 -- the choices, in the order chosen
@@ -26,7 +26,7 @@ install_ifs_of chosen = chosen.install_ifs.by_name.items
 
 -- further choices `cs` were made after the choices `u`. For each of them, in order, the list has a checkpoint: the
 -- length of the queue, and the two cursors, before that choice
-abbrev pub AreCheckpointsOfLaterChoices : SealedPool → List ℕ → List ℕ → List ℕ → List Checkpoint → Type 0
+abbrev pub AreCheckpointsOfLaterChoices : SelectionProblem → List ℕ → List ℕ → List ℕ → List Checkpoint → Type 0
 AreCheckpointsOfLaterChoices pool install_ifs u [] [] = Unit {0}
 AreCheckpointsOfLaterChoices pool install_ifs u [] (b ∷ bs) = ⊥
 AreCheckpointsOfLaterChoices pool install_ifs u (c ∷ cs) [] = ⊥

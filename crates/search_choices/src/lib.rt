@@ -13,6 +13,6 @@ pub use choices::Choices;
 // Names of `search_tables` and the crates below it that users of this crate need.
 pub use search_tables::{
     CandId, Candidate, CandidateSet, Details, Frame, PackageMatches, RuledOutOption, Sealed,
-    SortedWords, is_same_id, options_are_the_best_first, rank_is_total,
+    SortedWords, is_same_id_by_nonempty_prefix, options_are_the_best_first, rank_is_total,
 };
 pub use trace::Trace;

@@ -9,7 +9,7 @@ use Rattle.std.proofs.lemmas.Bool.{cases_lt, eq-eqb, eqb-true}
 use Rattle.std.proofs.lemmas.List.Sorted.{list_any-IsPermutation, ranks_by, sorted_far}
 use Rattle.dep_core.specs.Dependency.{Dependency}
 use Rattle.pool_core.specs.candidate_core.Candidates.{is_eligible_with_positive_install_if}
-use Rattle.pool_core.specs.candidate_core.Rank.{SealedPool}
+use Rattle.pool_core.specs.candidate_core.Rank.{SelectionProblem}
 use Rattle.pool_core.specs.candidate_core.Options.{AreAllMembersOf, IsIn, places_passing_counted_from}
 use Rattle.search_tables.specs.InstallIf.{has_lesser_name, install_if_at, is_eligible_with_positive_install_if_at, name_at}
 use Rattle.search_tables.specs.NameTable.{items_under_name}
@@ -28,7 +28,7 @@ in_sorted xs ys same k h = moved xs ys k (list_any-IsPermutation (λ x. k == x) 
 pub sorted_in : (xs ys : List ℕ) → IsPermutation xs ys → AreAllMembersOf ys xs
 sorted_in xs ys same k h = moved ys xs k (sym (list_any-IsPermutation (λ x. k == x) xs ys same)) h
 
-module _ (pool : SealedPool) where
+module _ (pool : SelectionProblem) where
   pub usable_there : (k : ℕ) → IsIn k (places_passing_counted_from 0 (is_eligible_with_positive_install_if pool.world) pool.candidates) → is_eligible_with_positive_install_if_at pool k ≡ true
   usable_there k h =
       let r = places_in 0 (is_eligible_with_positive_install_if pool.world) pool.candidates k h in

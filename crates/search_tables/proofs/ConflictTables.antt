@@ -8,7 +8,7 @@ use Rattle.std.proofs.lemmas.Bool.{cases_Bool}
 use Rattle.dep_core.specs.Dependency.{Dependency}
 use Rattle.pool_core.specs.candidate_core.Candidates.{Candidate}
 use Rattle.pool_core.specs.candidate_core.Options.{IsIn}
-use Rattle.pool_core.specs.candidate_core.Rank.{SealedPool}
+use Rattle.pool_core.specs.candidate_core.Rank.{SelectionProblem}
 use Rattle.pool_core.proofs.candidate_core.Steps.{take_one_more}
 use Rattle.search_tables.specs.Conflicts.{AreConflictsOf, IsConflictOf, ListedConflictValue, conflicts_among, conflicts_in, conflicts_of_name_in, conflict_without_index}
 use Rattle.search_tables.specs.Excluders.{IsConflictTable}
@@ -131,10 +131,10 @@ nothing_left name by deps i start items none is =
 
 -- ---- a choice more, and the last one taken back
 
-pub among_more : (pool : SealedPool) (t : List ℕ) (c : ℕ) (name : List ℕ) → conflicts_among pool (t ++ c ∷ []) name ≡ conflicts_among pool t name ++ conflicts_of_name_in name c (depends_at pool c)
+pub among_more : (pool : SelectionProblem) (t : List ℕ) (c : ℕ) (name : List ℕ) → conflicts_among pool (t ++ c ∷ []) name ≡ conflicts_among pool t name ++ conflicts_of_name_in name c (depends_at pool c)
 among_more pool t c name = flat_more (λ k. conflicts_of_name_in name k (depends_at pool k)) t c
 
-pub listed_more : (pool : SealedPool) (t : List ℕ) (c : ℕ) (deps : List Dependency) (old new : Conflicts) → deps ≡ depends_at pool c → IsConflictTable pool t old → ((name : List ℕ) → conflicts_in new.by_name name ≡ conflicts_in old.by_name name ++ conflicts_of_name_in name c deps) → IsConflictTable pool (t ++ c ∷ []) new
+pub listed_more : (pool : SelectionProblem) (t : List ℕ) (c : ℕ) (deps : List Dependency) (old new : Conflicts) → deps ≡ depends_at pool c → IsConflictTable pool t old → ((name : List ℕ) → conflicts_in new.by_name name ≡ conflicts_in old.by_name name ++ conflicts_of_name_in name c deps) → IsConflictTable pool (t ++ c ∷ []) new
 listed_more pool t c deps old new same was is name =
     is name ∙ (ap (λ (z : List Listed). z ++ conflicts_of_name_in name c deps) (was name)
     ∙ (ap (λ (z : List Dependency). conflicts_among pool t name ++ conflicts_of_name_in name c z) same ∙ sym (among_more pool t c name)))

@@ -11,7 +11,7 @@ use Rattle.std.proofs.lemmas.Bool.{and_parts, or_cases, cases_Bool, both_ways}
 use Rattle.pool_core.proofs.Filtered.{meeting_offers}
 use Rattle.dep_core.specs.Dependency.{Dependency}
 use Rattle.pool_core.specs.candidate_core.Candidates.{Candidate, entry, meets_dependency, occupies_name, offers_name}
-use Rattle.pool_core.specs.candidate_core.Rank.{SealedPool, candidate_at, candidate_at_passes, meets_at}
+use Rattle.pool_core.specs.candidate_core.Rank.{SelectionProblem, candidate_at, candidate_at_passes, meets_at}
 use Rattle.pool_core.specs.candidate_core.Options.{IsIn}
 use Rattle.search_tables.specs.Selection.{exclude_each_other, depends_at, is_conflict_of_first_met_by_second, is_met, occupied_names_at, occupied_names, does_exclude, share_a_name}
 use Rattle.search_tables.specs.Conflicts.{conflicts_in, conflicts_of_name_in}
@@ -59,7 +59,7 @@ occupied_by_entry c p there plain versioned =
     let test : Dependency → Bool = λ (q : Dependency). not q.conflict && is_some q.version in
     inr (in_map (λ (q : Dependency). q.name) p (filter test c.provides) (in_filter test p c.provides there (rw (plain, versioned) refl)))
 
-module _ (pool : SealedPool) (t : List ℕ) (id : ℕ) (details : Candidate) where
+module _ (pool : SelectionProblem) (t : List ℕ) (id : ℕ) (details : Candidate) where
   different : (IsIn id t → ⊥) → (k : ℕ) → IsIn k t → (k == id) ≡ false
   different once k there = elim (eqb_tells k id) [
     | inl e ↦ absurd (once (subst (λ (z : ℕ). IsIn z t) e.1 there))

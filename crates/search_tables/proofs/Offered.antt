@@ -9,7 +9,7 @@ use Rattle.std.proofs.lemmas.Bool.{and_parts, or_cases, cases_Bool, both_ways}
 use Rattle.pool_core.proofs.Filtered.{meeting_offers, at_weaker}
 use Rattle.dep_core.specs.Dependency.{Dependency}
 use Rattle.pool_core.specs.candidate_core.Candidates.{Candidate, Need, entry, is_name_occupied_by_provides_entry, named, need_name, meets_dependency, occupies_name, offers_name}
-use Rattle.pool_core.specs.candidate_core.Rank.{SealedPool, candidate_at_passes, meets_at}
+use Rattle.pool_core.specs.candidate_core.Rank.{SelectionProblem, candidate_at_passes, meets_at}
 use Rattle.pool_core.specs.candidate_core.Options.{IsIn, places_offering}
 use Rattle.search_tables.specs.Selection.{is_met}
 use Rattle.pool_core.proofs.candidate_core.OptionLists.{in_places}
@@ -17,7 +17,7 @@ use Rattle.search_tables.proofs.PoolFacts.{any_in}
 use Rattle.search_tables.proofs.Satisfying.{true_or, any_one, one_any}
 use Rattle.search_tables.proofs.Theory.{in_append}
 
-pub meets_offered : (pool : SealedPool) (d : Dependency) (m : ℕ) → meets_at pool m (entry d) ≡ true → IsIn m (places_offering d.name pool.candidates)
+pub meets_offered : (pool : SelectionProblem) (d : Dependency) (m : ℕ) → meets_at pool m (entry d) ≡ true → IsIn m (places_offering d.name pool.candidates)
 meets_offered pool d m h =
     let z : 0 + m ≡ m = omega arith in
     subst (λ (o : ℕ). IsIn o (places_offering d.name pool.candidates)) z
@@ -29,25 +29,25 @@ in_more P xs x all here k h = elim (in_append k xs (x ∷ []) h) [
   | inr b ↦ elim b [ inl e ↦ subst P (sym e) here | inr bad ↦ absurd bad ]
 ]
 
-named_offered : (pool : SealedPool) (name : List ℕ) (m : ℕ) → meets_at pool m (named name) ≡ true → IsIn m (places_offering name pool.candidates)
+named_offered : (pool : SelectionProblem) (name : List ℕ) (m : ℕ) → meets_at pool m (named name) ≡ true → IsIn m (places_offering name pool.candidates)
 named_offered pool name m h =
     let z : 0 + m ≡ m = omega arith in
     subst (λ (o : ℕ). IsIn o (places_offering name pool.candidates)) z
     (in_places 0 (offers_name name) pool.candidates m (at_weaker (λ (c : Candidate). bytes_eq name c.name) (offers_name name) (slice_get pool.candidates m) (λ c e. true_or (bytes_eq name c.name) _ (inl e)) h))
 
-need_offered : (pool : SealedPool) (need : Need) (m : ℕ) → meets_at pool m need ≡ true → IsIn m (places_offering (need_name need) pool.candidates)
+need_offered : (pool : SelectionProblem) (need : Need) (m : ℕ) → meets_at pool m need ≡ true → IsIn m (places_offering (need_name need) pool.candidates)
 need_offered pool (entry d) m h = meets_offered pool d m h
 need_offered pool (named name) m h = named_offered pool name m h
 
 -- no choice meets the need, looked for among all choices
-pub unmet_among_all : (pool : SealedPool) (chosen : List ℕ) (need : Need) → ((k : ℕ) → IsIn k chosen → meets_at pool k need ≡ false) → is_met pool chosen need ≡ false
+pub unmet_among_all : (pool : SelectionProblem) (chosen : List ℕ) (need : Need) → ((k : ℕ) → IsIn k chosen → meets_at pool k need ≡ false) → is_met pool chosen need ≡ false
 unmet_among_all pool chosen need none = elim (cases_Bool (is_met pool chosen need)) [
   | inl e ↦ let r = any_in (λ c. meets_at pool c need) chosen e in absurd (both_ways (meets_at pool r.0 need) (none r.0 r.1) r.2)
   | inr e ↦ e
 ]
 
 -- the same, among those that offer its name
-pub unmet_among_offers : (pool : SealedPool) (chosen : List ℕ) (need : Need) → ((k : ℕ) → IsIn k (places_offering (need_name need) pool.candidates) → IsIn k chosen → meets_at pool k need ≡ false) → is_met pool chosen need ≡ false
+pub unmet_among_offers : (pool : SelectionProblem) (chosen : List ℕ) (need : Need) → ((k : ℕ) → IsIn k (places_offering (need_name need) pool.candidates) → IsIn k chosen → meets_at pool k need ≡ false) → is_met pool chosen need ≡ false
 unmet_among_offers pool chosen need none = elim (cases_Bool (is_met pool chosen need)) [
   | inl e ↦ let r = any_in (λ c. meets_at pool c need) chosen e in absurd (both_ways (meets_at pool r.0 need) (none r.0 (need_offered pool need r.0 r.2) r.1) r.2)
   | inr e ↦ e
@@ -76,7 +76,7 @@ occupied_offers name c h = elim (or_cases (bytes_eq name c.name) (list_any (is_n
 ]
 
 -- no choice occupies the name, looked for among those that offer it
-pub occupied_among_offers : (pool : SealedPool) (chosen : List ℕ) (name : List ℕ) → ((k : ℕ) → IsIn k (places_offering name pool.candidates) → IsIn k chosen → candidate_at_passes pool (occupies_name name) k ≡ false) → (k : ℕ) → IsIn k chosen → candidate_at_passes pool (occupies_name name) k ≡ false
+pub occupied_among_offers : (pool : SelectionProblem) (chosen : List ℕ) (name : List ℕ) → ((k : ℕ) → IsIn k (places_offering name pool.candidates) → IsIn k chosen → candidate_at_passes pool (occupies_name name) k ≡ false) → (k : ℕ) → IsIn k chosen → candidate_at_passes pool (occupies_name name) k ≡ false
 occupied_among_offers pool chosen name none k there = elim (cases_Bool (candidate_at_passes pool (occupies_name name) k)) [
   | inr e ↦ e
   | inl e ↦

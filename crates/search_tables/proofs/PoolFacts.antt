@@ -8,8 +8,8 @@ use Rattle.std.specs.List.{filter, find, flat_map, list_all, list_any}
 use Rattle.std.proofs.lemmas.Bool.{cases_Bool}
 use Rattle.dep_core.specs.Dependency.{Dependency}
 use Rattle.pool_core.specs.candidate_core.Candidates.{Candidate, Need, entry, is_eligible_with_positive_install_if, named}
-use Rattle.pool_core.specs.candidate_core.Rank.{SealedPool, bytes_cmp, is_eligible_at, is_better, meets_at}
-use Rattle.pool_core.specs.candidate_core.Options.{IsIn, IsSortedBestFirst, options_for}
+use Rattle.pool_core.specs.candidate_core.Rank.{SelectionProblem, bytes_cmp, is_eligible_at, is_better, meets_at}
+use Rattle.pool_core.specs.candidate_core.Options.{IsIn, IsStrictlySortedBestFirst, options_for}
 use Rattle.search_tables.specs.Selection.{AreAllMembersOf, AreDistinct, exclude_each_other, names_whose_install_if_applies, install_if_applies, depends_at, is_met, is_unmet, does_exclude, least_name, lesser_name, needs, positive_needs, next_need, needs_of_world_and_chosen}
 use Rattle.search_tables.specs.Reasons.{AreCompatible}
 use Rattle.search_tables.specs.Reasons.{HasOptions}
@@ -119,7 +119,7 @@ in_flat f q c (x ∷ xs) (inr h) g = in_right q (f x) (flat_map f xs) (in_flat f
 
 -- ---- needs
 
-module _ (pool : SealedPool) where
+module _ (pool : SelectionProblem) where
   pub met_mono : (q : Need) (t u : List ℕ) → AreAllMembersOf t u → is_met pool t q ≡ true → is_met pool u q ≡ true
   met_mono q t u sub h =
       let r = any_in (λ c. meets_at pool c q) t h in
@@ -232,7 +232,7 @@ module _ (pool : SealedPool) where
   apart_self : (a : ℕ) → exclude_each_other pool a a ≡ true → ⊥
   apart_self a h = let same : (a == a) ≡ true = nat_eq_equiv.refl a in let bad : false ≡ true = rw same at h in none_true bad
 
-  ranked_sorted : (q : Need) (xs : List ℕ) → IsSortedBestFirst (is_better pool q) xs → Sorted (λ a b. is_better pool q a b ≡ true) xs
+  ranked_sorted : (q : Need) (xs : List ℕ) → IsStrictlySortedBestFirst (is_better pool q) xs → Sorted (λ a b. is_better pool q a b ≡ true) xs
   ranked_sorted q [] r = tt
   ranked_sorted q (x ∷ xs) r = (r.0, ranked_sorted q xs r.1)
 
@@ -269,7 +269,7 @@ module _ (pool : SealedPool) where
     ],
   )
 
-pub pool_facts : (pool : SealedPool) → ((need : Need) → HasOptions pool need) → PoolFacts pool
+pub pool_facts : (pool : SelectionProblem) → ((need : Need) → HasOptions pool need) → PoolFacts pool
 pool_facts pool has = record {
   needs_mono = needs_mono pool;
   next_some = λ t q e. let r = next_some pool t q e in (r.0, λ m. let is : is_met pool t q ≡ true = in_any (λ c. meets_at pool c q) t m.0 m.1 m.2 in let no = r.1 in none_true (sym no ∙ is));

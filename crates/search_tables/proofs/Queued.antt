@@ -5,7 +5,7 @@ use Rattle.std.specs.List.{filter, find, flat_map, list_any}
 use Rattle.std.proofs.lemmas.Bool.{not-false, cases_Bool}
 use Rattle.dep_core.specs.Dependency.{Dependency}
 use Rattle.pool_core.specs.candidate_core.Candidates.{entry}
-use Rattle.pool_core.specs.candidate_core.Rank.{SealedPool, meets_at}
+use Rattle.pool_core.specs.candidate_core.Rank.{SelectionProblem, meets_at}
 use Rattle.search_tables.specs.Selection.{is_met}
 use Rattle.search_tables.specs.Queue.{AreFirstDepsMet, RaisedDepValue, is_unmet_dep, queue_of, raised_deps_at, raised_deps, raised_deps_from}
 
@@ -58,7 +58,7 @@ pub flat_more : {X : Type 0} (f : ℕ → List X) (t : List ℕ) (c : ℕ) → f
 flat_more f [] c = append-nil (f c)
 flat_more {X} f (x ∷ t) c = ap (λ (z : List X). f x ++ z) (flat_more f t c) ∙ sym (append_assoc (f x) (flat_map f t) (f c))
 
-pub queue_more : (pool : SealedPool) (t : List ℕ) (c : ℕ) → queue_of pool (t ++ c ∷ []) ≡ queue_of pool t ++ raised_deps_at pool c
+pub queue_more : (pool : SelectionProblem) (t : List ℕ) (c : ℕ) → queue_of pool (t ++ c ∷ []) ≡ queue_of pool t ++ raised_deps_at pool c
 queue_more pool t c =
     ap (λ (z : List RaisedDepValue). raised_deps None pool.world ++ z) (flat_more (raised_deps_at pool) t c)
     ∙ sym (append_assoc (raised_deps None pool.world) (flat_map (raised_deps_at pool) t) (raised_deps_at pool c))
@@ -82,10 +82,10 @@ none_still {X} p q (x ∷ xs) to h = elim (cases_Bool (p x)) [
   | inr t ↦ rw (to x t) (none_still p q xs to (rw t at h))
 ]
 
-still_met : (pool : SealedPool) (t us : List ℕ) (r : RaisedDepValue) → is_unmet_dep pool t r ≡ false → is_unmet_dep pool (t ++ us) r ≡ false
+still_met : (pool : SelectionProblem) (t us : List ℕ) (r : RaisedDepValue) → is_unmet_dep pool t r ≡ false → is_unmet_dep pool (t ++ us) r ≡ false
 still_met pool t us r h = ap not (any_append (λ c. meets_at pool c (entry r.0)) t us (not-false (is_met pool t (entry r.0)) h))
 
-pub met_more : (pool : SealedPool) (t : List ℕ) (c at : ℕ) → AreFirstDepsMet pool t at → AreFirstDepsMet pool (t ++ c ∷ []) at
+pub met_more : (pool : SelectionProblem) (t : List ℕ) (c at : ℕ) → AreFirstDepsMet pool t at → AreFirstDepsMet pool (t ++ c ∷ []) at
 met_more pool t c at met =
     let e = queue_more pool t c in (
       subst (λ (z : List RaisedDepValue). at ≤ length z) (sym e) (omega (arith, met.0, length-append (queue_of pool t) (raised_deps_at pool c))),
@@ -130,7 +130,7 @@ past_end p (x ∷ xs) (suc i) h n = elim (cases_Bool (p x)) [
   | inr t ↦ rw t (past_end p xs i (omega arith) (rw t at n))
 ]
 
-pub met_next : (pool : SealedPool) (t : List ℕ) (at : ℕ) (r : RaisedDepValue) → AreFirstDepsMet pool t at → at < length (queue_of pool t) → slice_get (queue_of pool t) at ≡ Some r → is_unmet_dep pool t r ≡ false → AreFirstDepsMet pool t (at + 1)
+pub met_next : (pool : SelectionProblem) (t : List ℕ) (at : ℕ) (r : RaisedDepValue) → AreFirstDepsMet pool t at → at < length (queue_of pool t) → slice_get (queue_of pool t) at ≡ Some r → is_unmet_dep pool t r ≡ false → AreFirstDepsMet pool t (at + 1)
 met_next pool t at r met h g e =
     let z : at + 1 ≡ suc at = omega arith in
     (omega arith, subst (λ (k : ℕ). find (is_unmet_dep pool t) (take k (queue_of pool t)) ≡ None) (sym z) (none_at (is_unmet_dep pool t) (queue_of pool t) at r met.1 g e))

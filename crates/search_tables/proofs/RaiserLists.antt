@@ -5,7 +5,7 @@ use Rattle.std.proofs.lemmas.Bool.{and_parts, cases_Bool}
 use Rattle.pool_core.proofs.candidate_core.Steps.{take_one_more}
 use Rattle.dep_core.specs.Dependency.{Dependency}
 use Rattle.pool_core.specs.candidate_core.Candidates.{Need, entry}
-use Rattle.pool_core.specs.candidate_core.Rank.{SealedPool, meets_at}
+use Rattle.pool_core.specs.candidate_core.Rank.{SelectionProblem, meets_at}
 use Rattle.pool_core.specs.candidate_core.Options.{IsIn}
 use Rattle.search_tables.specs.Selection.{AreAllMembersOf, is_met}
 use Rattle.search_tables.specs.InstallIf.{all_met}
@@ -13,7 +13,7 @@ use Rattle.search_tables.proofs.Theory.{in_left, in_right, in_append}
 use Rattle.search_tables.proofs.PoolFacts.{met_mono}
 use Rattle.search_tables.proofs.Satisfying.{one_any}
 
-module _ (pool : SealedPool) where
+module _ (pool : SelectionProblem) where
   pub is_met_by : (t : List ℕ) (need : Need) (o : Option ℕ) → MatchOption o (is_met pool t need ≡ false) (λ id. IsIn id t × (meets_at pool id need ≡ true)) → is_some o ≡ is_met pool t need
   is_met_by t need None m = sym m
   is_met_by t need (Some id) m = sym (one_any (λ c. meets_at pool c need) t id m.0 m.1)

@@ -9,7 +9,7 @@ use Rattle.std.specs.Cmp.Lexicographic.{bytes_decides}
 use Rattle.std.proofs.lemmas.Bool.{and_parts, or_cases, cases_Bool}
 use Rattle.dep_core.specs.Dependency.{Dependency}
 use Rattle.pool_core.specs.candidate_core.Candidates.{Candidate, Need, named, occupies_name}
-use Rattle.pool_core.specs.candidate_core.Rank.{SealedPool, candidate_at, candidate_at_passes}
+use Rattle.pool_core.specs.candidate_core.Rank.{SelectionProblem, candidate_at, candidate_at_passes}
 use Rattle.pool_core.specs.candidate_core.Options.{IsIn}
 use Rattle.search_tables.specs.Selection.{IsSatisfying, exclude_each_other, names_whose_install_if_applies, depends_at, is_conflict_of_first_met_by_second, occupied_names_at, occupied_names, is_unmet, does_exclude, least_name, needs, positive_needs, next_need, needs_of_world_and_chosen, share_a_name}
 use Rattle.search_tables.specs.Reasons.{IsSolution}
@@ -66,7 +66,7 @@ occupied_is_listed k name h = elim (or_cases (bytes_eq name k.name) (list_any (�
       inr (subst (λ (z : List ℕ). IsIn z (map of (filter alone k.provides))) (sym (same_bytes name a.0.name two.1)) (in_map of a.0 (filter alone k.provides) f))
 ]
 
-module _ (pool : SealedPool) where
+module _ (pool : SelectionProblem) where
   pub listed_is_occupied_at : (a : ℕ) (name : List ℕ) → IsIn name (occupied_names_at pool a) → candidate_at_passes pool (occupies_name name) a ≡ true
   listed_is_occupied_at a name h = by (candidate_at pool a) h
     where

@@ -2,20 +2,20 @@
 use Rattle.std.proofs.Common.{◌≡◌, ℕ, true, List, [], ◌∷◌, ◌++◌, refl, sym, subst, ap, ◌∙◌, append_assoc, append-nil}
 use Rattle.std.specs.Prelude.{Some, None, slice_get, zero, suc}
 use Rattle.pool_core.specs.candidate_core.Candidates.{Need}
-use Rattle.pool_core.specs.candidate_core.Rank.{SealedPool, is_eligible_at, is_better, meets_at}
+use Rattle.pool_core.specs.candidate_core.Rank.{SelectionProblem, is_eligible_at, is_better, meets_at}
 use Rattle.pool_core.specs.candidate_core.Options.{IsIn, options_for}
 use Rattle.search_tables.specs.Selection.{AreAllMembersOf, exclude_each_other, needs, next_need}
 use Rattle.search_tables.specs.Reasons.{AreCompatible, IsRuledOutBy, FrameValue, ruled_out_options, AreRuledOut, IsFrameOf, IsFrameTaking, AreTurnsFrom, choices_of_turns}
 use Rattle.search_tables.proofs.Theory as law
 use Rattle.search_tables.proofs.Theory.{Facts, in_left, in_right, in_append}
 
-abbrev pub PoolFacts : SealedPool → Type 0
+abbrev pub PoolFacts : SelectionProblem → Type 0
 PoolFacts pool =
     Facts Need (next_need pool) (λ chosen q. IsIn q (needs pool chosen)) (λ c q. meets_at pool c q ≡ true)
     (λ c. is_eligible_at pool c ≡ true) (AreCompatible pool) (λ a b. exclude_each_other pool a b ≡ true) (options_for pool)
     (λ q a b. is_better pool q a b ≡ true)
 
-module _ (pool : SealedPool) (facts : PoolFacts pool) where
+module _ (pool : SelectionProblem) (facts : PoolFacts pool) where
   reasons_why : (t : List ℕ) (ps : List (ℕ × List ℕ)) → AreRuledOut pool t ps → law.AllWhy facts t ps
   reasons_why t [] why = tt
   reasons_why t (p ∷ ps) why = (why.0.within, why.0.dead, reasons_why t ps why.1)
@@ -44,7 +44,7 @@ pub choices-append : (turns : List (FrameValue × ℕ)) (f : FrameValue) (c : �
 choices-append [] f c = refl
 choices-append (turn ∷ turns) f c = ap (λ (z : List ℕ). turn.1 ∷ z) (choices-append turns f c)
 
-module _ (pool : SealedPool) where
+module _ (pool : SelectionProblem) where
   pub turns_more : (u : List ℕ) (turns : List (FrameValue × ℕ)) (f : FrameValue) (c : ℕ) → AreTurnsFrom pool u turns → IsFrameTaking pool (u ++ choices_of_turns turns) f c → AreTurnsFrom pool u (turns ++ (f, c) ∷ [])
   turns_more u [] f c taken last = (subst (λ (z : List ℕ). IsFrameTaking pool z f c) (append-nil u) last, tt)
   turns_more u (turn ∷ turns) f c taken last =

@@ -6,7 +6,7 @@ use Rattle.std.specs.Str.{bytes_eq}
 use Rattle.dep_core.specs.Dependency.{Dependency}
 use Rattle.pool_core.specs.candidate_core.Candidates.{Candidate}
 use Rattle.pool_core.specs.candidate_core.Options.{IsIn}
-use Rattle.pool_core.specs.candidate_core.Rank.{SealedPool}
+use Rattle.pool_core.specs.candidate_core.Rank.{SelectionProblem}
 use Rattle.search_tables.specs.NameTable.{items_under_name}
 use Rattle.search_tables.specs.Selection.{depends_at}
 
@@ -17,7 +17,7 @@ conflicts_of_name_in name by deps =
     (filter (λ (d : Dependency). d.conflict && bytes_eq name d.name) deps)
 
 -- the conflicts of a name that some choices have, in the order of the choices
-abbrev pub conflicts_among : SealedPool → List ℕ → List ℕ → List (ℕ × Dependency)
+abbrev pub conflicts_among : SelectionProblem → List ℕ → List ℕ → List (ℕ × Dependency)
 conflicts_among pool chosen name = flat_map (λ c. conflicts_of_name_in name c (depends_at pool c)) chosen
 
 -- a conflict of a choice, in this order: the choice, the conflict, and the conflict's index among the dependencies of

@@ -5,7 +5,7 @@ use Rattle.std.specs.Prelude.{◌≡◌, ◌≤◌, ℕ, suc, Bool, if◌then◌
 use Rattle.std.specs.List.{find, flat_map}
 use Rattle.dep_core.specs.Dependency.{Dependency}
 use Rattle.pool_core.specs.candidate_core.Candidates.{entry}
-use Rattle.pool_core.specs.candidate_core.Rank.{SealedPool}
+use Rattle.pool_core.specs.candidate_core.Rank.{SelectionProblem}
 use Rattle.search_tables.specs.Selection.{depends_at, is_unmet}
 
 -- a dependency with its origin, in this order: the dependency; the choice that has it (None for an entry of world);
@@ -26,18 +26,18 @@ abbrev pub raised_deps : Option ℕ → List Dependency → List RaisedDepValue
 raised_deps by deps = raised_deps_from by 0 deps
 
 -- the dependencies that the choice at a place raises: those that are no conflicts
-abbrev pub raised_deps_at : SealedPool → ℕ → List RaisedDepValue
+abbrev pub raised_deps_at : SelectionProblem → ℕ → List RaisedDepValue
 raised_deps_at pool c = raised_deps (Some c) (depends_at pool c)
 
 -- all dependencies that world and the choices raise, in the order in which they are to be met
-abbrev pub queue_of : SealedPool → List ℕ → List RaisedDepValue
+abbrev pub queue_of : SelectionProblem → List ℕ → List RaisedDepValue
 queue_of pool chosen = raised_deps None pool.world ++ flat_map (raised_deps_at pool) chosen
 
 -- whether no choice meets a raised dependency
-abbrev pub is_unmet_dep : SealedPool → List ℕ → RaisedDepValue → Bool
+abbrev pub is_unmet_dep : SelectionProblem → List ℕ → RaisedDepValue → Bool
 is_unmet_dep pool chosen r = is_unmet pool chosen (entry r.0)
 
 -- the queue has at least `at` dependencies, and the first `at` of them are met
-abbrev pub AreFirstDepsMet : SealedPool → List ℕ → ℕ → Type 0
+abbrev pub AreFirstDepsMet : SelectionProblem → List ℕ → ℕ → Type 0
 AreFirstDepsMet pool chosen at = (at ≤ length (queue_of pool chosen))
     × (find (is_unmet_dep pool chosen) (take at (queue_of pool chosen)) ≡ None)

@@ -4,28 +4,28 @@
 -- `solve_core` those of `src/search.rt`.
 use Rattle.std.specs.Prelude.{◌≡◌, ℕ, true, List, [], ◌∷◌, ◌++◌, Some, None}
 use Rattle.pool_core.specs.candidate_core.Candidates.{Need}
-use Rattle.pool_core.specs.candidate_core.Rank.{SealedPool, is_better, is_eligible_at, meets_at}
-use Rattle.pool_core.specs.candidate_core.Options.{IsSortedBestFirst, IsIn, options_for}
+use Rattle.pool_core.specs.candidate_core.Rank.{SelectionProblem, is_better, is_eligible_at, meets_at}
+use Rattle.pool_core.specs.candidate_core.Options.{IsStrictlySortedBestFirst, IsIn, options_for}
 use Rattle.search_tables.specs.Selection.{AreAllMembersOf, AreDistinct, exclude_each_other, needs, next_need}
 
 -- candidates that are compatible: each may be selected, none occurs twice, and no two exclude each
 -- other
-abbrev pub AreCompatible : SealedPool → List ℕ → Type 0
+abbrev pub AreCompatible : SelectionProblem → List ℕ → Type 0
 AreCompatible pool chosen =
     AreDistinct chosen × ((c : ℕ) → IsIn c chosen → is_eligible_at pool c ≡ true)
     × ((a b : ℕ) → IsIn a chosen → IsIn b chosen → exclude_each_other pool a b ≡ true → ⊥)
 
 -- a selection that satisfies world, as the search finds it: compatible, and no need is left to be met
-abbrev pub IsSolution : SealedPool → List ℕ → Type 0
+abbrev pub IsSolution : SelectionProblem → List ℕ → Type 0
 IsSolution pool selection = AreCompatible pool selection × (next_need pool selection ≡ None)
 
 -- the candidates are a reason: no satisfying selection has all of them
-abbrev pub IsReason : SealedPool → List ℕ → Type 0
+abbrev pub IsReason : SelectionProblem → List ℕ → Type 0
 IsReason pool reason = (selection : List ℕ) → IsSolution pool selection →
     AreAllMembersOf reason selection → ⊥
 
 -- why a candidate `c` cannot join some choices: `c` and some of the choices, `others`, form a reason
-pub record IsRuledOutBy (pool : SealedPool) (chosen : List ℕ) (c : ℕ) (others : List ℕ) : Type 0 where
+pub record IsRuledOutBy (pool : SelectionProblem) (chosen : List ℕ) (c : ℕ) (others : List ℕ) : Type 0 where
   -- `others` are choices
   pub within : AreAllMembersOf others chosen
   -- no satisfying selection has `c` and all of `others`
@@ -42,14 +42,14 @@ ruled_out_options [] = []
 ruled_out_options (p ∷ ps) = p.0 ∷ ruled_out_options ps
 
 -- each option of the list is ruled out by a reason whose other members are choices
-abbrev pub AreRuledOut : SealedPool → List ℕ → List (ℕ × List ℕ) → Type 0
+abbrev pub AreRuledOut : SelectionProblem → List ℕ → List (ℕ × List ℕ) → Type 0
 AreRuledOut pool chosen [] = Unit {0}
 AreRuledOut pool chosen (p ∷ ps) = IsRuledOutBy pool chosen p.0 p.1 × AreRuledOut pool chosen ps
 
 -- the frame is that of the next need after the choices `chosen`. In their order, the options of this need are those
 -- that are ruled out, and then those that are left. World and the choices in `f.2` alone raise the need. Each
 -- ruled-out option has a reason whose other members are choices
-abbrev pub IsFrameOf : SealedPool → List ℕ → FrameValue → Type 0
+abbrev pub IsFrameOf : SelectionProblem → List ℕ → FrameValue → Type 0
 IsFrameOf pool chosen f =
     (need : Need) × (next_need pool chosen ≡ Some need) × (options_for pool need ≡ ruled_out_options f.0
     ++ f.1)
@@ -57,12 +57,12 @@ IsFrameOf pool chosen f =
 
 -- the option `c` was just taken from the frame: with `c` put back in front of the options that are left, the frame is
 -- that of the next need after the choices `chosen`
-abbrev pub IsFrameTaking : SealedPool → List ℕ → FrameValue → ℕ → Type 0
+abbrev pub IsFrameTaking : SelectionProblem → List ℕ → FrameValue → ℕ → Type 0
 IsFrameTaking pool chosen f c = IsFrameOf pool chosen (f.0, c ∷ f.1, f.2)
 
 -- after the choices `chosen`, further choices were made at these turns, in this order: at each turn, the option was
 -- taken from the frame of the next need
-abbrev pub AreTurnsFrom : SealedPool → List ℕ → List (FrameValue × ℕ) → Type 0
+abbrev pub AreTurnsFrom : SelectionProblem → List ℕ → List (FrameValue × ℕ) → Type 0
 AreTurnsFrom pool chosen [] = Unit {0}
 AreTurnsFrom pool chosen (turn ∷ turns) =
     IsFrameTaking pool chosen turn.0 turn.1 × AreTurnsFrom pool (chosen ++ turn.1 ∷ []) turns
@@ -73,7 +73,7 @@ choices_of_turns [] = []
 choices_of_turns (turn ∷ turns) = turn.1 ∷ choices_of_turns turns
 
 -- the frame is that of the next need after some choices, and no option of it is left
-abbrev pub IsExhaustedFrame : SealedPool → List ℕ → FrameValue → Type 0
+abbrev pub IsExhaustedFrame : SelectionProblem → List ℕ → FrameValue → Type 0
 IsExhaustedFrame pool chosen f = IsFrameOf pool chosen f × (f.1 ≡ [])
 
 -- the other members of the reasons against all options that are ruled out, one list after the other
@@ -92,7 +92,7 @@ HasSameMembers xs ys = AreAllMembersOf xs ys × AreAllMembersOf ys xs
 
 -- the promise of a pool about the options of a need: they are exactly the candidates that may be
 -- selected and meet it, each better than those after it
-pub record HasOptions (pool : SealedPool) (need : Need) : Type 0 where
+pub record HasOptions (pool : SelectionProblem) (need : Need) : Type 0 where
   -- each option may be selected, and meets the need
   pub those : (c : ℕ) → IsIn c (options_for pool need) → (is_eligible_at pool c ≡ true)
       × (meets_at pool c need ≡ true)
@@ -100,4 +100,4 @@ pub record HasOptions (pool : SealedPool) (need : Need) : Type 0 where
   pub each : (c : ℕ) → is_eligible_at pool c ≡ true → meets_at pool c need ≡ true →
       IsIn c (options_for pool need)
   -- each option is better than those after it
-  pub best_first : IsSortedBestFirst (is_better pool need) (options_for pool need)
+  pub best_first : IsStrictlySortedBestFirst (is_better pool need) (options_for pool need)

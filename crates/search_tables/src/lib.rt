@@ -30,6 +30,6 @@ pub use needs::{
 // Names of `pool_core` and the crates below it that users of this crate need.
 pub use pool_core::{
     CandId, Candidate, Deps, Details, NeedRef, Options, PackageDep, PackageMatches, Sealed,
-    SortedWords, Upgrade, is_same_id, options_are_the_best_first, rank_is_total,
+    SortedWords, Upgrade, is_same_id_by_nonempty_prefix, options_are_the_best_first, rank_is_total,
 };
 pub use queue::{Checkpoint, RaisedDep, queue_all, queue_world};

@@ -3,7 +3,7 @@
 //! meets a dependency), and "What satisfies world", 3 (occupied names) and 4 (install-if).
 ghost use Rattle.std.specs.Prelude.{◌≡◌, ℕ, false, true, MatchBool, MatchOption, IfOk, OnOk};
 ghost use Rattle.dep_core.specs.Meets.{dependency};
-ghost use Rattle.pool_core.specs.candidate_core.Candidates.{entry, meets_need, need_name, occupies_name};
+ghost use Rattle.pool_core.specs.candidate_core.Candidates.{entry, meets_dependency_or_has_package_name, need_name, occupies_name};
 ghost use Rattle.pool_core.specs.candidate_core.Options.{IsIn, places_offering};
 ghost use Rattle.pool_core.specs.candidate_core.Rank.{candidate_at_passes, meets_at};
 ghost use Rattle.pool_core.specs.candidate_core.Values.{need_of_ref};
@@ -92,14 +92,14 @@ fn meets(pool: &Sealed<'_>, id: CandId, need: &NeedRef<'_>) -> bool
 {
     match pool.at(id) {
         None => false,
-        Some(details) => meets_need(&details, need),
+        Some(details) => meets_dependency_or_has_package_name(&details, need),
     }
 }
 
 // Whether a candidate meets a need, by its details: the name of an install-if is met only by a
 // candidate of that name.
-fn meets_need(details: &Details<'_>, need: &NeedRef<'_>) -> bool
-    ensures { result ≡ meets_need (need_of_ref need.now) details.now }
+fn meets_dependency_or_has_package_name(details: &Details<'_>, need: &NeedRef<'_>) -> bool
+    ensures { result ≡ meets_dependency_or_has_package_name (need_of_ref need.now) details.now }
 {
     match need {
         NeedRef::Entry(dep) => details.meets(dep),

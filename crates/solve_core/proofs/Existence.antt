@@ -4,7 +4,7 @@ use Rattle.std.proofs.Common.{◌≡◌, ◌⊎◌, inl, inr, ℕ, zero, suc, �
 use Rattle.std.specs.Prelude.{Some}
 use Rattle.std.proofs.lemmas.Bool.{cases_Bool}
 use Rattle.search_choices.specs.candidate_core.Candidates.{Need}
-use Rattle.search_choices.specs.candidate_core.Rank.{SealedPool, is_eligible_at}
+use Rattle.search_choices.specs.candidate_core.Rank.{SelectionProblem, is_eligible_at}
 use Rattle.search_choices.specs.candidate_core.Options.{IsIn, options_for}
 use Rattle.search_choices.specs.search_tables.Selection.{exclude_each_other, next_need}
 use Rattle.search_choices.specs.search_tables.Reasons.{AreCompatible}
@@ -12,7 +12,7 @@ use Rattle.search_choices.proofs.search_tables.Theory as law
 use Rattle.search_choices.proofs.search_tables.Theory.{in_left, in_right, in_append, none_or_some, removed}
 use Rattle.search_choices.proofs.search_tables.Turns.{PoolFacts}
 
-module _ (pool : SealedPool) (facts : PoolFacts pool) where
+module _ (pool : SelectionProblem) (facts : PoolFacts pool) where
   abbrev pub Found : Type 0
   Found = (trace : List ℕ) × law.FirstAll facts trace
 

@@ -7,14 +7,14 @@ use Rattle.std.proofs.lemmas.Bool.{and_parts}
 use Rattle.dep_core.specs.Dependency.{Dependency}
 use Rattle.search_choices.specs.candidate_core.Candidates.{Candidate, Need, entry, meets_dependency, occupies_name}
 use Rattle.search_choices.specs.candidate_core.Options.{IsIn}
-use Rattle.search_choices.specs.candidate_core.Rank.{SealedPool, candidate_at, candidate_at_passes}
+use Rattle.search_choices.specs.candidate_core.Rank.{SelectionProblem, candidate_at, candidate_at_passes}
 use Rattle.search_choices.specs.search_tables.Selection.{is_conflict_of_first_met_by_second, depends_at, does_exclude, exclude_each_other, needs, occupied_names, occupied_names_at, positive_needs, needs_of_world_and_chosen, share_a_name}
 use Rattle.search_choices.proofs.search_tables.Theory.{in_left, in_right}
 use Rattle.search_choices.proofs.search_tables.Places.{there_is}
 use Rattle.search_choices.proofs.search_tables.PoolFacts.{in_filter, in_flat, in_map}
 use Rattle.search_choices.proofs.search_tables.Satisfying.{any_one, one_any, true_or}
 
-module _ (pool : SealedPool) where
+module _ (pool : SelectionProblem) where
   positive : (d : Dependency) (deps : List Dependency) → IsIn d deps → d.conflict ≡ false → IsIn (entry d) (positive_needs deps)
   positive d deps there plain =
       let p : Dependency → Bool = λ (e : Dependency). not e.conflict in

@@ -2,7 +2,7 @@
 use Rattle.std.proofs.Common.{◌≡◌, ◌⊎◌, inl, inr, ℕ, true, zero, suc, List, [], ◌∷◌, ◌++◌, subst, refl, sym, take}
 use Rattle.std.specs.Prelude.{Some, slice_get}
 use Rattle.search_choices.specs.candidate_core.Candidates.{Need}
-use Rattle.search_choices.specs.candidate_core.Rank.{SealedPool}
+use Rattle.search_choices.specs.candidate_core.Rank.{SelectionProblem}
 use Rattle.search_choices.specs.candidate_core.Options.{IsIn, options_for}
 use Rattle.search_choices.specs.search_tables.Selection.{AreAllMembersOf, exclude_each_other, needs}
 use Rattle.search_choices.specs.search_tables.Reasons.{HasOptions, IsReason}
@@ -11,7 +11,7 @@ use Rattle.search_choices.proofs.search_tables.Theory.{decide_in, in_append}
 use Rattle.search_choices.proofs.search_tables.PoolFacts.{pool_facts}
 use Rattle.solve_core.specs.Clauses.{AreClauses, AreAllMembersOfOr, ClauseValue, IsClause}
 
-module _ (pool : SealedPool) where
+module _ (pool : SelectionProblem) where
   pub clauses_more : (clauses : List ClauseValue) (clause : ClauseValue) → AreClauses pool clauses → IsClause pool clause → AreClauses pool (clauses ++ clause ∷ [])
   clauses_more [] clause all one = (one, tt)
   clauses_more (c ∷ cs) clause all one = (all.0, clauses_more cs clause all.1 one)

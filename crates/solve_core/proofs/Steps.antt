@@ -2,7 +2,7 @@
 use Rattle.std.proofs.Common.{◌≡◌, ◌⊎◌, inl, inr, ℕ, false, List, [], ◌∷◌, ◌++◌, refl, sym, subst, ap, ◌∙◌, append-nil}
 use Rattle.std.specs.Prelude.{not, filter, ◌==◌}
 use Rattle.search_choices.specs.candidate_core.Candidates.{Need}
-use Rattle.search_choices.specs.candidate_core.Rank.{SealedPool}
+use Rattle.search_choices.specs.candidate_core.Rank.{SelectionProblem}
 use Rattle.search_choices.specs.candidate_core.Options.{IsIn, options_for}
 use Rattle.search_choices.specs.search_tables.Selection.{AreAllMembersOf, AreDistinct, exclude_each_other}
 use Rattle.search_choices.specs.search_tables.Reasons.{AreCompatible, IsReason, IsRuledOutBy, FrameValue, ruled_out_options, AreRuledOut, IsFrameOf, IsExhaustedFrame, IsFrameTaking, AreTurnsFrom, choices_of_turns, other_members_of_reasons, dead_end_reason, HasSameMembers}
@@ -16,7 +16,7 @@ use Rattle.search_choices.proofs.search_tables.Turns.{reasons_dead, turns_more, 
 use Rattle.search_choices.proofs.search_tables.PoolFacts.{pool_facts}
 use Rattle.std.proofs.lemmas.Bool.Decides.{eqb_tells}
 
-module _ (pool : SealedPool) where
+module _ (pool : SelectionProblem) where
   -- the next option of a frame is taken from it
   pub taken_of_open : (t : List ℕ) (f g : FrameValue) (c : ℕ) → IsFrameOf pool t f → g.0 ≡ f.0 → f.1 ≡ c ∷ g.1 → g.2 ≡ f.2 → IsFrameTaking pool t g c
   taken_of_open t f g c is_unmet_dep front left by =
@@ -86,8 +86,8 @@ pub searching_more : (old new : Choices) (turns : List (FrameValue × ℕ)) (f :
 searching_more old new turns f c search taken clean consistent pool choices = record {
   consistent = consistent;
   choices = choices ∙ (ap (λ (z : List ℕ). z ++ c ∷ []) search.choices ∙ sym (choices-append turns f c));
-  clean = subst (λ (p : SealedPool). AreCompatible p (choices_of new)) (sym pool) (subst (λ (z : List ℕ). AreCompatible (pool_of old) z) (sym choices) clean);
-  taken = subst (λ (p : SealedPool). AreTurnsFrom p [] (turns ++ (f, c) ∷ [])) (sym pool) (turns_more (pool_of old) [] turns f c search.taken (subst (λ (z : List ℕ). IsFrameTaking (pool_of old) z f c) search.choices taken));
+  clean = subst (λ (p : SelectionProblem). AreCompatible p (choices_of new)) (sym pool) (subst (λ (z : List ℕ). AreCompatible (pool_of old) z) (sym choices) clean);
+  taken = subst (λ (p : SelectionProblem). AreTurnsFrom p [] (turns ++ (f, c) ∷ [])) (sym pool) (turns_more (pool_of old) [] turns f c search.taken (subst (λ (z : List ℕ). IsFrameTaking (pool_of old) z f c) search.choices taken));
 }
 
 -- a turn is taken back
@@ -99,10 +99,10 @@ searching_less old new turns f c search consistent pool popped =
       record {
         consistent = consistent;
         choices = now;
-        clean = subst (λ (p : SealedPool). AreCompatible p (choices_of new)) (sym pool) (subst (λ (z : List ℕ). AreCompatible (pool_of old) z) (sym now) (clean_less (pool_of old) (choices_of_turns turns) c (subst (λ (z : List ℕ). AreCompatible (pool_of old) z) was search.clean)));
-        taken = subst (λ (p : SealedPool). AreTurnsFrom p [] turns) (sym pool) parts.0;
+        clean = subst (λ (p : SelectionProblem). AreCompatible p (choices_of new)) (sym pool) (subst (λ (z : List ℕ). AreCompatible (pool_of old) z) (sym now) (clean_less (pool_of old) (choices_of_turns turns) c (subst (λ (z : List ℕ). AreCompatible (pool_of old) z) was search.clean)));
+        taken = subst (λ (p : SelectionProblem). AreTurnsFrom p [] turns) (sym pool) parts.0;
       },
-      subst (λ (p : SealedPool). IsFrameTaking p (choices_of new) f c) (sym pool) (subst (λ (z : List ℕ). IsFrameTaking (pool_of old) z f c) (sym now) parts.1),
+      subst (λ (p : SelectionProblem). IsFrameTaking p (choices_of new) f c) (sym pool) (subst (λ (z : List ℕ). IsFrameTaking (pool_of old) z f c) (sym now) parts.1),
       was ∙ ap (λ (z : List ℕ). z ++ c ∷ []) (sym now),
     )
 
@@ -137,7 +137,7 @@ sub_filter c (x ∷ xs) o h = elim (eqb_tells x c) [
 ]
 
 -- a reason whose other members are choices rules a candidate out
-pub rules_out : (pool : SealedPool) (members others chosen : List ℕ) (c : ℕ) → AreAllMembersOfOr members c chosen → IsReason pool members → others ≡ filter (λ id. not (id == c)) members → IsRuledOutBy pool chosen c others
+pub rules_out : (pool : SelectionProblem) (members others chosen : List ℕ) (c : ℕ) → AreAllMembersOfOr members c chosen → IsReason pool members → others ≡ filter (λ id. not (id == c)) members → IsRuledOutBy pool chosen c others
 rules_out pool members others chosen c or dead e = record {
   within = λ o h.
       let f = filter_sub c members o (subst (λ (z : List ℕ). IsIn o z) e h) in
@@ -149,14 +149,14 @@ rules_out pool members others chosen c or dead e = record {
 }
 
 -- a choice that is to blame is skipped at its frame, with the rest of the blame
-pub hit_reason : (pool : SealedPool) (members rest all others : List ℕ) (c : ℕ) → AreAllMembersOf members all → all ≡ rest ++ c ∷ [] → IsReason pool members → others ≡ filter (λ id. not (id == c)) members → IsRuledOutBy pool rest c others
+pub hit_reason : (pool : SelectionProblem) (members rest all others : List ℕ) (c : ℕ) → AreAllMembersOf members all → all ≡ rest ++ c ∷ [] → IsReason pool members → others ≡ filter (λ id. not (id == c)) members → IsRuledOutBy pool rest c others
 hit_reason pool members rest all others c sub is dead e =
     rules_out pool members others rest c (λ o h. elim (in_append o rest (c ∷ []) (subst (λ (z : List ℕ). IsIn o z) is (sub o h))) [
       | inl a ↦ inr a
       | inr b ↦ elim b [ inl q ↦ inl q | inr bad ↦ absurd bad ]
     ]) dead e
 
-pub dead_empty : (pool : SealedPool) (members chosen : List ℕ) → AreAllMembersOf members chosen → chosen ≡ [] → IsReason pool members → IsReason pool []
+pub dead_empty : (pool : SelectionProblem) (members chosen : List ℕ) → AreAllMembersOf members chosen → chosen ≡ [] → IsReason pool members → IsReason pool []
 dead_empty pool members chosen sub is dead S closed inside =
     dead S closed (λ o h. let bad : ⊥ = subst (λ (z : List ℕ). IsIn o z) is (sub o h) in absurd bad)
 

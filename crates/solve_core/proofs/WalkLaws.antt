@@ -8,8 +8,8 @@ use Rattle.std.specs.declared.cmp.Ordering.TheVariants.{Less, Equal, Greater}
 use Rattle.std.proofs.lemmas.Bool.{true_from_ne_false}
 use Rattle.std.proofs.lemmas.List.Sorted.{ranks_by}
 use Rattle.search_choices.specs.candidate_core.Candidates.{Need, is_eligible}
-use Rattle.search_choices.specs.candidate_core.Rank.{SealedPool, is_better, meets_at, rank_cmp}
-use Rattle.search_choices.specs.candidate_core.Options.{IsSortedBestFirst, IsIn, options_for, places_passing_counted_from}
+use Rattle.search_choices.specs.candidate_core.Rank.{SelectionProblem, is_better, meets_at, rank_cmp}
+use Rattle.search_choices.specs.candidate_core.Options.{IsStrictlySortedBestFirst, IsIn, options_for, places_passing_counted_from}
 use Rattle.search_choices.specs.search_tables.Reasons.{HasOptions}
 use Rattle.search_choices.specs.search_tables.Selection.{AreAllMembersOf, IsWalkPreferredTo, IsAfterChosenRestOfWalkPreferredToOther, IsFirstPreferredSelection, IsSatisfying, IsSelectionWalk, IsRestOfSelectionWalkAfterChosen, next_need}
 use Rattle.search_choices.proofs.search_tables.Theory as law
@@ -20,11 +20,11 @@ use Rattle.solve_core.proofs.FirstFound.{none_satisfies}
 use Rattle.search_choices.proofs.candidate_core.OptionLists.{in_places}
 use Rattle.solve_core.proofs.Existence.{first_or_none}
 
-sorted_of : (better : ℕ → ℕ → Bool) (cs : List ℕ) → IsSortedBestFirst better cs → law.Sorted (λ a b. better a b ≡ true) cs
+sorted_of : (better : ℕ → ℕ → Bool) (cs : List ℕ) → IsStrictlySortedBestFirst better cs → law.Sorted (λ a b. better a b ≡ true) cs
 sorted_of better [] h = tt
 sorted_of better (c ∷ cs) h = (h.0, sorted_of better cs h.1)
 
-module _ (pool : SealedPool) (total : (need : Need) → IsTotalOrder (rank_cmp pool need)) (strict : (need : Need) (a b : ℕ) → rank_cmp pool need a b ≡ Equal → a ≡ b) where
+module _ (pool : SelectionProblem) (total : (need : Need) → IsTotalOrder (rank_cmp pool need)) (strict : (need : Need) (a b : ℕ) → rank_cmp pool need a b ≡ Equal → a ≡ b) where
   ranks : (q : Need) → IsStrictWeakOrder (is_better pool q)
   ranks q = ranks_by (total q) (λ (a : ℕ). a)
 

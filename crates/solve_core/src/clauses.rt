@@ -4,7 +4,7 @@
 //! works".
 ghost use Rattle.std.specs.Prelude.{◌≡◌, ◌⊎◌, true, IfOk, OnOk, [], ℕ};
 ghost use Rattle.search_choices.specs.candidate_core.Options.{IsIn};
-ghost use Rattle.search_choices.specs.candidate_core.Rank.{SealedPool};
+ghost use Rattle.search_choices.specs.candidate_core.Rank.{SelectionProblem};
 ghost use Rattle.search_choices.specs.search_tables.Selection.{AreAllMembersOf};
 ghost use Rattle.solve_core.specs.Clauses.{AreAllMembersOfOr, IsClause};
 ghost use Rattle.search_choices.specs.Choices.{choices_of};
@@ -96,7 +96,7 @@ pub(crate) fn resolvent(
     id: CandId,
 ) -> Result<Clause, AllocError>
     // If both are clauses of a pool, so is the resolvent.
-    ensures { IfOk result (λ clause. (pool : SealedPool) → IsClause pool first.now →
+    ensures { IfOk result (λ clause. (pool : SelectionProblem) → IsClause pool first.now →
         IsClause pool second.now → IsClause pool clause) }
 {
     let mut members = Vec::from_slice(alloc, first.members())?;

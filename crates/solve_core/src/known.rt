@@ -33,10 +33,10 @@ impl<'p> Model for Known<'p> {
     ghost use Rattle.std.specs.Coded.{codes};
     ghost use Rattle.std.specs.Prelude.{◌≡◌};
     ghost use Rattle.search_choices.specs.candidate_core.PlainCode.{plain_code};
-    ghost use Rattle.search_choices.specs.candidate_core.Rank.{SealedPool};
+    ghost use Rattle.search_choices.specs.candidate_core.Rank.{SelectionProblem};
     ghost use Rattle.solve_core.specs.Clauses.{AreClauses};
 
-    ghost Value = { SealedPool };
+    ghost Value = { SelectionProblem };
 
     // Pools with equal codes are equal (`Coded`).
     ghost coded = { Prim.hlevel (codes, plain_code) };

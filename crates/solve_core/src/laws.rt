@@ -3,7 +3,7 @@
 //! *first* one" and the text after it.
 ghost use Rattle.std.specs.Prelude.{◌≡◌, ◌⊎◌, ℕ, true, List, [], ◌∷◌, ◌++◌, Some};
 ghost use Rattle.search_choices.specs.candidate_core.Candidates.{Need};
-ghost use Rattle.search_choices.specs.candidate_core.Rank.{SealedPool, is_better, meets_at};
+ghost use Rattle.search_choices.specs.candidate_core.Rank.{SelectionProblem, is_better, meets_at};
 ghost use Rattle.search_choices.specs.search_tables.Selection.{AreAllMembersOf, IsWalkPreferredTo, IsFirstPreferredSelection, IsSatisfying, IsSelectionWalk, next_need};
 
 use crate::selection::options_are_as_promised;
@@ -12,11 +12,11 @@ use search_choices::rank_is_total;
 /// The walk of a satisfying selection satisfies too, and is its own walk.
 pub fn walks_satisfy()
     // The walk of a satisfying selection is a satisfying selection too.
-    ensures satisfies { (pool : SealedPool) (selection walk : List ℕ) →
+    ensures satisfies { (pool : SelectionProblem) (selection walk : List ℕ) →
         IsSatisfying pool selection → IsSelectionWalk pool selection walk
         → IsSatisfying pool walk }
     // The walk of a selection is its own walk.
-    ensures walked { (pool : SealedPool) (selection walk : List ℕ) →
+    ensures walked { (pool : SelectionProblem) (selection walk : List ℕ) →
         IsSelectionWalk pool selection walk → IsSelectionWalk pool walk walk }
 {
     // Laws that the proof needs; they have no effect at run time.
@@ -27,10 +27,10 @@ pub fn walks_satisfy()
 /// Each satisfying selection has a walk, and one only.
 pub fn each_selection_has_one_walk()
     // Each satisfying selection has a walk.
-    ensures some { (pool : SealedPool) (selection : List ℕ) →
+    ensures some { (pool : SelectionProblem) (selection : List ℕ) →
         IsSatisfying pool selection → (walk : List ℕ) × IsSelectionWalk pool selection walk }
     // A selection has at most one walk.
-    ensures one { (pool : SealedPool) (selection walk other : List ℕ) →
+    ensures one { (pool : SelectionProblem) (selection walk other : List ℕ) →
         IsSelectionWalk pool selection walk → IsSelectionWalk pool selection other → walk
         ≡ other }
 {
@@ -43,16 +43,16 @@ pub fn each_selection_has_one_walk()
 /// preferred to the other, at a place where both have a candidate. The order is transitive.
 pub fn walks_have_one_order()
     // Of the walks of two satisfying selections, one is preferred to the other, or they are equal.
-    ensures one_of { (pool : SealedPool) (selection other walk second : List ℕ) →
+    ensures one_of { (pool : SelectionProblem) (selection other walk second : List ℕ) →
         IsSatisfying pool selection → IsSatisfying pool other →
         IsSelectionWalk pool selection walk → IsSelectionWalk pool other second →
         (walk ≡ second) ⊎ (IsWalkPreferredTo pool walk second
         ⊎ IsWalkPreferredTo pool second walk) }
     // Of two walks, at most one is preferred to the other.
-    ensures not_both { (pool : SealedPool) (walk second : List ℕ) →
+    ensures not_both { (pool : SelectionProblem) (walk second : List ℕ) →
         IsWalkPreferredTo pool walk second → IsWalkPreferredTo pool second walk → ⊥ }
     // The order is transitive.
-    ensures transitive { (pool : SealedPool) (a b c : List ℕ) →
+    ensures transitive { (pool : SelectionProblem) (a b c : List ℕ) →
         IsWalkPreferredTo pool a b → IsWalkPreferredTo pool b c → IsWalkPreferredTo pool a c }
 {
     // Laws that the proof needs; they have no effect at run time.
@@ -62,7 +62,7 @@ pub fn walks_have_one_order()
 
 /// At most one selection is the preferred one: so the rules of `docs/selection.md` define it.
 pub fn the_first_selection_is_unique()
-    ensures { (pool : SealedPool) (trace other : List ℕ) →
+    ensures { (pool : SelectionProblem) (trace other : List ℕ) →
         IsFirstPreferredSelection pool trace → IsFirstPreferredSelection pool other → trace
         ≡ other }
 {
@@ -74,7 +74,7 @@ pub fn the_first_selection_is_unique()
 /// If any selection satisfies the world, there is a preferred one: the search may report that there
 /// is none only if none satisfies.
 pub fn a_first_selection_exists()
-    ensures { (pool : SealedPool) (selection : List ℕ) →
+    ensures { (pool : SelectionProblem) (selection : List ℕ) →
         IsSatisfying pool selection → (trace : List ℕ) × IsFirstPreferredSelection pool trace }
 {
     // Laws that the proof needs; they have no effect at run time.
@@ -88,7 +88,7 @@ pub fn each_choice_is_the_best_that_can_be_completed()
     // `front` are the choices before `c`, and `need` is the need that comes next after them. Of the
     // candidates `o` that meet this need and can be completed after `front`, none is better than
     // `c`.
-    ensures { (pool : SealedPool) (front rest selection : List ℕ) (c o : ℕ) (need : Need) →
+    ensures { (pool : SelectionProblem) (front rest selection : List ℕ) (c o : ℕ) (need : Need) →
         IsFirstPreferredSelection pool (front ++ c ∷ rest) → next_need pool front ≡ Some need →
         IsSatisfying pool selection → AreAllMembersOf (front ++ o ∷ []) selection →
         meets_at pool o need ≡ true → (o ≡ c) ⊎ (is_better pool need c o ≡ true) }

@@ -3,7 +3,7 @@
 //! chooses. The rule is in `docs/selection.md`, "How the search works".
 ghost use Rattle.std.specs.Prelude.{◌≡◌, IfOk};
 ghost use Rattle.solve_core.specs.Clauses.{IsClause, IsClauseIfFound};
-ghost use Rattle.search_choices.specs.candidate_core.Rank.{SealedPool};
+ghost use Rattle.search_choices.specs.candidate_core.Rank.{SelectionProblem};
 
 use crate::clauses::Clause;
 use crate::known::Known;
@@ -421,7 +421,7 @@ fn add_rules(alloc: Global, known: &mut Known<'_>) -> Result<(), AllocError>
 // A clause that always holds: a selection that has a candidate has this candidate. It is the cause
 // of a step that is a choice.
 fn trivial_clause(alloc: Global, id: CandId) -> Result<Clause, AllocError>
-    ensures { (pool : SealedPool) → IfOk result (λ clause. IsClause pool clause) }
+    ensures { (pool : SelectionProblem) → IfOk result (λ clause. IsClause pool clause) }
 {
     let members = Vec::from_slice(alloc, &[id])?;
     let options = Vec::from_slice(alloc, &[id])?;

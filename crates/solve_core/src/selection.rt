@@ -4,7 +4,7 @@
 ghost use Rattle.std.specs.Prelude.{◌≡◌, ◌<◌, Some, IfOk, length, slice_get, [], List, ℕ, MatchOption};
 ghost use Rattle.search_choices.specs.candidate_core.Candidates.{Need};
 ghost use Rattle.search_choices.specs.candidate_core.PackageMatches.{AreMatchesAmong};
-ghost use Rattle.search_choices.specs.candidate_core.Rank.{SealedPool};
+ghost use Rattle.search_choices.specs.candidate_core.Rank.{SelectionProblem};
 ghost use Rattle.search_choices.specs.search_tables.Reasons.{HasOptions};
 ghost use Rattle.search_choices.specs.Choices.{IsSearch, pool_of};
 ghost use Rattle.search_choices.specs.search_tables.Selection.{IsFirstPreferredSelection, IsSatisfying};
@@ -17,7 +17,7 @@ use std::alloc::{AllocError, Global};
 /// The promise of a pool about the options of each need: they are those that may be selected and
 /// meet it, best first. A law that proofs of this crate call.
 pub(crate) fn options_are_as_promised()
-    ensures { (pool : SealedPool) (need : Need) → HasOptions pool need }
+    ensures { (pool : SelectionProblem) (need : Need) → HasOptions pool need }
 {
     // A law that the proof needs; it has no effect at run time.
     options_are_the_best_first();

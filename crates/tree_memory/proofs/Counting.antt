@@ -6,9 +6,9 @@ use Rattle.std.proofs.lemmas.Bool.Decides.{nat_tests}
 use Rattle.std.proofs.lemmas.Bool.{both_ways}
 use Rattle.base_core.specs.Tree.{TreeState}
 use Rattle.base_core.specs.Calls.{IsCounted}
-use Rattle.base_core.specs.Faults.{CountsOnlyRise, IsFaultCountedWithCause}
+use Rattle.base_core.specs.Faults.{CountsOnlyRise, CountsNewFaultWithCause}
 use Rattle.base_core.proofs.Booleans.{or_weaker}
-use Rattle.tree_memory.specs.Plans.{FailurePlanState, is_next_call_listed, is_stop_reached, is_next_call_to_fail, has_next_or_later_failure, listed_calls_after_one_call, plan_after_one_call}
+use Rattle.tree_memory.specs.Plans.{FailurePlanFromNextCall, is_next_call_listed, is_stop_reached, is_next_call_to_fail, has_next_or_later_failure, listed_calls_after_one_call, plan_after_one_call}
 use Rattle.tree_memory.specs.Tallies.{with_call, with_fault, with_misuse, with_memory_fault, with_begun_call, goes_on, HasNotFallen}
 use Rattle.tree_memory.specs.Memory.{counts_by}
 use Rattle.tree_memory.specs.declared.calls.Calls.{Calls}
@@ -32,7 +32,7 @@ stopped_some None is = absurd (cc)
 stopped_some (Some n) is = refl
 
 -- a failure of the next call is one still to come
-pub next_is_more : (plan : FailurePlanState) → is_next_call_to_fail plan ≡ true → has_next_or_later_failure plan ≡ true
+pub next_is_more : (plan : FailurePlanFromNextCall) → is_next_call_to_fail plan ≡ true → has_next_or_later_failure plan ≡ true
 next_is_more plan is = or_weaker (is_next_call_listed plan.listed) (is_stop_reached plan.stop) (is_ahead plan.listed) (is_some plan.stop) (listed_ahead plan.listed) (stopped_some plan.stop) is
 
 above : (n : ℕ) → ltb 0 (n - 1) ≡ true → ltb 0 n ≡ true
@@ -51,7 +51,7 @@ some_is_some None is = is
 some_is_some (Some n) is = refl
 
 -- and so is one behind the next call
-pub more_is_more : (plan : FailurePlanState) → has_next_or_later_failure (plan_after_one_call plan) ≡ true → has_next_or_later_failure plan ≡ true
+pub more_is_more : (plan : FailurePlanFromNextCall) → has_next_or_later_failure (plan_after_one_call plan) ≡ true → has_next_or_later_failure plan ≡ true
 more_is_more plan is = or_weaker (is_ahead (listed_calls_after_one_call plan.listed)) (is_some (option_map (λ n. n - 1) plan.stop)) (is_ahead plan.listed) (is_some plan.stop) (ahead_is_ahead plan.listed) (some_is_some plan.stop) is
 
 -- ---- a call that begins
@@ -74,7 +74,7 @@ pub always : (v : TreeState) → Says true (Unit {0})
 always v = record { good = λ _. tt; back = λ _. refl }
 
 on : (old new : Calls) → HasNotFallen old.tally new.tally → new.plan ≡ plan_after_one_call old.plan → CountsOnlyRise (counts_by old) (counts_by new)
-on old new grown nearer = record { faults = grown.faults; misuses = grown.misuses; memory_faults = grown.memory_faults; fallible = λ f. more_is_more old.plan (subst (λ (p : FailurePlanState). has_next_or_later_failure p ≡ true) nearer f) }
+on old new grown nearer = record { faults = grown.faults; misuses = grown.misuses; memory_faults = grown.memory_faults; fallible = λ f. more_is_more old.plan (subst (λ (p : FailurePlanFromNextCall). has_next_or_later_failure p ≡ true) nearer f) }
 
 -- ---- one that goes on
 
@@ -116,7 +116,7 @@ module _ (b : Bool) (writes : ℕ) (old new : Calls) (h : IsBegun b writes old n
   begun_on = on old new h.grown h.plan
 
 -- a call that is never a misuse fails if that is planned
-pub planned_cause : (writes : ℕ) (old new : Calls) → IsBegun true writes old new → goes_on true (is_next_call_to_fail old.plan) ≡ false → IsFaultCountedWithCause (counts_by old) (counts_by new)
+pub planned_cause : (writes : ℕ) (old new : Calls) → IsBegun true writes old new → goes_on true (is_next_call_to_fail old.plan) ≡ false → CountsNewFaultWithCause (counts_by old) (counts_by new)
 planned_cause writes old new h stays = ⊎_elim (λ m. absurd (both_ways true m.cannot refl))
     (λ p. record { fault = omega (arith, ap (λ (u : Tally). u.faults) p.tally); reason = inl (next_is_more old.plan p.next) })
     (has_failed true writes old new h stays)

@@ -12,7 +12,7 @@ use Rattle.std.proofs.lemmas.List.Elements.{All-nil, All-cons, All-head}
 use Rattle.std.proofs.lemmas.Bool.{cases_eq, cases_lt, eq-eqb, ne_eqb}
 use Rattle.base_core.specs.Files.{NameMap, AreNames, AreFileBytes, HasNoFileAsFolder, drop_name, put_name}
 use Rattle.base_core.specs.Name.{IsName}
-use Rattle.base_core.specs.Listed.{AreSortedNamesInMap}
+use Rattle.base_core.specs.Listed.{IsSortedListOfAllNamesInMap}
 use Rattle.base_core.specs.Tree.{TreeState, File, IsCurrentOrOlderMap, CanCreate, bytes_of_file_number, files_of, set_file, with_file_changed, with_newer_name_map, after_create}
 use Rattle.base_core.proofs.AtName.{name_cases, off_name}
 use Rattle.tree_memory.specs.Table.{IsSortedNameTable, lookup, names_of}
@@ -295,7 +295,7 @@ read-after_put name bytes v bounded = λ i q. read q i
 
 -- ---- the list of names
 
-pub names_listed : (names : List ℕ → Option ℕ) (es : List NameAndFile) → ((q : List ℕ) → names q ≡ lookup es q) → IsSortedNameTable es → AreSortedNamesInMap names (names_of es)
+pub names_listed : (names : List ℕ → Option ℕ) (es : List NameAndFile) → ((q : List ℕ) → names q ≡ lookup es q) → IsSortedNameTable es → IsSortedListOfAllNamesInMap names (names_of es)
 names_listed names es same table = record { rising = rising; each = λ q. (there q, back q) }
   where
     rising : AllPairs (λ a b. slice_cmp nat_cmp a b ≡ Less) (names_of es)

@@ -3,7 +3,7 @@ use Rattle.std.proofs.Common.{◌≡◌, ℕ, zero, suc, ◌+◌, ◌-◌, ◌||
 use Rattle.std.specs.List.{list_any}
 use Rattle.std.specs.Option.{option_map}
 use Rattle.std.proofs.lemmas.Bool.Decides.{nat_tests}
-use Rattle.tree_memory.specs.Plans.{FailurePlanState, is_after_stop, is_next_call_listed, is_next_call_to_fail, is_stop_reached, is_call_to_fail, listed_calls_after_one_call, plan_after_one_call, plan_after_calls}
+use Rattle.tree_memory.specs.Plans.{FailurePlanFromNextCall, is_after_stop, is_next_call_listed, is_next_call_to_fail, is_stop_reached, is_call_to_fail, listed_calls_after_one_call, plan_after_one_call, plan_after_calls}
 
 -- the number k + 2 is one less behind the next call
 less_at : (n k : ℕ) → ltb 0 (n - 1) ≡ true → eqb (n - 1) (k + 1) ≡ eqb n (k + 2)
@@ -35,6 +35,6 @@ stopped_first (Some n) = first n
     first : (n : ℕ) → eqb n 0 ≡ ltb n 1
     first n = grind (arith, nat_tests)
 
-pub next-plan_after_calls : (plan : FailurePlanState) (k : ℕ) → is_next_call_to_fail (plan_after_calls k plan) ≡ is_call_to_fail plan (k + 1)
+pub next-plan_after_calls : (plan : FailurePlanFromNextCall) (k : ℕ) → is_next_call_to_fail (plan_after_calls k plan) ≡ is_call_to_fail plan (k + 1)
 next-plan_after_calls plan zero = ap (λ b. is_next_call_listed plan.listed || b) (stopped_first plan.stop)
 next-plan_after_calls plan (suc k) = next-plan_after_calls (plan_after_one_call plan) k ∙ ap₂ ◌||◌ (listed_later plan.listed k) (after_later plan.stop k) ∙ ap (is_call_to_fail plan) (omega arith)

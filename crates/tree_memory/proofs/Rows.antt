@@ -3,7 +3,7 @@ use Rattle.std.specs.Prelude.{◌≡◌, true, false, [], ◌∷◌, Some, None,
 use Rattle.base_core.specs.Tree.{TreeState, after_create, after_append, after_sync, after_rename, after_remove, after_sync_names}
 use Rattle.tree_memory.specs.Changes.{empty_state, after_put}
 use Rattle.tree_memory.specs.Images.{crash_bytes, maps_newest_first, picked_crash_map, crash_map_pick_count_of}
-use Rattle.tree_memory.specs.Plans.{FailurePlanState, is_next_call_to_fail, has_next_or_later_failure, plan_after_one_call}
+use Rattle.tree_memory.specs.Plans.{FailurePlanFromNextCall, is_next_call_to_fail, has_next_or_later_failure, plan_after_one_call}
 
 -- ---- images: an old file, and a new one that is not synced
 
@@ -76,7 +76,7 @@ row_count = (refl, refl)
 
 -- ---- plans
 
-first_and_third : FailurePlanState
+first_and_third : FailurePlanFromNextCall
 first_and_third = record { listed = 3 ∷ (1 ∷ []); stop = None }
 
 row_first : is_next_call_to_fail first_and_third ≡ true
@@ -95,7 +95,7 @@ row_past : has_next_or_later_failure (plan_after_one_call (plan_after_one_call (
 unfolding first_and_third
 row_past = refl
 
-stopped : FailurePlanState
+stopped : FailurePlanFromNextCall
 stopped = record { listed = []; stop = Some 1 }
 
 row_one_more : is_next_call_to_fail stopped ≡ false

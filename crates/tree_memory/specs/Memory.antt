@@ -4,7 +4,7 @@
 use Rattle.std.specs.Prelude.{◌≡◌, ◌⊎◌, ℕ, true, false, if◌then◌else◌, List, Result, OnOk, OnErr, is_ok}
 use Rattle.base_core.specs.Faults.{Counts, saturating_increment}
 use Rattle.base_core.specs.Tree.{TreeState}
-use Rattle.tree_memory.specs.Plans.{FailurePlanState, is_next_call_to_fail, has_next_or_later_failure, plan_after_one_call}
+use Rattle.tree_memory.specs.Plans.{FailurePlanFromNextCall, is_next_call_to_fail, has_next_or_later_failure, plan_after_one_call}
 use Rattle.tree_memory.specs.Stores.{store_state, store_history}
 use Rattle.tree_memory.specs.declared.calls.Calls.{Calls}
 use Rattle.tree_memory.specs.declared.tree.MemoryTree.{MemoryTree}
@@ -18,7 +18,7 @@ abbrev pub history_of : MemoryTree → List TreeState
 history_of tree = store_history tree.store
 
 -- which calls of a tree in memory are to fail
-abbrev pub failure_plan_of : MemoryTree → FailurePlanState
+abbrev pub failure_plan_of : MemoryTree → FailurePlanFromNextCall
 failure_plan_of tree = tree.calls.plan
 
 -- no call has failed, and no failure is planned

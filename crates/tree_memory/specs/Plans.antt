@@ -7,14 +7,14 @@ use Rattle.std.specs.Option.{option_map}
 
 -- a plan of failures: each call whose number is in `listed` fails, and, if `stop` is Some n, each call after the next n
 -- calls. The next call is number 1
-pub record FailurePlanState : Type 0 where
+pub record FailurePlanFromNextCall : Type 0 where
   -- the numbers of the calls that fail, counted from 1 from now on
   pub listed : List ℕ
   -- after how many more calls every call fails, if a stop is planned
   pub stop : Option ℕ
 
 -- the plan by which no call is to fail
-abbrev pub no_plan : FailurePlanState
+abbrev pub no_plan : FailurePlanFromNextCall
 no_plan = record { listed = []; stop = None }
 
 -- ---- whether the next call is to fail
@@ -29,11 +29,11 @@ is_stop_reached None = false
 is_stop_reached (Some n) = n == 0
 
 -- whether the next call is to fail
-abbrev pub is_next_call_to_fail : FailurePlanState → Bool
+abbrev pub is_next_call_to_fail : FailurePlanFromNextCall → Bool
 is_next_call_to_fail plan = is_next_call_listed plan.listed || is_stop_reached plan.stop
 
 -- whether the plan makes any call fail, the next one or a later one. A listed number 0 is no call
-abbrev pub has_next_or_later_failure : FailurePlanState → Bool
+abbrev pub has_next_or_later_failure : FailurePlanFromNextCall → Bool
 has_next_or_later_failure plan = list_any (λ n. nat_lt 0 n) plan.listed || is_some plan.stop
 
 -- ---- the plan after the next call
@@ -43,12 +43,12 @@ abbrev pub listed_calls_after_one_call : List ℕ → List ℕ
 listed_calls_after_one_call listed = filter (λ n. nat_lt 0 n) (map (λ n. n - 1) listed)
 
 -- the plan after one call: its numbers are then counted from the call after this call
-abbrev pub plan_after_one_call : FailurePlanState → FailurePlanState
+abbrev pub plan_after_one_call : FailurePlanFromNextCall → FailurePlanFromNextCall
 plan_after_one_call plan =
     record { listed = listed_calls_after_one_call plan.listed; stop = option_map (λ n. n - 1) plan.stop }
 
 -- the plan after this many calls (first argument): its numbers are then counted from the call after these calls
-abbrev pub plan_after_calls : ℕ → FailurePlanState → FailurePlanState
+abbrev pub plan_after_calls : ℕ → FailurePlanFromNextCall → FailurePlanFromNextCall
 plan_after_calls zero plan = plan
 plan_after_calls (suc k) plan = plan_after_calls k (plan_after_one_call plan)
 
@@ -60,5 +60,5 @@ is_after_stop None k = false
 is_after_stop (Some n) k = nat_lt n k
 
 -- whether call k, counted from 1, is to fail: it is listed, or is after the stop
-abbrev pub is_call_to_fail : FailurePlanState → ℕ → Bool
+abbrev pub is_call_to_fail : FailurePlanFromNextCall → ℕ → Bool
 is_call_to_fail plan k = list_any (λ n. n == k) plan.listed || is_after_stop plan.stop k

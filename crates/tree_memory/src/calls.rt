@@ -2,8 +2,8 @@
 //! The rules are in `docs/crash-safety.md`, "Misuses, faults and counts".
 
 ghost use Rattle.std.specs.Prelude.{◌≡◌, [], None, Some, OnOk, OnErr, is_ok, if◌then◌else◌, ◌⊎◌, ◌+◌, ℕ, false};
-ghost use Rattle.base_core.specs.Faults.{saturating_increment, IsFaultCountedWithCause, RoseOrIsSaturated};
-ghost use Rattle.tree_memory.specs.Plans.{FailurePlanState, no_plan, is_next_call_to_fail, is_next_call_listed, plan_after_one_call, listed_calls_after_one_call, has_next_or_later_failure, is_call_to_fail, plan_after_calls};
+ghost use Rattle.base_core.specs.Faults.{saturating_increment, CountsNewFaultWithCause, RoseOrIsSaturated};
+ghost use Rattle.tree_memory.specs.Plans.{FailurePlanFromNextCall, no_plan, is_next_call_to_fail, is_next_call_listed, plan_after_one_call, listed_calls_after_one_call, has_next_or_later_failure, is_call_to_fail, plan_after_calls};
 ghost use Rattle.tree_memory.specs.Tallies.{no_calls, with_call, with_fault, with_misuse, with_memory_fault, with_begun_call, goes_on, HasNotFallen};
 ghost use Rattle.tree_memory.specs.Memory.{failure_plan_of, counts_of};
 ghost use Rattle.tree_memory.specs.Sink.{SinkState, sink_counts};
@@ -23,9 +23,9 @@ pub struct Plan {
 }
 
 impl Model for Plan {
-    ghost use Rattle.tree_memory.specs.Plans.{FailurePlanState};
+    ghost use Rattle.tree_memory.specs.Plans.{FailurePlanFromNextCall};
 
-    ghost Value = { FailurePlanState };
+    ghost Value = { FailurePlanFromNextCall };
 
     ghost view = { λ plan. record { listed = plan.listed.items; stop = plan.stop } };
 }
@@ -268,7 +268,7 @@ impl Calls {
 /// of memory was counted too, or one of these two counts was at its greatest value.
 pub fn an_unplanned_fault_has_its_reason()
     ensures { (before now : MemoryTree) → has_next_or_later_failure (failure_plan_of before) ≡ false
-        → IsFaultCountedWithCause (counts_of before) (counts_of now)
+        → CountsNewFaultWithCause (counts_of before) (counts_of now)
         → RoseOrIsSaturated (counts_of before).misuses (counts_of now).misuses
         ⊎ RoseOrIsSaturated (counts_of before).memory_faults (counts_of now).memory_faults }
 {}
@@ -277,13 +277,13 @@ pub fn an_unplanned_fault_has_its_reason()
 /// counted as one unless this count was at its greatest value.
 pub fn an_endless_sink_runs_out_of_memory()
     ensures { (before now : SinkState) → before.room ≡ None
-        → IsFaultCountedWithCause (sink_counts before) (sink_counts now)
+        → CountsNewFaultWithCause (sink_counts before) (sink_counts now)
         → RoseOrIsSaturated before.memory_faults now.memory_faults }
 {}
 
 /// A law: after k calls, the next call is to fail exactly if the plan makes call k + 1 fail: it is
 /// listed, or it is after the stop.
 pub fn a_call_fails_where_it_is_planned()
-    ensures { (plan : FailurePlanState) (k : ℕ) → is_next_call_to_fail (plan_after_calls k plan)
+    ensures { (plan : FailurePlanFromNextCall) (k : ℕ) → is_next_call_to_fail (plan_after_calls k plan)
         ≡ is_call_to_fail plan (k + 1) }
 {}

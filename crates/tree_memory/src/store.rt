@@ -5,7 +5,7 @@
 ghost use Rattle.std.specs.Prelude.{◌≡◌, ◌↔◌, ℕ, ◌<◌, ◌≤◌, ◌+◌, [], ◌∷◌, ◌++◌, List, IsTrue, IfOk, IfSome, OnOk, OnErr, length, take, drop, false, All};
 ghost use Rattle.std.specs.Option.{option_copied};
 ghost use Rattle.std.specs.Vec.{vec_len, vec_capacity};
-ghost use Rattle.base_core.specs.Listed.{AreSortedNamesInMap, IsSortedListingOfFolder};
+ghost use Rattle.base_core.specs.Listed.{IsSortedListOfAllNamesInMap, IsSortedListingOfFolder};
 ghost use Rattle.base_core.specs.Tree.{files_of, HasName, CanRead, CanCreate, CanRename, after_create, after_append, after_sync, after_rename, after_remove, after_sync_names};
 ghost use Rattle.tree_memory.specs.Changes.{empty_state, after_put};
 ghost use Rattle.tree_memory.specs.Kept.{IsConsistentStore, CanPut};
@@ -71,7 +71,7 @@ impl Store {
 
     /// The present names, in byte order.
     pub fn names(&self, alloc: Global) -> Result<Names, AllocError>
-        ensures { IfOk result (AreSortedNamesInMap (store_state self.now).names) }
+        ensures { IfOk result (IsSortedListOfAllNamesInMap (store_state self.now).names) }
     {
         self.names.list(alloc)
     }

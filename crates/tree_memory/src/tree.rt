@@ -5,9 +5,9 @@
 ghost use Rattle.std.specs.Prelude.{◌≡◌, ◌↔◌, [], ◌∷◌, List, Some, None, IsTrue, IsOk, IfOk, IfSome, IsErrOf, OnOk, OnErr, false, true, length, max, take, drop, if◌then◌else◌};
 ghost use Rattle.std.specs.Option.{option_map, option_copied};
 ghost use Rattle.base_core.specs.Calls.{IsCounted, ChangesHistory, IfObservable};
-ghost use Rattle.base_core.specs.Faults.{CountsOnlyRise, IsFaultCountedWithCause, CountsNoNewFault, saturating_increment};
+ghost use Rattle.base_core.specs.Faults.{CountsOnlyRise, CountsNewFaultWithCause, CountsNoNewFaultOrLackOfMemory, saturating_increment};
 ghost use Rattle.base_core.specs.Files.{put_name};
-ghost use Rattle.base_core.specs.Listed.{AreSortedNamesBelowFolder, AreSortedNamesInMap, IsSortedListingOfFolder};
+ghost use Rattle.base_core.specs.Listed.{AreSortedNamesBelowFolder, IsSortedListOfAllNamesInMap, IsSortedListingOfFolder};
 ghost use Rattle.base_core.specs.Tree.{files_of, after_create, after_append, after_failed_append, after_sync, after_rename, after_remove, after_sync_names, unchanged_after_failed_call, IsAlwaysAllowed, HasName, CanRead, CanCreate, CanRename};
 ghost use Rattle.base_core.specs.Undone.{IsAfterCrash};
 ghost use Rattle.base_core.specs.declared.tree.TreeFault.TheVariants.{Memory, Disk as DiskFault};
@@ -102,7 +102,7 @@ impl MemoryTree {
 
     /// All names, in byte order.
     pub fn names(&self, alloc: Global) -> Result<Names, AllocError>
-        ensures { IfOk result (AreSortedNamesInMap (tree_state self.now).names) }
+        ensures { IfOk result (IsSortedListOfAllNamesInMap (tree_state self.now).names) }
     {
         self.store.names(alloc)
     }
@@ -438,12 +438,12 @@ impl Tree for MemoryTree {
         ensures goes_on { CountsOnlyRise (counts_of self.old) (counts_of self.new) }
         // An I/O error is returned only if a fault was counted.
         ensures disk { IsErrOf result DiskFault
-            → IsFaultCountedWithCause (counts_of self.old) (counts_of self.new) }
+            → CountsNewFaultWithCause (counts_of self.old) (counts_of self.new) }
         // Ok is returned only if no fault was counted.
-        ensures kept { OnOk result (CountsNoNewFault (counts_of self.old) (counts_of self.new)) }
+        ensures kept { OnOk result (CountsNoNewFaultOrLackOfMemory (counts_of self.old) (counts_of self.new)) }
         // If out of memory for the answer, no fault of the tree was counted.
         ensures memory { IsErrOf result Memory
-            → CountsNoNewFault (counts_of self.old) (counts_of self.new) }
+            → CountsNoNewFaultOrLackOfMemory (counts_of self.old) (counts_of self.new) }
         // The call is no misuse.
         ensures proper { (counts_of self.new).misuses ≡ (counts_of self.old).misuses }
         // The answer has exactly the present names below the folder, in byte order.

@@ -6,7 +6,7 @@ use Rattle.std.specs.List.{filter, find, list_any}
 use Rattle.std.proofs.lemmas.Bool.{cases_Bool}
 use Rattle.dep_core.specs.Dependency.{Dependency}
 use Rattle.search_tables.specs.candidate_core.Candidates.{Candidate, meets_dependency, occupies_name}
-use Rattle.search_tables.specs.candidate_core.Rank.{SealedPool, candidate_at}
+use Rattle.search_tables.specs.candidate_core.Rank.{SelectionProblem, candidate_at}
 use Rattle.search_tables.specs.Selection.{is_conflict_of_first_met_by_second, does_exclude, exclude_each_other, occupied_names, share_a_name}
 use Rattle.unmet_world.specs.Exclusion.{conflict_between, conflict_with, is_conflict_met_by, shared_name_at_places, occupied_among, shared_name}
 
@@ -56,7 +56,7 @@ name_held (Some one) (Some other) name e = elim (cases_Bool (occupies_name one.n
 
 -- ---- both
 
-module _ (pool : SealedPool) (a b : ℕ) (apart : (a == b) ≡ false) where
+module _ (pool : SelectionProblem) (a b : ℕ) (apart : (a == b) ≡ false) where
   kept_out : does_exclude pool a b ≡ true → exclude_each_other pool a b ≡ true
   kept_out h = rw (apart, h) refl
 

@@ -16,7 +16,7 @@ use Rattle.command_core.specs.Command.{CommandLine}
 use Rattle.dep_core.specs.Dependency.{Dependency}
 use Rattle.dep_core.specs.Repositories.{Repository}
 use Rattle.report_core.specs.declared.refusal.Refusal.{Refusal}
-use Rattle.search_tables.specs.candidate_core.Rank.{SealedPool, no_names}
+use Rattle.search_tables.specs.candidate_core.Rank.{SelectionProblem, no_names}
 use Rattle.unmet_world.specs.Explained.{ExplainsChange, ExplainsIfPool, ExplainsIfRead, ExplainsInputs, ExplainsPool, ExplainsResult}
 
 pub of_read : (command : CommandLine) (history : List TreeState) (read : Result Loaded Refused) (r : Result (Vec ℕ Global) TreeFault) → HoldsOfSomeReadsOfTree history (λ reads. AgreesUnlessDiskOrMemory inputs_seen read (inputs_of command reads)) → IfOk r (λ text. ExplainsResult read text.items) → IfOk r (λ text. ExplainsChange command history text.items)
@@ -26,12 +26,12 @@ of_read command history (Err (Refuseds.Refusal refusal)) (Ok text) e h = record 
 of_read command history (Err Refuseds.Disk) (Ok text) e h = absurd h
 of_read command history (Err Refuseds.Memory) (Ok text) e h = absurd h
 
-pub of_pool : {E : Type 0} (inputs : Inputs) (pool : SealedPool) (listed : List Dependency) (repositories : List Repository) (r : Result (Vec ℕ Global) E) → root_pool inputs no_names ≡ Ok pool → listed ≡ inputs.root.world → repositories ≡ inputs.root.repositories → IfOk r (λ text. ExplainsPool listed repositories pool text.items) → IfOk r (λ text. ExplainsInputs inputs text.items)
+pub of_pool : {E : Type 0} (inputs : Inputs) (pool : SelectionProblem) (listed : List Dependency) (repositories : List Repository) (r : Result (Vec ℕ Global) E) → root_pool inputs no_names ≡ Ok pool → listed ≡ inputs.root.world → repositories ≡ inputs.root.repositories → IfOk r (λ text. ExplainsPool listed repositories pool text.items) → IfOk r (λ text. ExplainsInputs inputs text.items)
 of_pool inputs pool listed repositories (Ok text) is own same h =
-    subst (λ (found : Result SealedPool Refusal). ExplainsIfPool inputs.root.world inputs.root.repositories found text.items) (sym is)
+    subst (λ (found : Result SelectionProblem Refusal). ExplainsIfPool inputs.root.world inputs.root.repositories found text.items) (sym is)
     (subst (λ (ds : List Dependency). ExplainsPool ds inputs.root.repositories pool text.items) own (subst (λ (rs : List Repository). ExplainsPool listed rs pool text.items) same h))
 of_pool inputs pool listed repositories (Err fault) is own same h = tt
 
 pub of_no_pool : (inputs : Inputs) (refusal : Refusal) (text : List ℕ) → root_pool inputs no_names ≡ Err refusal → text ≡ [] → ExplainsInputs inputs text
 of_no_pool inputs refusal text is none =
-    subst (λ (found : Result SealedPool Refusal). ExplainsIfPool inputs.root.world inputs.root.repositories found text) (sym is) none
+    subst (λ (found : Result SelectionProblem Refusal). ExplainsIfPool inputs.root.world inputs.root.repositories found text) (sym is) none

@@ -6,7 +6,7 @@ use Rattle.dep_core.specs.Repositories.{Repository}
 use Rattle.unmet_world.specs.Lines.{IsExplanationOfUnmetWorldOfPool, explanation_text}
 use Rattle.std.proofs.lemmas.Bool.Decides.{eqb_tells}
 use Rattle.search_tables.specs.candidate_core.Candidates.{entry}
-use Rattle.search_tables.specs.candidate_core.Rank.{SealedPool}
+use Rattle.search_tables.specs.candidate_core.Rank.{SelectionProblem}
 use Rattle.search_tables.specs.candidate_core.Options.{IsIn, options_for}
 use Rattle.dep_core.specs.Dependency.{Dependency}
 use Rattle.unmet_world.specs.Refutation.{AreDerivationSteps, IsFirstUnmetOfWorld, IsMetOnlyBy, IsRefutation, IsSureOwner, IsUnmet, if_positive, ids_made_sure, ids_ruled_out, wanted, want_of_world_entry}
@@ -14,7 +14,7 @@ use Rattle.unmet_world.specs.declared.refutation.Refutation.{Refutation}
 use Rattle.unmet_world.specs.declared.refutation.Step.{Step}
 use Rattle.unmet_world.specs.declared.refutation.Want.{Want}
 
-pub told_by_options : (pool : SealedPool) (want : Want) (d : Dependency) → wanted pool want ≡ Some d → MatchBool (length (options_for pool (entry d)) == 0) (IsUnmet pool want) (IsUnmet pool want → ⊥)
+pub told_by_options : (pool : SelectionProblem) (want : Want) (d : Dependency) → wanted pool want ≡ Some d → MatchBool (length (options_for pool (entry d)) == 0) (IsUnmet pool want) (IsUnmet pool want → ⊥)
 told_by_options pool want d is = by (options_for pool (entry d)) refl
   where
     none_is : (n : ℕ) → (suc n == 0) ≡ false
@@ -28,7 +28,7 @@ told_by_options pool want d is = by (options_for pool (entry d)) refl
         unmet.2 x (subst (IsIn x) (sym (ap (λ (z : Dependency). options_for pool (entry z)) same ∙ some)) (inl refl)))
 
 -- an entry that is not there is not unmet
-pub past : (pool : SealedPool) (index : ℕ) → IsUnmet pool (want_of_world_entry index) → index < length pool.world
+pub past : (pool : SelectionProblem) (index : ℕ) → IsUnmet pool (want_of_world_entry index) → index < length pool.world
 past pool index unmet = by pool.world index unmet.0 unmet.1
   where
     by : (world : List Dependency) (i : ℕ) (d : Dependency) → if_positive (slice_get world i) ≡ Some d → i < length world
@@ -38,7 +38,7 @@ past pool index unmet = by pool.world index unmet.0 unmet.1
     by (x ∷ world) (suc i) d e = let h = by world i d e in omega (arith, h)
 
 -- of two first ones, both are the same
-pub one_first : (pool : SealedPool) (i j : ℕ) → IsFirstUnmetOfWorld pool i → IsFirstUnmetOfWorld pool j → i ≡ j
+pub one_first : (pool : SelectionProblem) (i j : ℕ) → IsFirstUnmetOfWorld pool i → IsFirstUnmetOfWorld pool j → i ≡ j
 one_first pool i j one other = elim (cases i j) [
   | inl less ↦ absurd (other.first i less one.unmet)
   | inr more ↦ elim more [
@@ -57,7 +57,7 @@ one_first pool i j one other = elim (cases i j) [
     ]
 
 -- an unmet entry is a refutation without steps
-pub alone : (pool : SealedPool) (r : Refutation) (index : ℕ) → r.steps.items ≡ [] → r.end ≡ want_of_world_entry index → IsFirstUnmetOfWorld pool index → IsRefutation pool r
+pub alone : (pool : SelectionProblem) (r : Refutation) (index : ℕ) → r.steps.items ≡ [] → r.end ≡ want_of_world_entry index → IsFirstUnmetOfWorld pool index → IsRefutation pool r
 alone pool r index none is first = record {
   steps = subst (AreDerivationSteps pool) (sym none) tt;
   sure = subst (λ (w : Want). IsSureOwner (ids_made_sure r.steps.items) w.owner) (sym is) tt;
@@ -65,18 +65,18 @@ alone pool r index none is first = record {
 }
 
 -- what the search for the first one tells
-pub found_first : (pool : SealedPool) (found : Option ℕ) (index : ℕ) → found ≡ Some index → MatchOption found ((k : ℕ) → IsUnmet pool (want_of_world_entry k) → ⊥) (IsFirstUnmetOfWorld pool) → IsFirstUnmetOfWorld pool index
+pub found_first : (pool : SelectionProblem) (found : Option ℕ) (index : ℕ) → found ≡ Some index → MatchOption found ((k : ℕ) → IsUnmet pool (want_of_world_entry k) → ⊥) (IsFirstUnmetOfWorld pool) → IsFirstUnmetOfWorld pool index
 found_first pool found index is told = rw is at told
 
-pub not_found : (pool : SealedPool) (found : Option ℕ) → found ≡ None → MatchOption found ((k : ℕ) → IsUnmet pool (want_of_world_entry k) → ⊥) (IsFirstUnmetOfWorld pool) → (k : ℕ) → IsUnmet pool (want_of_world_entry k) → ⊥
+pub not_found : (pool : SelectionProblem) (found : Option ℕ) → found ≡ None → MatchOption found ((k : ℕ) → IsUnmet pool (want_of_world_entry k) → ⊥) (IsFirstUnmetOfWorld pool) → (k : ℕ) → IsUnmet pool (want_of_world_entry k) → ⊥
 not_found pool found is told = rw is at told
 
 -- where no entry is unmet, nothing is said of the first one
-pub never : {E : Type 0} (pool : SealedPool) (r : Result (Option Refutation) E) → ((k : ℕ) → IsUnmet pool (want_of_world_entry k) → ⊥) → IfOk r (λ found. (index : ℕ) → IsFirstUnmetOfWorld pool index → MatchOption found ⊥ (λ x. (x.steps.items ≡ []) × (x.end ≡ want_of_world_entry index)))
+pub never : {E : Type 0} (pool : SelectionProblem) (r : Result (Option Refutation) E) → ((k : ℕ) → IsUnmet pool (want_of_world_entry k) → ⊥) → IfOk r (λ found. (index : ℕ) → IsFirstUnmetOfWorld pool index → MatchOption found ⊥ (λ x. (x.steps.items ≡ []) × (x.end ≡ want_of_world_entry index)))
 never pool (Ok found) none = λ index first. absurd (none index first.unmet)
 never pool (Err e) none = tt
 
 -- the text that is printed of what was found explains the world
-pub explained : {E : Type 0} (pool : SealedPool) (listed : List Dependency) (repositories : List Repository) (found : Option Refutation) (r : Result (Vec ℕ Global) E) → IfSome found (IsRefutation pool) → ((index : ℕ) → IsFirstUnmetOfWorld pool index → MatchOption found ⊥ (λ x. (x.steps.items ≡ []) × (x.end ≡ want_of_world_entry index))) → IfOk r (λ text. text.items ≡ explanation_text pool listed repositories found) → IfOk r (λ text. IsExplanationOfUnmetWorldOfPool pool listed repositories text.items)
+pub explained : {E : Type 0} (pool : SelectionProblem) (listed : List Dependency) (repositories : List Repository) (found : Option Refutation) (r : Result (Vec ℕ Global) E) → IfSome found (IsRefutation pool) → ((index : ℕ) → IsFirstUnmetOfWorld pool index → MatchOption found ⊥ (λ x. (x.steps.items ≡ []) × (x.end ≡ want_of_world_entry index))) → IfOk r (λ text. text.items ≡ explanation_text pool listed repositories found) → IfOk r (λ text. IsExplanationOfUnmetWorldOfPool pool listed repositories text.items)
 explained pool listed repositories found (Ok text) refutes named says = record { found = found; refutes = refutes; named = named; says = says }
 explained pool listed repositories found (Err e) refutes named says = tt

@@ -6,7 +6,7 @@ use Rattle.std.specs.Str.{bytes_eq}
 use Rattle.dep_core.specs.Dependency.{Dependency}
 use Rattle.dep_core.specs.Repositories.{Repository}
 use Rattle.search_tables.specs.candidate_core.Candidates.{Candidate, is_eligible}
-use Rattle.search_tables.specs.candidate_core.Rank.{SealedPool}
+use Rattle.search_tables.specs.candidate_core.Rank.{SelectionProblem}
 use Rattle.search_tables.specs.candidate_core.Options.{IsIn}
 use Rattle.search_tables.specs.Selection.{IsSatisfying, install_if_applies, names_whose_install_if_applies, positive_needs}
 use Rattle.unmet_world.specs.Lines.{IsExplanationOfUnmetWorldOfPool, explanation_text, missing_lines, most_printed_lines, need_lines, printed_line, text_of_at_most_ten_lines, refutation_lines, step_lines, want_lines, with_texts, world_lines}
@@ -36,17 +36,17 @@ none_met true rest [] = refl
 none_met false rest [] = refl
 none_met eligible rest (d ∷ deps) = and_false (eligible && (not (length (d ∷ deps) == 0) && rest))
 
-none_applies : (pool : SealedPool) (c : Candidate) → install_if_applies pool [] c ≡ false
+none_applies : (pool : SelectionProblem) (c : Candidate) → install_if_applies pool [] c ≡ false
 none_applies pool c = none_met (is_eligible pool.world c) (list_all (λ (d : Dependency). not d.conflict) c.install_if) c.install_if
 
 filter_none : {X : Type 0} (p : X → Bool) (xs : List X) → ((x : X) → p x ≡ false) → filter p xs ≡ []
 filter_none p [] none = refl
 filter_none p (x ∷ xs) none = rw (none x) (filter_none p xs none)
 
-none_asked : (pool : SealedPool) → names_whose_install_if_applies pool [] ≡ []
+none_asked : (pool : SelectionProblem) → names_whose_install_if_applies pool [] ≡ []
 none_asked pool = ap (map (λ (c : Candidate). c.name)) (filter_none (install_if_applies pool []) pool.candidates (none_applies pool))
 
-nothing_satisfies : (pool : SealedPool) → positive_needs pool.world ≡ [] → IsSatisfying pool []
+nothing_satisfies : (pool : SelectionProblem) → positive_needs pool.world ≡ [] → IsSatisfying pool []
 nothing_satisfies pool none = record {
   once = tt;
   eligible = λ c h. absurd h;
@@ -79,7 +79,7 @@ kept : (texts ys : List (List ℕ)) → (texts ≡ [] → ⊥) → with_texts te
 kept [] ys some e = some refl
 kept (x ∷ xs) ys some e = more_than_none x xs ys e
 
-refutation_has_line : (pool : SealedPool) (listed : List Dependency) (repositories : List Repository) (r : Refutation) → IsRefutation pool r → refutation_lines pool listed repositories r ≡ [] → ⊥
+refutation_has_line : (pool : SelectionProblem) (listed : List Dependency) (repositories : List Repository) (r : Refutation) → IsRefutation pool r → refutation_lines pool listed repositories r ≡ [] → ⊥
 refutation_has_line pool listed repositories r is none =
     kept (with_texts [] (want_lines pool listed repositories r.end)) (flat_map (step_lines pool listed repositories) (take most_printed_lines r.steps.items)) (first (wanted pool r.end) is.none_left.0 is.none_left.1) none
   where
@@ -87,7 +87,7 @@ refutation_has_line pool listed repositories r is none =
     first None d at e = absurd (cc)
     first (Some found) d at e = more_than_none _ [] (missing_lines pool listed found) e
 
-pub has_line : (pool : SealedPool) (listed : List Dependency) (repositories : List Repository) (text : List ℕ) → IsExplanationOfUnmetWorldOfPool pool listed repositories text → ((selection : List ℕ) → IsSatisfying pool selection → ⊥) → text ≡ [] → ⊥
+pub has_line : (pool : SelectionProblem) (listed : List Dependency) (repositories : List Repository) (text : List ℕ) → IsExplanationOfUnmetWorldOfPool pool listed repositories text → ((selection : List ℕ) → IsSatisfying pool selection → ⊥) → text ≡ [] → ⊥
 has_line pool listed repositories text h unmet empty = by h.found h.refutes (sym h.says ∙ empty)
   where
     by : (found : Option Refutation) → IfSome found (IsRefutation pool) → explanation_text pool listed repositories found ≡ [] → ⊥

@@ -3,7 +3,7 @@ use Rattle.std.proofs.Common.{◌≡◌, inl, inr, ℕ, zero, suc, Bool, true, f
 use Rattle.std.specs.Prelude.{Option, Some, None, not, slice_get, if◌then◌else◌}
 use Rattle.dep_core.specs.Dependency.{Dependency}
 use Rattle.search_tables.specs.candidate_core.Candidates.{Need, entry}
-use Rattle.search_tables.specs.candidate_core.Rank.{SealedPool, is_eligible_at, meets_at}
+use Rattle.search_tables.specs.candidate_core.Rank.{SelectionProblem, is_eligible_at, meets_at}
 use Rattle.search_tables.specs.candidate_core.Options.{IsIn, options_for}
 use Rattle.search_tables.specs.Selection.{IsSatisfying, is_met, positive_needs}
 use Rattle.search_tables.proofs.PoolFacts.{any_in, in_filter, in_map}
@@ -39,7 +39,7 @@ is_need deps i d e =
     let p = positive_is (slice_get deps i) d e in
     in_map entry d _ (in_filter (λ (x : Dependency). not x.conflict) d deps (at_index deps i d p.0) p.1)
 
-module _ (pool : SealedPool) (listed : (need : Need) (c : ℕ) → is_eligible_at pool c ≡ true → meets_at pool c need ≡ true → IsIn c (options_for pool need)) (S : List ℕ) (s : IsSatisfying pool S) where
+module _ (pool : SelectionProblem) (listed : (need : Need) (c : ℕ) → is_eligible_at pool c ≡ true → meets_at pool c need ≡ true → IsIn c (options_for pool need)) (S : List ℕ) (s : IsSatisfying pool S) where
   -- a selection that has one of the candidates
   abbrev HasOneOf : List ℕ → Type 0
   HasOneOf ids = (c : ℕ) × IsIn c ids × IsIn c S

@@ -3,7 +3,7 @@ use Rattle.std.proofs.Common.{◌≡◌, inl, inr, ℕ, zero, suc, List, [], ◌
 use Rattle.std.specs.Prelude.{Bool, Some, Result, Ok, Err, IfOk, OnOk, slice_get, true}
 use Rattle.search_tables.specs.Reasons.{HasSameMembers}
 use Rattle.std.proofs.lemmas.List.{drop_all}
-use Rattle.search_tables.specs.candidate_core.Rank.{SealedPool}
+use Rattle.search_tables.specs.candidate_core.Rank.{SelectionProblem}
 use Rattle.search_tables.specs.candidate_core.Options.{IsIn}
 use Rattle.search_tables.specs.Selection.{AreAllMembersOf}
 use Rattle.search_tables.proofs.Theory.{in_left, in_right, in_append}
@@ -21,7 +21,7 @@ members_both xs ys zs more c h = elim (in_append c xs ys h) [
   | inr b ↦ in_right c xs zs (more c b)
 ]
 
-module _ (pool : SealedPool) where
+module _ (pool : SelectionProblem) where
   pub only_by_more : (want : Want) (ids more : List ℕ) → AreAllMembersOf ids more → IsMetOnlyBy pool want ids → IsMetOnlyBy pool want more
   only_by_more want ids more members only = (only.0, only.1, λ c h. members c (only.2 c h))
 
@@ -46,7 +46,7 @@ drop_at (y ∷ xs) zero x e = let same : y ≡ x = cc in ap (λ z. z ∷ xs) sam
 drop_at (y ∷ xs) (suc i) x e = drop_at xs i x e
 
 -- some steps follow, and what is gathered is by them
-pub record AreGathered (pool : SealedPool) (steps : List Step) (out sure : List ℕ) : Type 0 where
+pub record AreGathered (pool : SelectionProblem) (steps : List Step) (out sure : List ℕ) : Type 0 where
   pub steps_follow : AreDerivationSteps pool steps
   pub out_by : AreAllMembersOf out (ids_ruled_out steps)
   pub sure_by : AreAllMembersOf sure (ids_made_sure steps)
@@ -54,18 +54,18 @@ pub record AreGathered (pool : SealedPool) (steps : List Step) (out sure : List 
 members_trans : (xs ys zs : List ℕ) → AreAllMembersOf xs ys → AreAllMembersOf ys zs → AreAllMembersOf xs zs
 members_trans xs ys zs one other c h = other c (one c h)
 
-one_more : (pool : SealedPool) (step : Step) (steps : List Step) (out sure out' sure' : List ℕ) → AreGathered pool steps out sure → IsDerivationStep pool out sure step → AreAllMembersOf out' (ids_ruled_out_by_step step ++ out) → AreAllMembersOf sure' (ids_made_sure_by_step step ++ sure) → AreGathered pool (step ∷ steps) out' sure'
+one_more : (pool : SelectionProblem) (step : Step) (steps : List Step) (out sure out' sure' : List ℕ) → AreGathered pool steps out sure → IsDerivationStep pool out sure step → AreAllMembersOf out' (ids_ruled_out_by_step step ++ out) → AreAllMembersOf sure' (ids_made_sure_by_step step ++ sure) → AreGathered pool (step ∷ steps) out' sure'
 one_more pool step steps out sure out' sure' g f outs sures = record {
   steps_follow = (follows_more pool step out (ids_ruled_out steps) sure (ids_made_sure steps) g.out_by g.sure_by f, g.steps_follow);
   out_by = members_trans out' (ids_ruled_out_by_step step ++ out) (ids_ruled_out_by_step step ++ ids_ruled_out steps) outs (members_both (ids_ruled_out_by_step step) out (ids_ruled_out steps) g.out_by);
   sure_by = members_trans sure' (ids_made_sure_by_step step ++ sure) (ids_made_sure_by_step step ++ ids_made_sure steps) sures (members_both (ids_made_sure_by_step step) sure (ids_made_sure steps) g.sure_by);
 }
 
-pub gathered_from : (pool : SealedPool) (steps : List Step) (i : ℕ) (step : Step) (out sure out' sure' : List ℕ) → slice_get steps i ≡ Some step → AreGathered pool (drop (suc i) steps) out sure → IsDerivationStep pool out sure step → AreAllMembersOf out' (ids_ruled_out_by_step step ++ out) → AreAllMembersOf sure' (ids_made_sure_by_step step ++ sure) → AreGathered pool (drop i steps) out' sure'
+pub gathered_from : (pool : SelectionProblem) (steps : List Step) (i : ℕ) (step : Step) (out sure out' sure' : List ℕ) → slice_get steps i ≡ Some step → AreGathered pool (drop (suc i) steps) out sure → IsDerivationStep pool out sure step → AreAllMembersOf out' (ids_ruled_out_by_step step ++ out) → AreAllMembersOf sure' (ids_made_sure_by_step step ++ sure) → AreGathered pool (drop i steps) out' sure'
 gathered_from pool steps i step out sure out' sure' at g f outs sures =
     subst (λ (z : List Step). AreGathered pool z out' sure') (sym (drop_at steps i step at)) (one_more pool step (drop (suc i) steps) out sure out' sure' g f outs sures)
 
-pub none_gathered : (pool : SealedPool) (steps : List Step) (n : ℕ) (out sure : List ℕ) → n ≡ length steps → out ≡ [] → sure ≡ [] → AreGathered pool (drop n steps) out sure
+pub none_gathered : (pool : SelectionProblem) (steps : List Step) (n : ℕ) (out sure : List ℕ) → n ≡ length steps → out ≡ [] → sure ≡ [] → AreGathered pool (drop n steps) out sure
 none_gathered pool steps n out sure is no_out no_sure =
     let none : drop n steps ≡ [] = drop_all n steps (omega arith) in
     subst (λ (z : List Step). AreGathered pool z out sure) (sym none) (record {
@@ -90,7 +90,7 @@ if_true (Err e) to h = tt
 if_true (Ok b) to h = λ is. to (h is)
 
 -- the steps that were gathered from the first one on, and the end, are a refutation
-pub refuted : (pool : SealedPool) (r : Refutation) (left : ℕ) (out sure : List ℕ) → left ≡ 0 → AreGathered pool (drop left r.steps.items) out sure → IsSureOwner sure r.end.owner → IsMetOnlyBy pool r.end out → IsRefutation pool r
+pub refuted : (pool : SelectionProblem) (r : Refutation) (left : ℕ) (out sure : List ℕ) → left ≡ 0 → AreGathered pool (drop left r.steps.items) out sure → IsSureOwner sure r.end.owner → IsMetOnlyBy pool r.end out → IsRefutation pool r
 refuted pool r left out sure none g is_sure only =
     let all : AreGathered pool r.steps.items out sure = subst (λ (n : ℕ). AreGathered pool (drop n r.steps.items) out sure) none g in
     record {

@@ -5,7 +5,7 @@ use Rattle.std.specs.Option.{option_and_then, option_map}
 use Rattle.std.specs.List.{find}
 use Rattle.dep_core.specs.Dependency.{Dependency}
 use Rattle.search_tables.specs.candidate_core.Candidates.{Candidate, meets_dependency, occupies_name}
-use Rattle.search_tables.specs.candidate_core.Rank.{SealedPool, candidate_at}
+use Rattle.search_tables.specs.candidate_core.Rank.{SelectionProblem, candidate_at}
 
 -- whether a dependency is a conflict, and the candidate `c` meets it
 abbrev pub is_conflict_met_by : Candidate → Dependency → Bool
@@ -33,14 +33,14 @@ shared_name one other =
 -- the result of a function on the candidates at the places `a` and `b` of the pool; None if one of the places has no
 -- candidate
 abbrev pub of_candidates_at_places :
-    {X : Type 0} → (Candidate → Candidate → Option X) → SealedPool → ℕ → ℕ → Option X
+    {X : Type 0} → (Candidate → Candidate → Option X) → SelectionProblem → ℕ → ℕ → Option X
 of_candidates_at_places f pool a b =
     option_and_then (λ one. option_and_then (f one) (candidate_at pool b)) (candidate_at pool a)
 
 -- the first conflict of the candidate at the place `a` that the candidate at the place `b` meets
-abbrev pub conflict_between : SealedPool → ℕ → ℕ → Option Dependency
+abbrev pub conflict_between : SelectionProblem → ℕ → ℕ → Option Dependency
 conflict_between pool a b = of_candidates_at_places conflict_with pool a b
 
 -- the first name that the candidates at the places `a` and `b` both occupy
-abbrev pub shared_name_at_places : SealedPool → ℕ → ℕ → Option (List ℕ)
+abbrev pub shared_name_at_places : SelectionProblem → ℕ → ℕ → Option (List ℕ)
 shared_name_at_places pool a b = of_candidates_at_places shared_name pool a b

@@ -2,7 +2,7 @@
 -- `docs/commands.md`, "Why nothing can be selected".
 use Rattle.std.specs.Prelude.{◌≡◌, ℕ, ◌==◌, if◌then◌else◌, List, [], ◌++◌, length, codes, Result, Ok, Err}
 use Rattle.base_core.specs.Tree.{TreeState}
-use Rattle.search_tables.specs.candidate_core.Rank.{SealedPool, no_names}
+use Rattle.search_tables.specs.candidate_core.Rank.{SelectionProblem, no_names}
 use Rattle.dep_core.specs.Dependency.{Dependency}
 use Rattle.dep_core.specs.Repositories.{Repository}
 use Rattle.change_inputs.specs.Candidates.{root_pool}
@@ -22,7 +22,7 @@ use Rattle.unmet_world.specs.Lines.{IsExplanationOfUnmetWorldOfPool}
 -- a text explains why no selection satisfies the world of a pool. `listed` has the entries of the file of world, and
 -- the candidates are from these repositories
 pub record ExplainsPool (listed : List Dependency) (repositories : List Repository)
-    (pool : SealedPool) (text : List ℕ) : Type 0 where
+    (pool : SelectionProblem) (text : List ℕ) : Type 0 where
   -- the explanation itself
   pub front : List ℕ
   pub explains : IsExplanationOfUnmetWorldOfPool pool listed repositories front
@@ -31,7 +31,7 @@ pub record ExplainsPool (listed : List Dependency) (repositories : List Reposito
 
 -- a text explains the world of a pool; it is empty if the pool is refused, since there are too many candidates
 abbrev pub ExplainsIfPool :
-    List Dependency → List Repository → Result SealedPool Refusal → List ℕ → Type 0
+    List Dependency → List Repository → Result SelectionProblem Refusal → List ℕ → Type 0
 ExplainsIfPool listed repositories (Ok pool) text = ExplainsPool listed repositories pool text
 ExplainsIfPool listed repositories (Err refusal) text = text ≡ []
 

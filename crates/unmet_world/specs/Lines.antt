@@ -9,7 +9,7 @@ use Rattle.dep_core.specs.Dependency.{Dependency}
 use Rattle.dep_core.specs.DependencyText.{dep_text}
 use Rattle.dep_core.specs.Repositories.{Repository}
 use Rattle.search_tables.specs.candidate_core.Candidates.{Candidate, entry, is_allowed_by_tags_of_world}
-use Rattle.search_tables.specs.candidate_core.Rank.{SealedPool, candidate_at}
+use Rattle.search_tables.specs.candidate_core.Rank.{SelectionProblem, candidate_at}
 use Rattle.search_tables.specs.candidate_core.Options.{options_for, places_offering}
 use Rattle.hint_core.specs.Lines.{printed_bytes}
 use Rattle.unmet_world.specs.declared.refutation.Owner.{Owner}
@@ -40,7 +40,7 @@ candidate_text repositories c =
     name_and_version_text c ++ codes " (" ++ origin_text repositories c.repository ++ codes ")"
 
 -- the text of the candidate at a place, with where it is from; empty if there is none
-abbrev pub candidate_text_at : SealedPool → List Repository → ℕ → List ℕ
+abbrev pub candidate_text_at : SelectionProblem → List Repository → ℕ → List ℕ
 candidate_text_at pool repositories c =
     option_map_or (candidate_text repositories) (candidate_at pool c) []
 
@@ -69,13 +69,13 @@ entry_origin_text listed d = entry_origin (is_entry_of_file listed d)
 
 -- the text that names who has a dependency: the origin of this entry of world, or a candidate with where it is from
 abbrev pub dependency_owner_text :
-    SealedPool → List Dependency → List Repository → Owner → Dependency → List ℕ
+    SelectionProblem → List Dependency → List Repository → Owner → Dependency → List ℕ
 dependency_owner_text pool listed repositories World d = entry_origin_text listed d
 dependency_owner_text pool listed repositories (Package c) d = candidate_text_at pool repositories c
 
 -- an owner needs a dependency: `etc/apk/world needs app>=2`
 abbrev pub needs_text :
-    SealedPool → List Dependency → List Repository → Owner → Dependency → List ℕ
+    SelectionProblem → List Dependency → List Repository → Owner → Dependency → List ℕ
 needs_text pool listed repositories owner d =
     dependency_owner_text pool listed repositories owner d ++ codes " needs " ++ dep_text d
 
@@ -103,7 +103,7 @@ offer_text listed world name c =
     ++ world_conflict_reason_text listed world c
 
 -- the text of the candidate at a place, which offers `name`; empty if there is none
-abbrev pub offer_text_at : SealedPool → List Dependency → List ℕ → ℕ → List ℕ
+abbrev pub offer_text_at : SelectionProblem → List Dependency → List ℕ → ℕ → List ℕ
 offer_text_at pool listed name c =
     option_map_or (offer_text listed pool.world name) (candidate_at pool c) []
 
@@ -146,7 +146,7 @@ no_package_text name None = codes "no package" ++ note_on_file name
 no_package_text name (Some similar) = codes "no package" ++ codes "; a similar name is " ++ similar
 
 -- the text on the candidates at these places, which offer `name`; without places, it says that no package has the name
-abbrev pub offered_text : SealedPool → List Dependency → List ℕ → List ℕ → List ℕ
+abbrev pub offered_text : SelectionProblem → List Dependency → List ℕ → List ℕ → List ℕ
 offered_text pool listed name [] = no_package_text name (similar_name name pool.candidates)
 offered_text pool listed name (c ∷ cs) =
     codes "only "
@@ -154,7 +154,7 @@ offered_text pool listed name (c ∷ cs) =
     ++ dots_if (nat_lt most_shown_offers (length (c ∷ cs)))
 
 -- the line that says which candidates offer a name: `lib: only 1.0-r0, 1.2-r0`
-abbrev pub offers_line_of_name : SealedPool → List Dependency → List ℕ → List ℕ
+abbrev pub offers_line_of_name : SelectionProblem → List Dependency → List ℕ → List ℕ
 offers_line_of_name pool listed name =
     name ++ codes ": " ++ offered_text pool listed name (places_offering name pool.candidates)
 
@@ -162,28 +162,28 @@ offers_line_of_name pool listed name =
 
 -- the line that says which candidates offer the name of a dependency, as a list; empty if a candidate that may be
 -- selected meets the dependency
-abbrev pub missing_lines : SealedPool → List Dependency → Dependency → List (List ℕ)
+abbrev pub missing_lines : SelectionProblem → List Dependency → Dependency → List (List ℕ)
 missing_lines pool listed d =
     if length (options_for pool (entry d)) == 0 then offers_line_of_name pool listed d.name ∷ [] else []
 
 -- the lines of a dependency: who needs it, and, if nothing meets it, which candidates offer its name; none without a
 -- dependency
 abbrev pub need_lines :
-    SealedPool → List Dependency → List Repository → Owner → Option Dependency → List (List ℕ)
+    SelectionProblem → List Dependency → List Repository → Owner → Option Dependency → List (List ℕ)
 need_lines pool listed repositories owner None = []
 need_lines pool listed repositories owner (Some d) =
     needs_text pool listed repositories owner d ∷ missing_lines pool listed d
 
 -- the lines of a wanted dependency: who needs it, and, if nothing meets it, which candidates offer its name
 abbrev pub want_lines :
-    SealedPool → List Dependency → List Repository → Want → List (List ℕ)
+    SelectionProblem → List Dependency → List Repository → Want → List (List ℕ)
 want_lines pool listed repositories want =
     need_lines pool listed repositories want.owner (wanted pool want)
 
 -- the line that says that the candidate at the place `id` is the only one left for a dependency, as a list; empty
 -- without a dependency
 abbrev pub only_candidate_lines :
-    SealedPool → List Dependency → List Repository → Owner → ℕ → Option Dependency →
+    SelectionProblem → List Dependency → List Repository → Owner → ℕ → Option Dependency →
     List (List ℕ)
 only_candidate_lines pool listed repositories owner id None = []
 only_candidate_lines pool listed repositories owner id (Some d) =
@@ -191,14 +191,14 @@ only_candidate_lines pool listed repositories owner id (Some d) =
     ++ candidate_text_at pool repositories id) ∷ []
 
 -- the text that the candidate at the place `a` has the conflict `d`, which the candidate at the place `b` meets
-abbrev pub conflict_text : SealedPool → List Repository → ℕ → ℕ → Dependency → List ℕ
+abbrev pub conflict_text : SelectionProblem → List Repository → ℕ → ℕ → Dependency → List ℕ
 conflict_text pool repositories a b d =
     candidate_text_at pool repositories a ++ codes " conflicts with "
     ++ candidate_text_at pool repositories b
     ++ codes ": " ++ dep_text d
 
 -- the text that the candidates at the places `a` and `b` both occupy a name
-abbrev pub shared_name_text : SealedPool → List Repository → ℕ → ℕ → List ℕ → List ℕ
+abbrev pub shared_name_text : SelectionProblem → List Repository → ℕ → ℕ → List ℕ → List ℕ
 shared_name_text pool repositories a b name =
     candidate_text_at pool repositories a ++ codes " and " ++ candidate_text_at pool repositories b
     ++ codes " exclude each other: both are " ++ name
@@ -206,7 +206,7 @@ shared_name_text pool repositories a b name =
 -- the line that says by what two candidates exclude each other, as a list: the first of a conflict of `a`, one of `b`,
 -- and a name that is there
 abbrev pub exclusion_lines :
-    SealedPool → List Repository → ℕ → ℕ → Option Dependency → Option Dependency →
+    SelectionProblem → List Repository → ℕ → ℕ → Option Dependency → Option Dependency →
     Option (List ℕ) → List (List ℕ)
 exclusion_lines pool repositories a b (Some d) other name =
     conflict_text pool repositories a b d ∷ []
@@ -218,7 +218,7 @@ exclusion_lines pool repositories a b None None None = []
 
 -- the lines that explain a step of a refutation
 abbrev pub step_lines :
-    SealedPool → List Dependency → List Repository → Step → List (List ℕ)
+    SelectionProblem → List Dependency → List Repository → Step → List (List ℕ)
 step_lines pool listed repositories (Broken id index) =
     want_lines pool listed repositories (record { owner = Package id; index = index })
 step_lines pool listed repositories (Excluded id by) =
@@ -235,7 +235,7 @@ most_printed_lines = 10
 
 -- the lines of a refutation, each once: first those of its end, then those of its first ten steps
 abbrev pub refutation_lines :
-    SealedPool → List Dependency → List Repository → Refutation → List (List ℕ)
+    SelectionProblem → List Dependency → List Repository → Refutation → List (List ℕ)
 refutation_lines pool listed repositories r =
     with_texts (with_texts [] (want_lines pool listed repositories r.end))
     (flat_map (step_lines pool listed repositories) (take most_printed_lines r.steps.items))
@@ -264,19 +264,19 @@ text_of_at_most_ten_lines lines =
 
 -- the lines of a refutation that was found, or else of the entries of world that are no conflicts
 abbrev pub explanation_lines :
-    SealedPool → List Dependency → List Repository → Option Refutation → List (List ℕ)
+    SelectionProblem → List Dependency → List Repository → Option Refutation → List (List ℕ)
 explanation_lines pool listed repositories None = world_lines listed pool.world
 explanation_lines pool listed repositories (Some r) = refutation_lines pool listed repositories r
 
 -- the lines of *explanation_lines*, as they are printed
 abbrev pub explanation_text :
-    SealedPool → List Dependency → List Repository → Option Refutation → List ℕ
+    SelectionProblem → List Dependency → List Repository → Option Refutation → List ℕ
 explanation_text pool listed repositories found =
     text_of_at_most_ten_lines (explanation_lines pool listed repositories found)
 
 -- a text explains why no selection satisfies the world of a pool: the text is that of a refutation, or, without one,
 -- that of the entries of world. `listed` has the entries of the file of world
-pub record IsExplanationOfUnmetWorldOfPool (pool : SealedPool) (listed : List Dependency)
+pub record IsExplanationOfUnmetWorldOfPool (pool : SelectionProblem) (listed : List Dependency)
     (repositories : List Repository) (text : List ℕ) : Type 0 where
   -- the refutation that was found, if one was
   pub found : Option Refutation

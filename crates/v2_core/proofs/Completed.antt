@@ -5,8 +5,8 @@ use Rattle.std.specs.Option.{option_and_then, option_map}
 use Rattle.std.proofs.lemmas.List.Folds.{list_any-append}
 use Rattle.dep_core.specs.Dependency.{is_package_name}
 use Rattle.version_core.specs.Order.{is_version, tokens}
-use Rattle.version_core.specs.Token.{later_component_lexeme, next_lexeme, number_lexeme}
-use Rattle.v2_lines.specs.make_info.Fields.{FieldValue, text, text_value_if}
+use Rattle.version_core.specs.Token.{later_component_lexeme_by_digits, next_lexeme, number_lexeme_by_digits}
+use Rattle.v2_lines.specs.make_info.Fields.{TextNumberOrDependency, text, text_value_if}
 use Rattle.v2_lines.specs.InfoFields.{field_of_letter, is_list_info_field}
 use Rattle.v2_lines.specs.Lines.{info_line, record_line_or_skipped_if_letter_unknown, record_line_of}
 use Rattle.v2_lines.specs.declared.field.InfoField.{InfoField}
@@ -33,7 +33,7 @@ version_line : (version : List ℕ) → is_version version ≡ true → record_l
 unfolding record_line_or_skipped_if_letter_unknown field_of_letter
 version_line version h = ap (λ b. option_map (info_line Fields.Version) (text_value_if b version)) h
 
-with_one : (r : Record) (f : InfoField) (values : List FieldValue) → is_list_info_field f ≡ false → has_line_of_field f r.info ≡ false → with_record_line r (info_line f values) ≡ Some (record_from_parts true (r.info ++ info_line_from_parts f values ∷ []) r.folders)
+with_one : (r : Record) (f : InfoField) (values : List TextNumberOrDependency) → is_list_info_field f ≡ false → has_line_of_field f r.info ≡ false → with_record_line r (info_line f values) ≡ Some (record_from_parts true (r.info ++ info_line_from_parts f values ∷ []) r.folders)
 with_one r f values once new =
     ap (λ b. record_if_both_parts (cond (not b && has_line_of_field f r.info) None (Some (r.info ++ info_line_from_parts f values ∷ []))) (Some r.folders)) once
     ∙ ap (λ b. record_if_both_parts (cond b None (Some (r.info ++ info_line_from_parts f values ∷ []))) (Some r.folders)) new
@@ -139,7 +139,7 @@ named = refl
 
 -- `1` is a version
 versioned : is_version (49 ∷ []) ≡ true
-unfolding is_version tokens number_lexeme next_lexeme later_component_lexeme
+unfolding is_version tokens number_lexeme_by_digits next_lexeme later_component_lexeme_by_digits
 versioned = refl
 
 -- fewer lines than up to the one that is told begin a text

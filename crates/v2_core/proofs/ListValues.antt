@@ -8,7 +8,7 @@ use Rattle.adb_view.specs.Plain.{Plain}
 use Rattle.v2_lines.specs.adb_values.Drafts.{DraftState, draft_with_open_list}
 use Rattle.v2_lines.proofs.adb_values.Lists.{drop_at, list_given}
 use Rattle.dep_core.specs.declared.dep.Dep.{Dep}
-use Rattle.v2_lines.specs.make_info.Fields.{FieldValue}
+use Rattle.v2_lines.specs.make_info.Fields.{TextNumberOrDependency}
 use Rattle.v2_lines.specs.make_info.Information.{plain_value}
 use Rattle.v2_lines.specs.make_info.Values.{plains_of_list}
 use Rattle.v2_lines.specs.declared.field.InfoField.{InfoField}
@@ -28,7 +28,7 @@ map-both f (x ∷ xs) ys = ap (λ zs. f x ∷ zs) (map-both f xs ys)
 abbrev pub plains_of_lines : InfoField → List InfoLine → List Plain
 plains_of_lines f info = map plain_value (flat_map (values_if_line_of_field f) info)
 
-line_at : (f : InfoField) (info : List InfoLine) (i : ℕ) (l d : InfoLine) (values : List FieldValue) → i < length info → l ≡ get_or info i d → values_if_line_of_field f l ≡ values
+line_at : (f : InfoField) (info : List InfoLine) (i : ℕ) (l d : InfoLine) (values : List TextNumberOrDependency) → i < length info → l ≡ get_or info i d → values_if_line_of_field f l ≡ values
     → plains_of_lines f (drop i info) ≡ map plain_value values ++ plains_of_lines f (drop (i + 1) info)
 line_at f info i l d values within is says =
     ap (plains_of_lines f) (drop_at info i l (slice_get-get_or info i d within ∙ ap (λ y. Some y) (sym is)))
@@ -36,7 +36,7 @@ line_at f info i l d values within is says =
     ∙ map-both plain_value values (flat_map (values_if_line_of_field f) (drop (i + 1) info))
 
 -- the values of a line are given
-given_line : (f : InfoField) (info : List InfoLine) (i : ℕ) (l d : InfoLine) (values : List FieldValue) (old new whole : DraftState) → i < length info → l ≡ get_or info i d → values_if_line_of_field f l ≡ values
+given_line : (f : InfoField) (info : List InfoLine) (i : ℕ) (l d : InfoLine) (values : List TextNumberOrDependency) (old new whole : DraftState) → i < length info → l ≡ get_or info i d → values_if_line_of_field f l ≡ values
     → with_list (plains_of_lines f (drop i info)) old ≡ whole → new ≡ with_list (map plain_value values) old → with_list (plains_of_lines f (drop (i + 1) info)) new ≡ whole
 given_line f info i l d values old new whole within is says left one =
     ap (λ (s : DraftState). with_list (plains_of_lines f (drop (i + 1) info)) s) one

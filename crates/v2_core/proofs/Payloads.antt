@@ -3,7 +3,7 @@ use Rattle.std.proofs.Common.{◌≡◌, ℕ, List, [], ◌∷◌, map, Result, 
 use Rattle.adb_view.specs.Plain.{Plain, none, more, array_or_null, trimmed_object_or_null}
 use Rattle.v2_lines.specs.adb_values.Drafts.{DraftState, draft_with, draft_with_open_list, empty_draft}
 use Rattle.v2_lines.proofs.adb_values.Lists.{Closes}
-use Rattle.v2_lines.specs.adb_write.Canonical.{ByteAndValueCounts, payload_or_overflow}
+use Rattle.v2_lines.specs.adb_write.Canonical.{ByteAndValueCounts, payload_or_counts_at_overflow}
 use Rattle.v2_lines.specs.make_info.Values.{plains_of_list}
 use Rattle.v2_core.specs.Database.{array_or_null_of_list, record_value, database_value_of_records}
 use Rattle.v2_core.specs.Payload.{IsV2Fault, payload_unless_too_large, payload_if_sound, payload_of_records}
@@ -15,7 +15,7 @@ use Rattle.v2_lines.proofs.make_info.Mapped.{with_list}
 
 -- what a draft of the database ends with is the payload, or the counts at which it overflows
 pub finished : (read : Result (List Record) ℕ) (start d : DraftState) (answer : Result (List ℕ) ByteAndValueCounts) → start ≡ empty_draft → draft_with_database read start ≡ Ok d
-    → ((v : Plain) → d ≡ draft_with v empty_draft → payload_or_overflow v ≡ answer) → payload_of_records read ≡ payload_unless_too_large answer
+    → ((v : Plain) → d ≡ draft_with v empty_draft → payload_or_counts_at_overflow v ≡ answer) → payload_of_records read ≡ payload_unless_too_large answer
 finished (Ok records) start d answer fresh so end =
     let v : Plain = database_value_of_records records in
     let same : draft_with v start ≡ d = cc in

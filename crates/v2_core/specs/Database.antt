@@ -4,7 +4,7 @@
 use Rattle.std.specs.Prelude.{ℕ, List, [], ◌∷◌, map, Option, Some, None, if◌then◌else◌}
 use Rattle.std.specs.List.{find, flat_map}
 use Rattle.adb_view.specs.Plain.{Plain, null, int, blob_or_null, array_or_null, trimmed_object_or_null}
-use Rattle.v2_lines.specs.make_info.Fields.{FieldValue}
+use Rattle.v2_lines.specs.make_info.Fields.{TextNumberOrDependency}
 use Rattle.v2_lines.specs.make_info.Information.{plain_value}
 use Rattle.v2_lines.specs.make_info.Values.{plains_of_list}
 use Rattle.v2_lines.specs.Accesses.{Access}
@@ -23,7 +23,7 @@ trimmed_object_or_null_of_list vs = trimmed_object_or_null (plains_of_list vs)
 -- ---- the package's information
 
 -- the plain value of a field that takes one value; Null if its line gives none
-abbrev pub value_of_first_or_null : List FieldValue → Plain
+abbrev pub value_of_first_or_null : List TextNumberOrDependency → Plain
 value_of_first_or_null [] = null
 value_of_first_or_null (v ∷ vs) = plain_value v
 
@@ -37,7 +37,7 @@ abbrev pub value_of_single_line_field : InfoField → List InfoLine → Plain
 value_of_single_line_field f info = value_of_line (find (is_line_of_field f) info)
 
 -- the values of a line if the line is of this field, otherwise none
-abbrev pub values_if_line_of_field : InfoField → InfoLine → List FieldValue
+abbrev pub values_if_line_of_field : InfoField → InfoLine → List TextNumberOrDependency
 values_if_line_of_field f line = if is_line_of_field f line then line.values else []
 
 -- the array of all values that the lines of a field give

@@ -4,7 +4,7 @@
 use Rattle.std.specs.Prelude.{◌≡◌, ℕ, ⊤, List, Option, Some, None, Result, Ok, Err}
 use Rattle.base_core.specs.declared.cause.Cause.{Cause}
 use Rattle.base_core.specs.declared.cause.Cause.TheVariants.{TextLine}
-use Rattle.v2_lines.specs.adb_write.Canonical.{ByteAndValueCounts, payload_or_overflow}
+use Rattle.v2_lines.specs.adb_write.Canonical.{ByteAndValueCounts, payload_or_counts_at_overflow}
 use Rattle.v2_lines.specs.adb_schema.Soundness.{payload_fault}
 use Rattle.adb_view.specs.declared.tables.Which.TheVariants.{Idb}
 use Rattle.v2_core.specs.declared.read.V2Fault.{V2Fault}
@@ -26,7 +26,7 @@ payload_unless_too_large (Err counts) = Err (TooLarge counts.0 counts.1)
 -- the payload of the database with these records, before it is tested; or the first bad line
 abbrev pub payload_of_records : Result (List Record) ℕ → Result (List ℕ) V2Fault
 payload_of_records (Ok records) =
-    payload_unless_too_large (payload_or_overflow (database_value_of_records records))
+    payload_unless_too_large (payload_or_counts_at_overflow (database_value_of_records records))
 payload_of_records (Err line) = Err (Bad (TextLine line))
 
 -- the payload, if it passes the tests of an installed database; otherwise the first test that it fails. An

@@ -3,7 +3,7 @@
 -- after it.
 use Rattle.std.specs.Prelude.{ℕ, Bool, true, false, not, ◌&&◌, ◌||◌, ◌==◌, if◌then◌else◌, List, [], ◌∷◌, ◌++◌, Option, Some, None, option_map, is_some}
 use Rattle.std.specs.List.{list_any}
-use Rattle.v2_lines.specs.make_info.Fields.{FieldValue}
+use Rattle.v2_lines.specs.make_info.Fields.{TextNumberOrDependency}
 use Rattle.v2_lines.specs.Accesses.{Access}
 use Rattle.v2_lines.specs.InfoFields.{is_list_info_field, letter_of}
 use Rattle.v2_lines.specs.Lines.{RecordLine, info_line, folder_line, folder_access_line, file_line, file_access_line, file_hash_line, other_line}
@@ -15,7 +15,7 @@ pub record InfoLine : Type 0 where
   -- the field of the package
   pub field : InfoField
   -- the values that the line gives
-  pub values : List FieldValue
+  pub values : List TextNumberOrDependency
 
 -- a file, by the lines of a record
 pub record ListedFile : Type 0 where
@@ -55,7 +55,7 @@ abbrev pub empty_record : Record
 empty_record = record_from_parts false [] []
 
 -- a line on a field, by its parts
-abbrev pub info_line_from_parts : InfoField → List FieldValue → InfoLine
+abbrev pub info_line_from_parts : InfoField → List TextNumberOrDependency → InfoLine
 info_line_from_parts f values = record { field = f; values = values }
 
 -- a file by its parts
@@ -78,7 +78,7 @@ has_line_of_field f info = list_any (is_line_of_field f) info
 
 -- the lines on the package with one more line of the field `f`; None if it is a second line of a field
 -- that is no list
-abbrev pub with_info_values : InfoField → List FieldValue → List InfoLine → Option (List InfoLine)
+abbrev pub with_info_values : InfoField → List TextNumberOrDependency → List InfoLine → Option (List InfoLine)
 with_info_values f values info =
     if not (is_list_info_field f) && has_line_of_field f info then None
     else Some (info ++ info_line_from_parts f values ∷ [])

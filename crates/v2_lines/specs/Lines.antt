@@ -3,7 +3,7 @@
 -- it, a line with an unlisted letter is skipped.
 use Rattle.std.specs.Prelude.{ℕ, ◌==◌, if◌then◌else◌, List, [], ◌∷◌, Option, Some, None, option_map}
 use Rattle.adb_schema.specs.Rules.{is_folder_name, is_one_part}
-use Rattle.make_info.specs.Fields.{FieldValue}
+use Rattle.make_info.specs.Fields.{TextNumberOrDependency}
 use Rattle.v2_lines.specs.Accesses.{Access, access_in}
 use Rattle.v2_lines.specs.InfoFields.{field_of_letter, grammar_of}
 use Rattle.v2_lines.specs.InfoValues.{sha1_in_text, values_under_grammar}
@@ -14,7 +14,7 @@ use Rattle.v2_lines.specs.declared.line.TheConstants.{MARK, FOLDER, FOLDER_ACCES
 -- this path, and `file_line` a file of this name. The access lines have the owner and mode of the last folder or
 -- file, and `file_hash_line` the SHA-1 of the last file. `other_line` is skipped
 pub data RecordLine : Type 0 where
-  info_line : InfoField → List FieldValue → RecordLine
+  info_line : InfoField → List TextNumberOrDependency → RecordLine
   folder_line : List ℕ → RecordLine
   folder_access_line : Access → RecordLine
   file_line : List ℕ → RecordLine

@@ -4,7 +4,7 @@ use Rattle.std.specs.Prelude.{ℕ, List, [], ◌∷◌, map, Vec}
 use Rattle.std.specs.declared.alloc.Global.{Global}
 use Rattle.dep_core.specs.Meets.{dependency}
 use Rattle.dep_core.specs.declared.dep.Dep.{Dep}
-use Rattle.make_info.specs.Fields.{FieldValue, text, number, need}
+use Rattle.make_info.specs.Fields.{TextNumberOrDependency, text, number, need}
 use Rattle.v2_lines.specs.Accesses.{access_view}
 use Rattle.v2_lines.specs.Lines.{RecordLine, info_line, folder_line, folder_access_line, file_line, file_access_line, file_hash_line, other_line}
 use Rattle.v2_lines.specs.declared.line.Line.{Line}
@@ -17,11 +17,11 @@ abbrev pub bytes_view : Vec ℕ Global → List ℕ
 bytes_view v = v.items
 
 -- the values of a list of dependencies: each is a value of its own
-abbrev pub needs_view : Vec Dep Global → List FieldValue
+abbrev pub needs_view : Vec Dep Global → List TextNumberOrDependency
 needs_view v = map (λ d. need (dependency d)) v.items
 
 -- the values that the value of a line denotes; a commit that is not hexadecimal denotes none
-abbrev pub line_value_view : Value → List FieldValue
+abbrev pub line_value_view : Value → List TextNumberOrDependency
 line_value_view (Text t) = text t.now ∷ []
 line_value_view (Bytes b) = text b.items ∷ []
 line_value_view (Number n) = number n ∷ []

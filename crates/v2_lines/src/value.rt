@@ -4,7 +4,7 @@ ghost use Rattle.dep_core.specs.Meets.{dependency};
 ghost use Rattle.hex.specs.Hex.{decode_of};
 ghost use Rattle.base64.specs.Engines.{standard};
 ghost use Rattle.base64.specs.GeneralPurpose.{decode_of as base64_bytes};
-ghost use Rattle.make_info.specs.Fields.{decimal_number, dependency_values_in, nonempty_parts_between_spaces, text_value_if};
+ghost use Rattle.make_info.specs.Fields.{decimal_number_without_leading_zeros, dependency_values_of_parts, nonempty_parts_between_spaces, text_value_if};
 ghost use Rattle.make_info.specs.Reading.{nonempty_part};
 ghost use Rattle.std.specs.Option.{option_map};
 ghost use Rattle.std.specs.Prelude.{◌≡◌, ◌++◌, ◌==◌, IfOk, None, Some, if◌then◌else◌, length};
@@ -76,7 +76,7 @@ fn text_value_if(text: &[u8], is_good: bool) -> Option<Value<'_>>
 fn number_value<'a>(digits: &[u8]) -> Option<Value<'a>>
     // The result is the number in these digits, or None.
     ensures { option_map line_value_view result
-        ≡ option_map list_of_one_number_value (decimal_number digits.now) }
+        ≡ option_map list_of_one_number_value (decimal_number_without_leading_zeros digits.now) }
 {
     let n = read_number(digits)?;
     Some(Value::Number(n))
@@ -136,7 +136,7 @@ fn read_commit<'a>(alloc: Global, text: &[u8]) -> Result<Option<Value<'a>>, Allo
 fn read_needs<'a>(alloc: Global, text: &'a [u8]) -> Result<Option<Value<'a>>, AllocError>
     // On Ok, the result has the dependencies of all parts that are not empty, or is None.
     ensures { IfOk result (λ found. option_map line_value_view found
-        ≡ dependency_values_in (nonempty_parts_between_spaces text.entry.now)) }
+        ≡ dependency_values_of_parts (nonempty_parts_between_spaces text.entry.now)) }
 {
     let mut needs = Vec::new(alloc);
     for part in text.split(|byte| *byte == b' ') {
@@ -152,7 +152,7 @@ fn read_needs<'a>(alloc: Global, text: &'a [u8]) -> Result<Option<Value<'a>>, Al
 fn add_need<'a>(needs: &mut Vec<Dep<'a>>, part: &'a [u8]) -> Result<bool, AllocError>
     // On Ok true, the definition gives the longer list; on Ok false, it gives None.
     ensures { IfOk result (λ good. (if good then Some (needs_view needs.new) else None)
-        ≡ with_needs (needs_view needs.old) (dependency_values_in (nonempty_part part.entry.now))) }
+        ≡ with_needs (needs_view needs.old) (dependency_values_of_parts (nonempty_part part.entry.now))) }
 {
     if part.is_empty() {
         return Ok(true);

@@ -15,9 +15,9 @@ use Rattle.std.proofs.lemmas.List.Sums.{take_while-cons}
 use Rattle.std.proofs.Math.Bool.{and-false}
 use Rattle.version_core.specs.declared.token.Class.{Class}
 use Rattle.version_core.specs.declared.token.Class.TheVariants.{Revision, Hash, SuffixNumber, Letter, Component}
-use Rattle.version_core.specs.Token.{Token, Lexeme, number_token, text_token, lexeme, stray_lexeme, is_component, is_suffix, is_allowed_before_suffix_or_hash, is_allowed_before_revision, is_hex_digit, leading_digits, leading_hex_digits, leading_letters, number_lexeme, later_component_lexeme, suffix_lexeme, hash_lexeme, revision_lexeme, next_lexeme, lexeme_at}
-use Rattle.version_core.specs.Order.{are_in_grammar, is_last_token_class, is_stray_class, is_version, token_cmp, tokens, tokens_after_class_skipping_bytes, version_cmp}
-use Rattle.version_core.specs.Matching.{are_wanted_tokens_met_by, is_prefix_of, fits, is_fuzzy_match, is_zero_component}
+use Rattle.version_core.specs.Token.{Token, Lexeme, number_token, text_token, lexeme, stray_lexeme, is_component, is_suffix, is_allowed_before_suffix_or_hash, is_allowed_before_revision, is_hex_digit, leading_digits, leading_hex_digits, leading_letters, number_lexeme_by_digits, later_component_lexeme_by_digits, suffix_lexeme_by_word, hash_lexeme_by_hex_digits, revision_lexeme_by_text_after_hyphen, next_lexeme, lexeme_at}
+use Rattle.version_core.specs.Order.{has_no_stray_token, is_end_or_stray_class, is_stray_class, is_version, token_cmp, tokens, tokens_after_class_skipping_bytes, version_cmp}
+use Rattle.version_core.specs.Matching.{are_wanted_tokens_met_by, is_prefix_of, is_wanted_token_met_by, is_fuzzy_match, is_zero_component}
 use Rattle.version_core.specs.Reading.{AreEqualUpTo, IsLastMark, begins_with_mark, hash_cmp, hash_fits, is_token_mark, is_unmarked}
 use Rattle.version_core.proofs.OrderLaws.{token_cmp-total}
 use Rattle.version_core.proofs.Places.{NoEnd, number_no_end, some_no_end, stray_first}
@@ -55,51 +55,51 @@ run_front q [] m x h = take_while-cons q m x ∙ ap (λ b. cond b (m ∷ take_wh
 run_front q (b ∷ a) m x h =
     take_while-cons q b (a ++ m ∷ x) ∙ ap (λ r. cond (q b) (b ∷ r) []) (run_front q a m x h) ∙ sym (take_while-cons q b a)
 
-revision_front : (a : List ℕ) (m : ℕ) (x : List ℕ) → is_token_mark m ≡ true → revision_lexeme (a ++ m ∷ x) ≡ revision_lexeme a
-unfolding revision_lexeme
-revision_front [] m x h = ap (λ b. cond b (number_lexeme Revision 2 (leading_digits x)) stray_lexeme) (no_r m h)
-revision_front (b ∷ a) m x h = ap (λ ds. cond (eqb b 114) (number_lexeme Revision 2 ds) stray_lexeme) (run_front is_ascii_digit a m x (no_digit m h))
+revision_front : (a : List ℕ) (m : ℕ) (x : List ℕ) → is_token_mark m ≡ true → revision_lexeme_by_text_after_hyphen (a ++ m ∷ x) ≡ revision_lexeme_by_text_after_hyphen a
+unfolding revision_lexeme_by_text_after_hyphen
+revision_front [] m x h = ap (λ b. cond b (number_lexeme_by_digits Revision 2 (leading_digits x)) stray_lexeme) (no_r m h)
+revision_front (b ∷ a) m x h = ap (λ ds. cond (eqb b 114) (number_lexeme_by_digits Revision 2 ds) stray_lexeme) (run_front is_ascii_digit a m x (no_digit m h))
 
 abbrev next_by : Class → ℕ → List ℕ → List ℕ → List ℕ → List ℕ → Lexeme → Lexeme
 next_by last b digits letters number hash revision =
-    cond (eqb b 46 && is_component last) (later_component_lexeme digits)
+    cond (eqb b 46 && is_component last) (later_component_lexeme_by_digits digits)
     (cond (is_ascii_lowercase b && is_component last) (lexeme (number_token Letter b) 1)
-    (cond (eqb b 95 && is_allowed_before_suffix_or_hash last) (suffix_lexeme letters)
-    (cond (is_ascii_digit b && is_suffix last) (number_lexeme SuffixNumber 0 number)
-    (cond (eqb b 126 && is_allowed_before_suffix_or_hash last) (hash_lexeme hash)
+    (cond (eqb b 95 && is_allowed_before_suffix_or_hash last) (suffix_lexeme_by_word letters)
+    (cond (is_ascii_digit b && is_suffix last) (number_lexeme_by_digits SuffixNumber 0 number)
+    (cond (eqb b 126 && is_allowed_before_suffix_or_hash last) (hash_lexeme_by_hex_digits hash)
     (cond (eqb b 45 && is_allowed_before_revision last) revision
     stray_lexeme)))))
 
 lexeme_front : (last : Option Class) (b : ℕ) (a : List ℕ) (m : ℕ) (x : List ℕ) → is_token_mark m ≡ true → lexeme_at last (b ∷ (a ++ m ∷ x)) ≡ lexeme_at last (b ∷ a)
 unfolding next_lexeme
-lexeme_front None b a m x h = ap (number_lexeme Component 0) (run_front is_ascii_digit (b ∷ a) m x (no_digit m h))
+lexeme_front None b a m x h = ap (number_lexeme_by_digits Component 0) (run_front is_ascii_digit (b ∷ a) m x (no_digit m h))
 lexeme_front (Some last) b a m x h = λ i.
     next_by last b (run_front is_ascii_digit a m x (no_digit m h) i) (run_front is_ascii_lowercase a m x (no_letter m h) i)
     (run_front is_ascii_digit (b ∷ a) m x (no_digit m h) i) (run_front is_hex_digit a m x (no_hex m h) i) (revision_front a m x h i)
 
 -- ---- what a version has from a mark on does not depend on the token before
 
-plain_by : (b : Bool) (x : Lexeme) → is_last_token_class (cond b x stray_lexeme).token.class ≡ false → cond b x stray_lexeme ≡ x
+plain_by : (b : Bool) (x : Lexeme) → is_end_or_stray_class (cond b x stray_lexeme).token.class ≡ false → cond b x stray_lexeme ≡ x
 plain_by true x h = refl
 plain_by false x h = absurd (false≢true (sym h))
 
-mark_lexeme : (last : Option Class) (m : ℕ) (x : List ℕ) → is_token_mark m ≡ true → is_last_token_class (lexeme_at last (m ∷ x)).token.class ≡ false → lexeme_at last (m ∷ x) ≡ lexeme_at (Some Component) (m ∷ x)
-unfolding next_lexeme number_lexeme
+mark_lexeme : (last : Option Class) (m : ℕ) (x : List ℕ) → is_token_mark m ≡ true → is_end_or_stray_class (lexeme_at last (m ∷ x)).token.class ≡ false → lexeme_at last (m ∷ x) ≡ lexeme_at (Some Component) (m ∷ x)
+unfolding next_lexeme number_lexeme_by_digits
 mark_lexeme None m x mark h =
-    let none : number_lexeme Component 0 (leading_digits (m ∷ x)) ≡ stray_lexeme = ap (number_lexeme Component 0) (run_front is_ascii_digit [] m x (no_digit m mark)) in
-    absurd (false≢true (sym h ∙ ap (λ (l : Lexeme). is_last_token_class l.token.class) none))
+    let none : number_lexeme_by_digits Component 0 (leading_digits (m ∷ x)) ≡ stray_lexeme = ap (number_lexeme_by_digits Component 0) (run_front is_ascii_digit [] m x (no_digit m mark)) in
+    absurd (false≢true (sym h ∙ ap (λ (l : Lexeme). is_end_or_stray_class l.token.class) none))
 mark_lexeme (Some last) m x mark h =
-    by_mark (λ m. is_last_token_class (next_lexeme last (m ∷ x)).token.class ≡ false → next_lexeme last (m ∷ x) ≡ next_lexeme Component (m ∷ x)) m mark
-    (plain_by (is_component last) (later_component_lexeme (leading_digits x)))
-    (plain_by (is_allowed_before_suffix_or_hash last) (suffix_lexeme (leading_letters x)))
-    (plain_by (is_allowed_before_suffix_or_hash last) (hash_lexeme (leading_hex_digits x)))
-    (plain_by (is_allowed_before_revision last) (revision_lexeme x))
+    by_mark (λ m. is_end_or_stray_class (next_lexeme last (m ∷ x)).token.class ≡ false → next_lexeme last (m ∷ x) ≡ next_lexeme Component (m ∷ x)) m mark
+    (plain_by (is_component last) (later_component_lexeme_by_digits (leading_digits x)))
+    (plain_by (is_allowed_before_suffix_or_hash last) (suffix_lexeme_by_word (leading_letters x)))
+    (plain_by (is_allowed_before_suffix_or_hash last) (hash_lexeme_by_hex_digits (leading_hex_digits x)))
+    (plain_by (is_allowed_before_revision last) (revision_lexeme_by_text_after_hyphen x))
     h
 
 -- ---- the tokens of a text that is in the grammar
 
 abbrev pub IsGood : Option Class → ℕ → List ℕ → Type 0
-IsGood last inside text = are_in_grammar (tokens_after_class_skipping_bytes last inside text) ≡ true
+IsGood last inside text = has_no_stray_token (tokens_after_class_skipping_bytes last inside text) ≡ true
 
 no_end : (last : Option Class) (b : ℕ) (rest : List ℕ) → NoEnd (lexeme_at last (b ∷ rest))
 no_end None b rest = number_no_end Component 0 (leading_digits (b ∷ rest)) (λ h. h)
@@ -109,21 +109,21 @@ bool_by : (b : Bool) → (b ≡ true → false ≡ true) → b ≡ false
 bool_by true f = sym (f refl)
 bool_by false f = refl
 
-pub goes_on : (last : Option Class) (b : ℕ) (rest : List ℕ) → IsGood last 0 (b ∷ rest) → is_last_token_class (lexeme_at last (b ∷ rest)).token.class ≡ false
+pub goes_on : (last : Option Class) (b : ℕ) (rest : List ℕ) → IsGood last 0 (b ∷ rest) → is_end_or_stray_class (lexeme_at last (b ∷ rest)).token.class ≡ false
 goes_on last b rest good = bool_by _ (λ h. sym (stray_first last (b ∷ rest) (no_end last b rest) h) ∙ good)
 
 -- the tokens after a token, if it begins a text of which so much follows its first byte
 abbrev tokens_by : List ℕ → Lexeme → List Token
-tokens_by rest found = found.token ∷ cond (is_last_token_class found.token.class) [] (tokens_after_class_skipping_bytes (Some found.token.class) (found.width - 1) rest)
+tokens_by rest found = found.token ∷ cond (is_end_or_stray_class found.token.class) [] (tokens_after_class_skipping_bytes (Some found.token.class) (found.width - 1) rest)
 
-pub good_after : (rest : List ℕ) (found : Lexeme) (stray : Bool) (last : Bool) → last ≡ false → (not stray && are_in_grammar (cond last [] (tokens_after_class_skipping_bytes (Some found.token.class) (found.width - 1) rest))) ≡ true → IsGood (Some found.token.class) (found.width - 1) rest
+pub good_after : (rest : List ℕ) (found : Lexeme) (stray : Bool) (last : Bool) → last ≡ false → (not stray && has_no_stray_token (cond last [] (tokens_after_class_skipping_bytes (Some found.token.class) (found.width - 1) rest))) ≡ true → IsGood (Some found.token.class) (found.width - 1) rest
 good_after rest found true last e h = absurd (false≢true h)
 good_after rest found false true e h = absurd (false≢true (sym e))
 good_after rest found false false e h = h
 
 -- what is made of two lists of tokens, where a token that both begin with makes no difference
 abbrev pub PassesEqual : {X : Type 0} → (List Token → List Token → X) → Type 0
-PassesEqual make = (token : Token) (ts us : List Token) → is_last_token_class token.class ≡ false → make (token ∷ ts) (token ∷ us) ≡ make ts us
+PassesEqual make = (token : Token) (ts us : List Token) → is_end_or_stray_class token.class ≡ false → make (token ∷ ts) (token ∷ us) ≡ make ts us
 
 -- what is made of the tokens of two texts after a token of some class
 abbrev made_at : {X : Type 0} → (List Token → List Token → X) → Option Class → ℕ → List ℕ → List ℕ → X
@@ -131,7 +131,7 @@ made_at make last inside left right = make (tokens_after_class_skipping_bytes la
 
 module _ {X : Type 0} (make : List Token → List Token → X) (passes : PassesEqual make) where
   -- of two texts that begin with one token the same is made as of what follows it
-  same_token : (found : Lexeme) (x y : List ℕ) → is_last_token_class found.token.class ≡ false → make (tokens_by x found) (tokens_by y found) ≡ made_at make (Some found.token.class) (found.width - 1) x y
+  same_token : (found : Lexeme) (x y : List ℕ) → is_end_or_stray_class found.token.class ≡ false → make (tokens_by x found) (tokens_by y found) ≡ made_at make (Some found.token.class) (found.width - 1) x y
   same_token found x y h =
       ap (λ b. make (found.token ∷ cond b [] (tokens_after_class_skipping_bytes (Some found.token.class) (found.width - 1) x)) (found.token ∷ cond b [] (tokens_after_class_skipping_bytes (Some found.token.class) (found.width - 1) y))) h
       ∙ passes found.token (tokens_after_class_skipping_bytes (Some found.token.class) (found.width - 1) x) (tokens_after_class_skipping_bytes (Some found.token.class) (found.width - 1) y) h
@@ -146,27 +146,27 @@ module _ {X : Type 0} (make : List Token → List Token → X) (passes : PassesE
       let found = lexeme_at last (b ∷ a) in
       let e = lexeme_front last b a m x mark in
       let f = lexeme_front last b a m y mark in
-      let on : is_last_token_class found.token.class ≡ false = ap (λ (l : Lexeme). is_last_token_class l.token.class) (sym e) ∙ goes_on last b (a ++ m ∷ x) left in
+      let on : is_end_or_stray_class found.token.class ≡ false = ap (λ (l : Lexeme). is_end_or_stray_class l.token.class) (sym e) ∙ goes_on last b (a ++ m ∷ x) left in
       let most = (lexeme_at_within last (b ∷ a)).most in
       (λ i. make (tokens_by (a ++ m ∷ x) (e i)) (tokens_by (a ++ m ∷ y) (f i)))
       ∙ same_token found (a ++ m ∷ x) (a ++ m ∷ y) on
       ∙ made_after (Some found.token.class) (found.width - 1) a m x y mark (omega arith)
-      (good_after (a ++ m ∷ x) found (is_stray_class found.token.class) (is_last_token_class found.token.class) on (ap (λ (l : Lexeme). are_in_grammar (tokens_by (a ++ m ∷ x) l)) (sym e) ∙ left))
-      (good_after (a ++ m ∷ y) found (is_stray_class found.token.class) (is_last_token_class found.token.class) on (ap (λ (l : Lexeme). are_in_grammar (tokens_by (a ++ m ∷ y) l)) (sym f) ∙ right))
+      (good_after (a ++ m ∷ x) found (is_stray_class found.token.class) (is_end_or_stray_class found.token.class) on (ap (λ (l : Lexeme). has_no_stray_token (tokens_by (a ++ m ∷ x) l)) (sym e) ∙ left))
+      (good_after (a ++ m ∷ y) found (is_stray_class found.token.class) (is_end_or_stray_class found.token.class) on (ap (λ (l : Lexeme). has_no_stray_token (tokens_by (a ++ m ∷ y) l)) (sym f) ∙ right))
 
 -- and each is in the grammar from the mark on
 pub good_front : (last : Option Class) (inside : ℕ) (a : List ℕ) (m : ℕ) (x : List ℕ) → is_token_mark m ≡ true → inside ≤ length a → IsGood last inside (a ++ m ∷ x) → IsGood (Some Component) 0 (m ∷ x)
 good_front last zero [] m x mark room good =
-    ap (λ (l : Lexeme). are_in_grammar (tokens_by x l)) (sym (mark_lexeme last m x mark (goes_on last m x good))) ∙ good
+    ap (λ (l : Lexeme). has_no_stray_token (tokens_by x l)) (sym (mark_lexeme last m x mark (goes_on last m x good))) ∙ good
 good_front last (suc inside) [] m x mark room good = absurd (omega arith)
 good_front last (suc inside) (b ∷ a) m x mark room good = good_front last inside a m x mark (omega arith) good
 good_front last zero (b ∷ a) m x mark room good =
     let found = lexeme_at last (b ∷ a) in
     let e = lexeme_front last b a m x mark in
-    let on : is_last_token_class found.token.class ≡ false = ap (λ (l : Lexeme). is_last_token_class l.token.class) (sym e) ∙ goes_on last b (a ++ m ∷ x) good in
+    let on : is_end_or_stray_class found.token.class ≡ false = ap (λ (l : Lexeme). is_end_or_stray_class l.token.class) (sym e) ∙ goes_on last b (a ++ m ∷ x) good in
     let most = (lexeme_at_within last (b ∷ a)).most in
     good_front (Some found.token.class) (found.width - 1) a m x mark (omega arith)
-    (good_after (a ++ m ∷ x) found (is_stray_class found.token.class) (is_last_token_class found.token.class) on (ap (λ (l : Lexeme). are_in_grammar (tokens_by (a ++ m ∷ x) l)) (sym e) ∙ good))
+    (good_after (a ++ m ∷ x) found (is_stray_class found.token.class) (is_end_or_stray_class found.token.class) on (ap (λ (l : Lexeme). has_no_stray_token (tokens_by (a ++ m ∷ x) l)) (sym e) ∙ good))
 
 -- ---- within the hash of both
 
@@ -186,12 +186,12 @@ or_right false false h = refl
 no_hash_byte : (b : ℕ) (rest : List ℕ) → not (is_token_mark b) ≡ true → next_lexeme Hash (b ∷ rest) ≡ stray_lexeme
 unfolding next_lexeme
 no_hash_byte b rest h = λ i.
-    cond (and-false (eqb b 46) i) (later_component_lexeme (leading_digits rest))
+    cond (and-false (eqb b 46) i) (later_component_lexeme_by_digits (leading_digits rest))
     (cond (and-false (is_ascii_lowercase b) i) (lexeme (number_token Letter b) 1)
-    (cond (and-false (eqb b 95) i) (suffix_lexeme (leading_letters rest))
-    (cond (and-false (is_ascii_digit b) i) (number_lexeme SuffixNumber 0 (leading_digits (b ∷ rest)))
-    (cond (and-false (eqb b 126) i) (hash_lexeme (leading_hex_digits rest))
-    (cond (or_right (eqb b 46 || eqb b 95 || eqb b 126) (eqb b 45) h i && true) (revision_lexeme rest) stray_lexeme)))))
+    (cond (and-false (eqb b 95) i) (suffix_lexeme_by_word (leading_letters rest))
+    (cond (and-false (is_ascii_digit b) i) (number_lexeme_by_digits SuffixNumber 0 (leading_digits (b ∷ rest)))
+    (cond (and-false (eqb b 126) i) (hash_lexeme_by_hex_digits (leading_hex_digits rest))
+    (cond (or_right (eqb b 46 || eqb b 95 || eqb b 126) (eqb b 45) h i && true) (revision_lexeme_by_text_after_hyphen rest) stray_lexeme)))))
 
 -- the digits of a hash up to a place within it
 record AreHashDigits (digits rest : List ℕ) : Type 0 where
@@ -203,12 +203,12 @@ hash_digits_by : (b : ℕ) (digits rest : List ℕ) (hex : Bool) → is_hex_digi
 hash_digits_by b digits rest true h plain good later =
     let run : leading_hex_digits (b ∷ (digits ++ rest)) ≡ b ∷ leading_hex_digits (digits ++ rest) = take_while-cons is_hex_digit b (digits ++ rest) ∙ ap (λ c. cond c (b ∷ leading_hex_digits (digits ++ rest)) []) h in
     let there : tokens_after_class_skipping_bytes (Some Hash) (length (leading_hex_digits (b ∷ (digits ++ rest)))) (b ∷ (digits ++ rest)) ≡ tokens_after_class_skipping_bytes (Some Hash) (length (leading_hex_digits (digits ++ rest))) (digits ++ rest) = ap (λ ds. tokens_after_class_skipping_bytes (Some Hash) (length ds) (b ∷ (digits ++ rest))) run in
-    let more = later (ap are_in_grammar (sym there) ∙ good) in
+    let more = later (ap has_no_stray_token (sym there) ∙ good) in
     record { text = run ∙ ap (λ ds. b ∷ ds) more.text; behind = there ∙ more.behind }
 hash_digits_by b digits rest false h plain good later =
     let run : leading_hex_digits (b ∷ (digits ++ rest)) ≡ [] = take_while-cons is_hex_digit b (digits ++ rest) ∙ ap (λ c. cond c (b ∷ leading_hex_digits (digits ++ rest)) []) h in
-    let here : IsGood (Some Hash) 0 (b ∷ (digits ++ rest)) = ap (λ ds. are_in_grammar (tokens_after_class_skipping_bytes (Some Hash) (length ds) (b ∷ (digits ++ rest)))) (sym run) ∙ good in
-    let stray : is_last_token_class (lexeme_at (Some Hash) (b ∷ (digits ++ rest))).token.class ≡ true = ap (λ (l : Lexeme). is_last_token_class l.token.class) (no_hash_byte b (digits ++ rest) plain) in
+    let here : IsGood (Some Hash) 0 (b ∷ (digits ++ rest)) = ap (λ ds. has_no_stray_token (tokens_after_class_skipping_bytes (Some Hash) (length ds) (b ∷ (digits ++ rest)))) (sym run) ∙ good in
+    let stray : is_end_or_stray_class (lexeme_at (Some Hash) (b ∷ (digits ++ rest))).token.class ≡ true = ap (λ (l : Lexeme). is_end_or_stray_class l.token.class) (no_hash_byte b (digits ++ rest) plain) in
     absurd (false≢true (sym (goes_on (Some Hash) b (digits ++ rest) here) ∙ stray))
 
 hash_digits : (digits rest : List ℕ) → is_unmarked digits ≡ true → IsGood (Some Hash) (length (leading_hex_digits (digits ++ rest))) (digits ++ rest) → AreHashDigits digits rest
@@ -217,7 +217,7 @@ hash_digits (b ∷ digits) rest plain good =
     hash_digits_by b digits rest (is_hex_digit b) refl (and_left (not (is_token_mark b)) (is_unmarked digits) plain) good (hash_digits digits rest (and_right (not (is_token_mark b)) (is_unmarked digits) plain))
 
 hash_first : (rest : List ℕ) → IsGood (Some Component) 0 (126 ∷ rest) → tokens_after_class_skipping_bytes (Some Component) 0 (126 ∷ rest) ≡ text_token Hash (leading_hex_digits rest) ∷ tokens_after_class_skipping_bytes (Some Hash) (length (leading_hex_digits rest)) rest
-unfolding next_lexeme hash_lexeme
+unfolding next_lexeme hash_lexeme_by_hex_digits
 hash_first rest good =
     let len = length (leading_hex_digits rest) in
     let less : 1 + len - 1 ≡ len = omega arith in
@@ -236,7 +236,7 @@ hash_and_after digits rest =
 hash_tokens : (digits rest : List ℕ) → is_unmarked digits ≡ true → IsGood (Some Component) 0 (126 ∷ (digits ++ rest)) → tokens_after_class_skipping_bytes (Some Component) 0 (126 ∷ (digits ++ rest)) ≡ hash_and_after digits rest
 hash_tokens digits rest plain good =
     let first = hash_first (digits ++ rest) good in
-    let inner = hash_digits digits rest plain (ap are_in_grammar (sym first) ∙ good) in
+    let inner = hash_digits digits rest plain (ap has_no_stray_token (sym first) ∙ good) in
     first ∙ (λ i. text_token Hash (inner.text i) ∷ inner.behind i)
 
 -- ---- what the code passes over
@@ -335,16 +335,16 @@ fits_by_itself true token =
     (bytes_eq-Decides token.text (take (length token.text) token.text)).1 (sym (take_all (length token.text) token.text (omega arith)))
 fits_by_itself false token = ap is_eq (tied_itself token_cmp-total token)
 
-equal_fits : (token : Token) → fits token token ≡ true
-unfolding fits
+equal_fits : (token : Token) → is_wanted_token_met_by token token ≡ true
+unfolding is_wanted_token_met_by
 equal_fits token = fits_by_itself (is_zero_component token.class && is_zero_component token.class) token
 
 pub fit_passes : PassesEqual are_wanted_tokens_met_by
 fit_passes token ts us h =
-    (λ i. h i || (fits token token && are_wanted_tokens_met_by ts us)) ∙ ap (λ b. b && are_wanted_tokens_met_by ts us) (equal_fits token)
+    (λ i. h i || (is_wanted_token_met_by token token && are_wanted_tokens_met_by ts us)) ∙ ap (λ b. b && are_wanted_tokens_met_by ts us) (equal_fits token)
 
 fit_drops : (digits x y : List ℕ) → are_wanted_tokens_met_by (hash_and_after digits x) (hash_and_after digits y) ≡ hash_fits x y
-unfolding fits
+unfolding is_wanted_token_met_by
 fit_drops digits x y =
     ap (λ o. is_eq o && are_wanted_tokens_met_by (tokens_after_class_skipping_bytes (Some Hash) (length (leading_hex_digits x)) x) (tokens_after_class_skipping_bytes (Some Hash) (length (leading_hex_digits y)) y))
     (same_digits digits (leading_hex_digits y) (leading_hex_digits x))

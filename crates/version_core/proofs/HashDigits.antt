@@ -10,8 +10,8 @@ use Rattle.std.proofs.lemmas.List.{drop-drop}
 use Rattle.version_core.specs.declared.token.Class.{Class}
 use Rattle.version_core.specs.declared.token.Class.TheVariants as Classes
 use Rattle.version_core.specs.declared.overlapping.Place.{Place}
-use Rattle.version_core.specs.Token.{Lexeme, number_token, text_token, lexeme, stray_lexeme, has_number_length, is_component, is_suffix, is_allowed_before_suffix_or_hash, is_allowed_before_revision, is_hex_digit, begins_with_zero, leading_digits, leading_hex_digits, leading_letters, number_lexeme, later_component_lexeme, suffix_rank, suffix_lexeme, suffix_lexeme_of_rank, hash_lexeme, revision_lexeme, next_lexeme}
-use Rattle.version_core.specs.Order.{are_in_grammar, tokens_after_class_skipping_bytes}
+use Rattle.version_core.specs.Token.{Lexeme, number_token, text_token, lexeme, stray_lexeme, has_number_length, is_component, is_suffix, is_allowed_before_suffix_or_hash, is_allowed_before_revision, is_hex_digit, begins_with_zero, leading_digits, leading_hex_digits, leading_letters, number_lexeme_by_digits, later_component_lexeme_by_digits, suffix_rank, suffix_lexeme_by_word, suffix_lexeme_by_word_and_rank, hash_lexeme_by_hex_digits, revision_lexeme_by_text_after_hyphen, next_lexeme}
+use Rattle.version_core.specs.Order.{has_no_stray_token, tokens_after_class_skipping_bytes}
 use Rattle.version_core.specs.Reading.{is_hash, unread_len}
 use Rattle.version_core.specs.Overlapping.{IsNextPlace, can_rest_follow_place, is_valid_version_rest}
 use Rattle.version_core.proofs.Walk.{after, tokens_after_class_skipping_bytes-drop, tokens_after_class_skipping_bytes-step}
@@ -89,8 +89,8 @@ tokens_on class k j xs =
 pub digits_follow : (bytes : List ℕ) (place : Place) (n end k : ℕ) → k ≡ unread_len (Some place.class) (take n (drop place.at bytes)) → place.at + k ≤ end → can_rest_follow_place bytes place end ≡ can_rest_follow_place bytes (record { at = place.at + k; class = place.class }) end
 digits_follow bytes place n end k e fits =
     let xs : List ℕ = slice_range bytes place.at end in
-    ap (λ u. are_in_grammar (tokens_after_class_skipping_bytes (Some place.class) u xs)) (unread_front place.class (drop place.at bytes) n (end - place.at) k e (omega arith))
-    ∙ ap are_in_grammar (tokens_on place.class k (unread_len (Some place.class) (drop k xs)) xs)
+    ap (λ u. has_no_stray_token (tokens_after_class_skipping_bytes (Some place.class) u xs)) (unread_front place.class (drop place.at bytes) n (end - place.at) k e (omega arith))
+    ∙ ap has_no_stray_token (tokens_on place.class k (unread_len (Some place.class) (drop k xs)) xs)
     ∙ ap (is_valid_version_rest place) (drop_range bytes place.at end k fits)
 
 unread_fits : (class : Class) (xs : List ℕ) (n : ℕ) → unread_len (Some class) (take n xs) ≤ n
@@ -133,19 +133,19 @@ cond_hashes false x y u v hash other f g = g
 no_hashes : (x u hash other : Lexeme) → is_hash x.token.class ≡ false → AreHashes x u hash other
 no_hashes x u hash other plain marked = absurd (false≢true (sym plain ∙ marked))
 
-number_no_hash : (class : Class) (mark : ℕ) (ds : List ℕ) → is_hash class ≡ false → is_hash (number_lexeme class mark ds).token.class ≡ false
-unfolding number_lexeme
+number_no_hash : (class : Class) (mark : ℕ) (ds : List ℕ) → is_hash class ≡ false → is_hash (number_lexeme_by_digits class mark ds).token.class ≡ false
+unfolding number_lexeme_by_digits
 number_no_hash class mark ds h = number_no_hash_by (has_number_length ds)
   where
     number_no_hash_by : (b : Bool) → is_hash (cond b (lexeme (number_token class (digits_value 10 ds)) (mark + length ds)) stray_lexeme).token.class ≡ false
     number_no_hash_by true = h
     number_no_hash_by false = refl
 
-component_no_hash : (ds : List ℕ) → is_hash (later_component_lexeme ds).token.class ≡ false
-unfolding later_component_lexeme
+component_no_hash : (ds : List ℕ) → is_hash (later_component_lexeme_by_digits ds).token.class ≡ false
+unfolding later_component_lexeme_by_digits
 component_no_hash ds = component_no_hash_by (has_number_length ds && begins_with_zero ds)
   where
-    component_no_hash_by : (b : Bool) → is_hash (cond b (lexeme (text_token Classes.ZeroComponent ds) (1 + length ds)) (number_lexeme Classes.Component 1 ds)).token.class ≡ false
+    component_no_hash_by : (b : Bool) → is_hash (cond b (lexeme (text_token Classes.ZeroComponent ds) (1 + length ds)) (number_lexeme_by_digits Classes.Component 1 ds)).token.class ≡ false
     component_no_hash_by true = refl
     component_no_hash_by false = number_no_hash Classes.Component 1 ds refl
 
@@ -153,34 +153,34 @@ suffix_class_no_hash : (b : Bool) → is_hash (cond b Classes.PreRelease Classes
 suffix_class_no_hash true = refl
 suffix_class_no_hash false = refl
 
-suffix_no_hash : (word : List ℕ) (rank : Option ℕ) → is_hash (suffix_lexeme_of_rank word rank).token.class ≡ false
+suffix_no_hash : (word : List ℕ) (rank : Option ℕ) → is_hash (suffix_lexeme_by_word_and_rank word rank).token.class ≡ false
 suffix_no_hash word None = refl
 suffix_no_hash word (Some rank) = suffix_class_no_hash _
 
-revision_no_hash : (rest : List ℕ) → is_hash (revision_lexeme rest).token.class ≡ false
-unfolding revision_lexeme
+revision_no_hash : (rest : List ℕ) → is_hash (revision_lexeme_by_text_after_hyphen rest).token.class ≡ false
+unfolding revision_lexeme_by_text_after_hyphen
 revision_no_hash [] = refl
 revision_no_hash (b ∷ rest) = revision_no_hash_by (eqb b 114)
   where
-    revision_no_hash_by : (c : Bool) → is_hash (cond c (number_lexeme Classes.Revision 2 (leading_digits rest)) stray_lexeme).token.class ≡ false
+    revision_no_hash_by : (c : Bool) → is_hash (cond c (number_lexeme_by_digits Classes.Revision 2 (leading_digits rest)) stray_lexeme).token.class ≡ false
     revision_no_hash_by true = number_no_hash Classes.Revision 2 (leading_digits rest) refl
     revision_no_hash_by false = refl
 
-next_hashes : (last : Class) (b : ℕ) (rest other : List ℕ) → AreHashes (next_lexeme last (b ∷ rest)) (next_lexeme last (b ∷ other)) (hash_lexeme (leading_hex_digits rest)) (hash_lexeme (leading_hex_digits other))
+next_hashes : (last : Class) (b : ℕ) (rest other : List ℕ) → AreHashes (next_lexeme last (b ∷ rest)) (next_lexeme last (b ∷ other)) (hash_lexeme_by_hex_digits (leading_hex_digits rest)) (hash_lexeme_by_hex_digits (leading_hex_digits other))
 unfolding next_lexeme
 next_hashes last b rest other =
-    let h : Lexeme = hash_lexeme (leading_hex_digits rest) in
-    let o : Lexeme = hash_lexeme (leading_hex_digits other) in
-    cond_hashes (eqb b 46 && is_component last) (later_component_lexeme (leading_digits rest)) _ (later_component_lexeme (leading_digits other)) _ h o (no_hashes _ _ h o (component_no_hash (leading_digits rest)))
+    let h : Lexeme = hash_lexeme_by_hex_digits (leading_hex_digits rest) in
+    let o : Lexeme = hash_lexeme_by_hex_digits (leading_hex_digits other) in
+    cond_hashes (eqb b 46 && is_component last) (later_component_lexeme_by_digits (leading_digits rest)) _ (later_component_lexeme_by_digits (leading_digits other)) _ h o (no_hashes _ _ h o (component_no_hash (leading_digits rest)))
     (cond_hashes (is_ascii_lowercase b && is_component last) (lexeme (number_token Classes.Letter b) 1) _ (lexeme (number_token Classes.Letter b) 1) _ h o (no_hashes _ _ h o refl)
-    (cond_hashes (eqb b 95 && is_allowed_before_suffix_or_hash last) (suffix_lexeme (leading_letters rest)) _ (suffix_lexeme (leading_letters other)) _ h o (no_hashes _ _ h o (suffix_no_hash (leading_letters rest) (suffix_rank (leading_letters rest))))
-    (cond_hashes (is_ascii_digit b && is_suffix last) (number_lexeme Classes.SuffixNumber 0 (leading_digits (b ∷ rest))) _ (number_lexeme Classes.SuffixNumber 0 (leading_digits (b ∷ other))) _ h o (no_hashes _ _ h o (number_no_hash Classes.SuffixNumber 0 (leading_digits (b ∷ rest)) refl))
+    (cond_hashes (eqb b 95 && is_allowed_before_suffix_or_hash last) (suffix_lexeme_by_word (leading_letters rest)) _ (suffix_lexeme_by_word (leading_letters other)) _ h o (no_hashes _ _ h o (suffix_no_hash (leading_letters rest) (suffix_rank (leading_letters rest))))
+    (cond_hashes (is_ascii_digit b && is_suffix last) (number_lexeme_by_digits Classes.SuffixNumber 0 (leading_digits (b ∷ rest))) _ (number_lexeme_by_digits Classes.SuffixNumber 0 (leading_digits (b ∷ other))) _ h o (no_hashes _ _ h o (number_no_hash Classes.SuffixNumber 0 (leading_digits (b ∷ rest)) refl))
     (cond_hashes (eqb b 126 && is_allowed_before_suffix_or_hash last) h _ o _ h o (λ marked. (refl, refl))
-    (cond_hashes (eqb b 45 && is_allowed_before_revision last) (revision_lexeme rest) stray_lexeme (revision_lexeme other) stray_lexeme h o (no_hashes _ _ h o (revision_no_hash rest)) (no_hashes stray_lexeme stray_lexeme h o refl))))))
+    (cond_hashes (eqb b 45 && is_allowed_before_revision last) (revision_lexeme_by_text_after_hyphen rest) stray_lexeme (revision_lexeme_by_text_after_hyphen other) stray_lexeme h o (no_hashes _ _ h o (revision_no_hash rest)) (no_hashes stray_lexeme stray_lexeme h o refl))))))
 
 -- a hash has a digit
-digit_first : (d : ℕ) (rest : List ℕ) → is_hash (hash_lexeme (leading_hex_digits (d ∷ rest))).token.class ≡ true → is_hex_digit d ≡ true
-unfolding hash_lexeme
+digit_first : (d : ℕ) (rest : List ℕ) → is_hash (hash_lexeme_by_hex_digits (leading_hex_digits (d ∷ rest))).token.class ≡ true → is_hex_digit d ≡ true
+unfolding hash_lexeme_by_hex_digits
 digit_first d rest marked = digit_first_by (is_hex_digit d) refl
   where
     digit_first_by : (b : Bool) → is_hex_digit d ≡ b → b ≡ true
@@ -188,27 +188,27 @@ digit_first d rest marked = digit_first_by (is_hex_digit d) refl
     digit_first_by false h =
         absurd (false≢true (sym (ap (λ ds. is_hash (cond (ltb 0 (length ds)) (lexeme (text_token Classes.Hash ds) (1 + length ds)) stray_lexeme).token.class) (run_by false is_hex_digit d rest h)) ∙ marked))
 
-no_digits : (ds : List ℕ) → ds ≡ [] → is_hash (hash_lexeme ds).token.class ≡ true → ⊥
-unfolding hash_lexeme
+no_digits : (ds : List ℕ) → ds ≡ [] → is_hash (hash_lexeme_by_hex_digits ds).token.class ≡ true → ⊥
+unfolding hash_lexeme_by_hex_digits
 no_digits ds none marked = false≢true (sym (ap (λ xs. is_hash (cond (ltb 0 (length xs)) (lexeme (text_token Classes.Hash xs) (1 + length xs)) stray_lexeme).token.class) none) ∙ marked)
 
 -- what follows the mark and the first digit of a hash may follow there exactly if the whole is in the
 -- grammar
-hash_first : (last : Class) (b d : ℕ) (rest : List ℕ) → next_lexeme last (b ∷ d ∷ rest) ≡ hash_lexeme (leading_hex_digits (d ∷ rest)) → is_hex_digit d ≡ true → are_in_grammar (tokens_after_class_skipping_bytes (Some last) 0 (b ∷ d ∷ rest)) ≡ are_in_grammar (tokens_after_class_skipping_bytes (Some Classes.Hash) (unread_len (Some Classes.Hash) rest) rest)
-unfolding hash_lexeme
+hash_first : (last : Class) (b d : ℕ) (rest : List ℕ) → next_lexeme last (b ∷ d ∷ rest) ≡ hash_lexeme_by_hex_digits (leading_hex_digits (d ∷ rest)) → is_hex_digit d ≡ true → has_no_stray_token (tokens_after_class_skipping_bytes (Some last) 0 (b ∷ d ∷ rest)) ≡ has_no_stray_token (tokens_after_class_skipping_bytes (Some Classes.Hash) (unread_len (Some Classes.Hash) rest) rest)
+unfolding hash_lexeme_by_hex_digits
 hash_first last b d rest is digit =
     let ds : List ℕ = leading_hex_digits rest in
     let some : ltb 0 (length (d ∷ ds)) ≡ true = grind (arith, nat_tests) in
     let found : next_lexeme last (b ∷ d ∷ rest) ≡ lexeme (text_token Classes.Hash (d ∷ ds)) (1 + length (d ∷ ds)) =
     is ∙ ap (λ xs. cond (ltb 0 (length xs)) (lexeme (text_token Classes.Hash xs) (1 + length xs)) stray_lexeme) (run_by true is_hex_digit d rest digit) ∙ ap (λ c. cond c (lexeme (text_token Classes.Hash (d ∷ ds)) (1 + length (d ∷ ds))) stray_lexeme) some in
     let width : 1 + length (d ∷ ds) ≡ 2 + length ds = omega arith in
-    ap are_in_grammar (tokens_after_class_skipping_bytes-step (Some last) (b ∷ d ∷ rest) ∙ ap (λ (l : Lexeme). l.token ∷ after (b ∷ d ∷ rest) l) found)
-    ∙ ap (λ n. are_in_grammar (tokens_after_class_skipping_bytes (Some Classes.Hash) 0 (drop n (b ∷ d ∷ rest)))) width
-    ∙ ap (λ xs. are_in_grammar (tokens_after_class_skipping_bytes (Some Classes.Hash) 0 xs)) (sym (drop-drop (length ds) 2 (b ∷ d ∷ rest)))
-    ∙ ap are_in_grammar (sym (tokens_after_class_skipping_bytes-drop (Some Classes.Hash) (length ds) rest))
+    ap has_no_stray_token (tokens_after_class_skipping_bytes-step (Some last) (b ∷ d ∷ rest) ∙ ap (λ (l : Lexeme). l.token ∷ after (b ∷ d ∷ rest) l) found)
+    ∙ ap (λ n. has_no_stray_token (tokens_after_class_skipping_bytes (Some Classes.Hash) 0 (drop n (b ∷ d ∷ rest)))) width
+    ∙ ap (λ xs. has_no_stray_token (tokens_after_class_skipping_bytes (Some Classes.Hash) 0 xs)) (sym (drop-drop (length ds) 2 (b ∷ d ∷ rest)))
+    ∙ ap has_no_stray_token (sym (tokens_after_class_skipping_bytes-drop (Some Classes.Hash) (length ds) rest))
 
 -- a text that is cut after a mark and a digit at least
-pub hash_follow : (last : Class) (xs : List ℕ) (n m : ℕ) → is_hash (next_lexeme last (take n xs)).token.class ≡ true → 2 ≤ m → are_in_grammar (tokens_after_class_skipping_bytes (Some last) 0 (take m xs)) ≡ are_in_grammar (tokens_after_class_skipping_bytes (Some Classes.Hash) (unread_len (Some Classes.Hash) (drop 2 (take m xs))) (drop 2 (take m xs)))
+pub hash_follow : (last : Class) (xs : List ℕ) (n m : ℕ) → is_hash (next_lexeme last (take n xs)).token.class ≡ true → 2 ≤ m → has_no_stray_token (tokens_after_class_skipping_bytes (Some last) 0 (take m xs)) ≡ has_no_stray_token (tokens_after_class_skipping_bytes (Some Classes.Hash) (unread_len (Some Classes.Hash) (drop 2 (take m xs))) (drop 2 (take m xs)))
 unfolding next_lexeme
 hash_follow last [] zero m marked fits = absurd (false≢true marked)
 hash_follow last [] (suc n) m marked fits = absurd (false≢true marked)

@@ -13,8 +13,8 @@ use Rattle.std.proofs.lemmas.Slice.Eq.{bytes_eq-Decides}
 use Rattle.version_core.specs.declared.token.Class.{Class}
 use Rattle.version_core.specs.declared.token.Class.TheVariants.{Stray, PreRelease, End, Revision, Hash, SuffixNumber, Suffix, Letter, ZeroComponent, Component}
 use Rattle.version_core.specs.Token.{Token}
-use Rattle.version_core.specs.Order.{class_rank, is_last_token_class, token_cmp, tokens, version_cmp}
-use Rattle.version_core.specs.Matching.{are_wanted_tokens_met_by, is_prefix_of, fits, is_fuzzy_match, is_zero_component, matches, has_bit}
+use Rattle.version_core.specs.Order.{class_rank, is_end_or_stray_class, token_cmp, tokens, version_cmp}
+use Rattle.version_core.specs.Matching.{are_wanted_tokens_met_by, is_prefix_of, is_wanted_token_met_by, is_fuzzy_match, is_zero_component, matches, has_bit}
 use Rattle.version_core.proofs.Fits.{nat_cmp-Equal}
 
 -- each part of the comparison of two tokens is a total order
@@ -95,7 +95,7 @@ pub one_of_three : (found wanted : List ℕ) → count_by (λ holds. holds) (mat
 unfolding matches
 one_of_three found wanted = one_of_three_by (version_cmp found wanted) (is_fuzzy_match found wanted)
 
--- a token fits itself
+-- a token is_wanted_token_met_by itself
 is_eq-itself : (t : Token) → is_eq (token_cmp t t) ≡ true
 is_eq-itself t = ap is_eq (tied_itself token_cmp-total t)
 
@@ -103,15 +103,15 @@ fits_by : (a b c : Bool) → b ≡ true → c ≡ true → cond a b c ≡ true
 fits_by true b c h k = h
 fits_by false b c h k = k
 
-fits-itself : (t : Token) → fits t t ≡ true
-unfolding fits
-fits-itself t =
+is_wanted_token_met_by-itself : (t : Token) → is_wanted_token_met_by t t ≡ true
+unfolding is_wanted_token_met_by
+is_wanted_token_met_by-itself t =
     fits_by (is_zero_component t.class && is_zero_component t.class) (is_prefix_of t.text t.text) (is_eq (token_cmp t t))
     ((bytes_eq-Decides t.text (take (length t.text) t.text)).1 (sym (take_all (length t.text) t.text (omega arith)))) (is_eq-itself t)
 
 are_wanted_tokens_met_by-itself : (ts : List Token) → are_wanted_tokens_met_by ts ts ≡ true
 are_wanted_tokens_met_by-itself [] = refl
-are_wanted_tokens_met_by-itself (t ∷ ts) = or_right (is_last_token_class t.class) (fits t t && are_wanted_tokens_met_by ts ts) (rw (fits-itself t) (are_wanted_tokens_met_by-itself ts))
+are_wanted_tokens_met_by-itself (t ∷ ts) = or_right (is_end_or_stray_class t.class) (is_wanted_token_met_by t t && are_wanted_tokens_met_by ts ts) (rw (is_wanted_token_met_by-itself t) (are_wanted_tokens_met_by-itself ts))
 
 pub fuzzy_by_tokens : (found wanted : List ℕ) → version_cmp found wanted ≡ Equal → is_fuzzy_match found wanted ≡ true
 unfolding is_fuzzy_match

@@ -11,8 +11,8 @@ use Rattle.std.proofs.lemmas.List.Sums.{take_while-cons}
 use Rattle.std.proofs.lemmas.List.Folds.{length-prefix_len}
 use Rattle.version_core.specs.declared.token.Class.{Class}
 use Rattle.version_core.specs.declared.token.Class.TheVariants.{Stray, PreRelease, End, Revision, Hash, SuffixNumber, Suffix, Letter, ZeroComponent, Component}
-use Rattle.version_core.specs.Token.{Token, Lexeme, number_token, text_token, lexeme, stray_lexeme, has_number_length, is_hex_digit, is_component, is_suffix, is_allowed_before_suffix_or_hash, is_allowed_before_revision, begins_with_zero, leading_digits, leading_hex_digits, leading_letters, number_lexeme, later_component_lexeme, suffix_rank, suffix_lexeme, suffix_lexeme_of_rank, hash_lexeme, revision_lexeme, next_lexeme}
-use Rattle.version_core.specs.Order.{are_in_grammar, is_last_token_class, is_stray_class, is_version, tokens, tokens_after_class_skipping_bytes}
+use Rattle.version_core.specs.Token.{Token, Lexeme, number_token, text_token, lexeme, stray_lexeme, has_number_length, is_hex_digit, is_component, is_suffix, is_allowed_before_suffix_or_hash, is_allowed_before_revision, begins_with_zero, leading_digits, leading_hex_digits, leading_letters, number_lexeme_by_digits, later_component_lexeme_by_digits, suffix_rank, suffix_lexeme_by_word, suffix_lexeme_by_word_and_rank, hash_lexeme_by_hex_digits, revision_lexeme_by_text_after_hyphen, next_lexeme}
+use Rattle.version_core.specs.Order.{has_no_stray_token, is_end_or_stray_class, is_stray_class, is_version, tokens, tokens_after_class_skipping_bytes}
 use Rattle.version_core.specs.Grammar.{VersionParts, IsSpelledVersion, is_none_or, is_numeral, is_hash_text, is_suffix_part, SuffixPart, later_components_text, letter_text, number_text, suffixes_text, hash_text, revision_text, component_token}
 use Rattle.version_core.proofs.Walk.{after, has_number_length-pos, tokens_after_class_skipping_bytes-step}
 use Rattle.version_core.proofs.Spelled.{first_true, then_true, number_read, component_read, component_is_not_last_by, suffix_whole_by, suffix_class_by, suffix_is_not_last, hash_read, component_before_hash, before_hash_before_revision, suffix_before_hash}
@@ -34,41 +34,41 @@ take_while_passes q (x ∷ xs) =
 -- ---- what a sound lexeme shows
 
 abbrev CountsOnlyRise : List ℕ → Lexeme → Type 0
-CountsOnlyRise text found = are_in_grammar (found.token ∷ after text found) ≡ true
+CountsOnlyRise text found = has_no_stray_token (found.token ∷ after text found) ≡ true
 
 sound_or_stray : (text : List ℕ) (b : Bool) (found : Lexeme) → CountsOnlyRise text (cond b found stray_lexeme) → b ≡ true
 sound_or_stray text true found h = refl
 sound_or_stray text false found h = h
 
-number_goes_on : (text : List ℕ) (class : Class) (mark : ℕ) (ds : List ℕ) → CountsOnlyRise text (number_lexeme class mark ds) → has_number_length ds ≡ true
-unfolding number_lexeme
+number_goes_on : (text : List ℕ) (class : Class) (mark : ℕ) (ds : List ℕ) → CountsOnlyRise text (number_lexeme_by_digits class mark ds) → has_number_length ds ≡ true
+unfolding number_lexeme_by_digits
 number_goes_on text class mark ds h =
     sound_or_stray text (has_number_length ds) (lexeme (number_token class (digits_value 10 ds)) (mark + length ds)) h
 
-component_by : (text ds : List ℕ) (starts : Bool) (found : Lexeme) → CountsOnlyRise text (cond (has_number_length ds && starts) found (number_lexeme Component 1 ds)) → (b : Bool) → (has_number_length ds && starts) ≡ b → has_number_length ds ≡ true
+component_by : (text ds : List ℕ) (starts : Bool) (found : Lexeme) → CountsOnlyRise text (cond (has_number_length ds && starts) found (number_lexeme_by_digits Component 1 ds)) → (b : Bool) → (has_number_length ds && starts) ≡ b → has_number_length ds ≡ true
 component_by text ds starts found h true e = first_true (has_number_length ds) starts e
-component_by text ds starts found h false e = number_goes_on text Component 1 ds (subst (λ t. CountsOnlyRise text (cond t found (number_lexeme Component 1 ds))) e h)
+component_by text ds starts found h false e = number_goes_on text Component 1 ds (subst (λ t. CountsOnlyRise text (cond t found (number_lexeme_by_digits Component 1 ds))) e h)
 
-component_goes_on : (text ds : List ℕ) → CountsOnlyRise text (later_component_lexeme ds) → has_number_length ds ≡ true
-unfolding later_component_lexeme
+component_goes_on : (text ds : List ℕ) → CountsOnlyRise text (later_component_lexeme_by_digits ds) → has_number_length ds ≡ true
+unfolding later_component_lexeme_by_digits
 component_goes_on text ds h =
     component_by text ds (begins_with_zero ds) (lexeme (text_token ZeroComponent ds) (1 + length ds)) h (has_number_length ds && begins_with_zero ds) refl
 
-suffix_by : (text word : List ℕ) (rank : Option ℕ) → CountsOnlyRise text (suffix_lexeme_of_rank word rank) → is_some rank ≡ true
+suffix_by : (text word : List ℕ) (rank : Option ℕ) → CountsOnlyRise text (suffix_lexeme_by_word_and_rank word rank) → is_some rank ≡ true
 suffix_by text word None h = h
 suffix_by text word (Some rank) h = refl
 
-hash_goes_on : (text ds : List ℕ) → CountsOnlyRise text (hash_lexeme ds) → ltb 0 (length ds) ≡ true
-unfolding hash_lexeme
+hash_goes_on : (text ds : List ℕ) → CountsOnlyRise text (hash_lexeme_by_hex_digits ds) → ltb 0 (length ds) ≡ true
+unfolding hash_lexeme_by_hex_digits
 hash_goes_on text ds h = sound_or_stray text (ltb 0 (length ds)) (lexeme (text_token Hash ds) (1 + length ds)) h
 
 -- what follows a lexeme is sound too
-sound_after : (text behind : List ℕ) (found : Lexeme) (token : Token) (width : ℕ) → found ≡ lexeme token width → is_last_token_class token.class ≡ false → drop width text ≡ behind → CountsOnlyRise text found → are_in_grammar (tokens_after_class_skipping_bytes (Some token.class) 0 behind) ≡ true
+sound_after : (text behind : List ℕ) (found : Lexeme) (token : Token) (width : ℕ) → found ≡ lexeme token width → is_end_or_stray_class token.class ≡ false → drop width text ≡ behind → CountsOnlyRise text found → has_no_stray_token (tokens_after_class_skipping_bytes (Some token.class) 0 behind) ≡ true
 sound_after text behind found token width e h d sound =
-    let here : are_in_grammar (token ∷ after text (lexeme token width)) ≡ true = subst (CountsOnlyRise text) e sound in
-    let rest = then_true (not (is_stray_class token.class)) (are_in_grammar (after text (lexeme token width))) here in
-    subst (λ b. are_in_grammar (cond b [] (tokens_after_class_skipping_bytes (Some token.class) 0 behind)) ≡ true) h
-    (subst (λ t. are_in_grammar (cond (is_last_token_class token.class) [] (tokens_after_class_skipping_bytes (Some token.class) 0 t)) ≡ true) d rest)
+    let here : has_no_stray_token (token ∷ after text (lexeme token width)) ≡ true = subst (CountsOnlyRise text) e sound in
+    let rest = then_true (not (is_stray_class token.class)) (has_no_stray_token (after text (lexeme token width))) here in
+    subst (λ b. has_no_stray_token (cond b [] (tokens_after_class_skipping_bytes (Some token.class) 0 behind)) ≡ true) h
+    (subst (λ t. has_no_stray_token (cond (is_end_or_stray_class token.class) [] (tokens_after_class_skipping_bytes (Some token.class) 0 t)) ≡ true) d rest)
 
 -- ---- the end of a version, after a token of some class
 
@@ -287,7 +287,7 @@ with_revision last ds behind h numeral end = record {
 
 -- what holds of shorter texts
 abbrev Shorter : ℕ → Type 0
-Shorter n = (last : Class) (text : List ℕ) → length text ≤ n → are_in_grammar (tokens_after_class_skipping_bytes (Some last) 0 text) ≡ true → IsTail last text
+Shorter n = (last : Class) (text : List ℕ) → length text ≤ n → has_no_stray_token (tokens_after_class_skipping_bytes (Some last) 0 text) ≡ true → IsTail last text
 
 cond_case : (P : Lexeme → Type 0) (b : Bool) (x y : Lexeme) → (b ≡ true → P x) → P y → P (cond b x y)
 cond_case P true x y f g = f refl
@@ -309,7 +309,7 @@ component_no_suffix_by : (starts : Bool) (text : List ℕ) (n : ℕ) → is_suff
 component_no_suffix_by true text n = refl
 component_no_suffix_by false text n = refl
 
-component_case : (n : ℕ) → Shorter n → (last : Class) (b : ℕ) (rest : List ℕ) → length rest ≤ n → (eqb b 46 && is_component last) ≡ true → CountsOnlyRise (b ∷ rest) (later_component_lexeme (leading_digits rest)) → IsTail last (b ∷ rest)
+component_case : (n : ℕ) → Shorter n → (last : Class) (b : ℕ) (rest : List ℕ) → length rest ≤ n → (eqb b 46 && is_component last) ≡ true → CountsOnlyRise (b ∷ rest) (later_component_lexeme_by_digits (leading_digits rest)) → IsTail last (b ∷ rest)
 component_case n shorter last b rest few guard sound =
     let ds : List ℕ = leading_digits rest in
     let behind : List ℕ = drop (length ds) rest in
@@ -318,7 +318,7 @@ component_case n shorter last b rest few guard sound =
     let class : Class = (component_token ds).class in
     let short : length behind ≤ n = omega (arith, length-drop (length ds) rest) in
     let end = shorter class behind short
-    (sound_after (b ∷ rest) behind (later_component_lexeme ds) (component_token ds) (1 + length ds) (component_read ds numeral)
+    (sound_after (b ∷ rest) behind (later_component_lexeme_by_digits ds) (component_token ds) (1 + length ds) (component_read ds numeral)
     (component_is_not_last_by (begins_with_zero ds) ds (digits_value 10 ds)) (drop_one (length ds) b rest) sound) in
     let tail = with_component last class ds behind (then_true (eqb b 46) (is_component last) guard) (component_no_suffix_by (begins_with_zero ds) ds (digits_value 10 ds)) numeral end in
     subst (IsTail last)
@@ -341,22 +341,22 @@ suffix_no_component Letter h = refl
 suffix_no_component ZeroComponent h = absurd (false≢true h)
 suffix_no_component Component h = absurd (false≢true h)
 
-suffix_case : (n : ℕ) → Shorter n → (last : Class) (b : ℕ) (rest : List ℕ) → length rest ≤ n → (eqb b 95 && is_allowed_before_suffix_or_hash last) ≡ true → CountsOnlyRise (b ∷ rest) (suffix_lexeme (leading_letters rest)) → IsTail last (b ∷ rest)
+suffix_case : (n : ℕ) → Shorter n → (last : Class) (b : ℕ) (rest : List ℕ) → length rest ≤ n → (eqb b 95 && is_allowed_before_suffix_or_hash last) ≡ true → CountsOnlyRise (b ∷ rest) (suffix_lexeme_by_word (leading_letters rest)) → IsTail last (b ∷ rest)
 suffix_case n shorter last b rest few guard sound =
     let word : List ℕ = leading_letters rest in
     let behind : List ℕ = drop (length word) rest in
     let known = suffix_by (b ∷ rest) word (suffix_rank word) sound in
     let class = suffix_class_by word (suffix_rank word) known in
     let short : length behind ≤ n = omega (arith, length-drop (length word) rest) in
-    let end = shorter (suffix_lexeme word).token.class behind short
-    (sound_after (b ∷ rest) behind (suffix_lexeme word) (suffix_lexeme word).token (1 + length word) (suffix_whole_by word (suffix_rank word) known)
-    (suffix_is_not_last (suffix_lexeme word).token.class class) (drop_one (length word) b rest) sound) in
-    let tail = with_suffix last (suffix_lexeme word).token.class word behind (then_true (eqb b 95) (is_allowed_before_suffix_or_hash last) guard)
-    (suffix_no_component (suffix_lexeme word).token.class class) known end in
+    let end = shorter (suffix_lexeme_by_word word).token.class behind short
+    (sound_after (b ∷ rest) behind (suffix_lexeme_by_word word) (suffix_lexeme_by_word word).token (1 + length word) (suffix_whole_by word (suffix_rank word) known)
+    (suffix_is_not_last (suffix_lexeme_by_word word).token.class class) (drop_one (length word) b rest) sound) in
+    let tail = with_suffix last (suffix_lexeme_by_word word).token.class word behind (then_true (eqb b 95) (is_allowed_before_suffix_or_hash last) guard)
+    (suffix_no_component (suffix_lexeme_by_word word).token.class class) known end in
     subst (IsTail last)
     (λ i. same_byte b 95 (first_true (eqb b 95) (is_allowed_before_suffix_or_hash last) guard) i ∷ sym (split_run is_ascii_lowercase rest) i) tail
 
-number_case : (n : ℕ) → Shorter n → (last : Class) (b : ℕ) (rest : List ℕ) → length rest ≤ n → (is_ascii_digit b && is_suffix last) ≡ true → CountsOnlyRise (b ∷ rest) (number_lexeme SuffixNumber 0 (leading_digits (b ∷ rest))) → IsTail last (b ∷ rest)
+number_case : (n : ℕ) → Shorter n → (last : Class) (b : ℕ) (rest : List ℕ) → length rest ≤ n → (is_ascii_digit b && is_suffix last) ≡ true → CountsOnlyRise (b ∷ rest) (number_lexeme_by_digits SuffixNumber 0 (leading_digits (b ∷ rest))) → IsTail last (b ∷ rest)
 number_case n shorter last b rest few guard sound =
     let ds : List ℕ = leading_digits (b ∷ rest) in
     let behind : List ℕ = drop (length ds) (b ∷ rest) in
@@ -366,42 +366,42 @@ number_case n shorter last b rest few guard sound =
     let short : length behind ≤ n = omega (arith, length-drop (length ds) (b ∷ rest)) in
     let same : drop (0 + length ds) (b ∷ rest) ≡ behind = let e : 0 + length ds ≡ length ds = omega arith in ap (λ m. drop m (b ∷ rest)) e in
     let end = shorter SuffixNumber behind short
-    (sound_after (b ∷ rest) behind (number_lexeme SuffixNumber 0 ds) (number_token SuffixNumber (digits_value 10 ds)) (0 + length ds) (number_read SuffixNumber 0 ds numeral) refl same sound) in
+    (sound_after (b ∷ rest) behind (number_lexeme_by_digits SuffixNumber 0 ds) (number_token SuffixNumber (digits_value 10 ds)) (0 + length ds) (number_read SuffixNumber 0 ds numeral) refl same sound) in
     let suffix = then_true (is_ascii_digit b) (is_suffix last) guard in
     let tail = with_number last ds behind suffix (suffix_no_component last suffix) numeral end in
     subst (IsTail last) (sym (split_run is_ascii_digit (b ∷ rest))) tail
 
-hash_case : (n : ℕ) → Shorter n → (last : Class) (b : ℕ) (rest : List ℕ) → length rest ≤ n → (eqb b 126 && is_allowed_before_suffix_or_hash last) ≡ true → CountsOnlyRise (b ∷ rest) (hash_lexeme (leading_hex_digits rest)) → IsTail last (b ∷ rest)
+hash_case : (n : ℕ) → Shorter n → (last : Class) (b : ℕ) (rest : List ℕ) → length rest ≤ n → (eqb b 126 && is_allowed_before_suffix_or_hash last) ≡ true → CountsOnlyRise (b ∷ rest) (hash_lexeme_by_hex_digits (leading_hex_digits rest)) → IsTail last (b ∷ rest)
 hash_case n shorter last b rest few guard sound =
     let ds : List ℕ = leading_hex_digits rest in
     let behind : List ℕ = drop (length ds) rest in
     let hash = and_from (ltb 0 (length ds)) (list_all is_hex_digit ds) (hash_goes_on (b ∷ rest) ds sound) (take_while_passes is_hex_digit rest) in
     let short : length behind ≤ n = omega (arith, length-drop (length ds) rest) in
     let end = shorter Hash behind short
-    (sound_after (b ∷ rest) behind (hash_lexeme ds) (text_token Hash ds) (1 + length ds) (hash_read ds hash) refl (drop_one (length ds) b rest) sound) in
+    (sound_after (b ∷ rest) behind (hash_lexeme_by_hex_digits ds) (text_token Hash ds) (1 + length ds) (hash_read ds hash) refl (drop_one (length ds) b rest) sound) in
     let tail = with_hash last ds behind (then_true (eqb b 126) (is_allowed_before_suffix_or_hash last) guard) hash end in
     subst (IsTail last)
     (λ i. same_byte b 126 (first_true (eqb b 126) (is_allowed_before_suffix_or_hash last) guard) i ∷ sym (split_run is_hex_digit rest) i) tail
 
 -- after the `-`
-revision_by : (n : ℕ) → Shorter n → (last : Class) (b : ℕ) (rest : List ℕ) → length rest ≤ n → b ≡ 45 → is_allowed_before_revision last ≡ true → CountsOnlyRise (b ∷ rest) (revision_lexeme rest) → IsTail last (b ∷ rest)
-unfolding revision_lexeme
+revision_by : (n : ℕ) → Shorter n → (last : Class) (b : ℕ) (rest : List ℕ) → length rest ≤ n → b ≡ 45 → is_allowed_before_revision last ≡ true → CountsOnlyRise (b ∷ rest) (revision_lexeme_by_text_after_hyphen rest) → IsTail last (b ∷ rest)
+unfolding revision_lexeme_by_text_after_hyphen
 revision_by n shorter last b [] few dash guard sound = absurd (false≢true sound)
 revision_by n shorter last b (c ∷ rest) few dash guard sound =
     let ds : List ℕ = leading_digits rest in
     let behind : List ℕ = drop (length ds) rest in
     let text : List ℕ = b ∷ c ∷ rest in
-    let letter = sound_or_stray text (eqb c 114) (number_lexeme Revision 2 ds) sound in
-    let here : CountsOnlyRise text (number_lexeme Revision 2 ds) = subst (λ t. CountsOnlyRise text (cond t (number_lexeme Revision 2 ds) stray_lexeme)) letter sound in
+    let letter = sound_or_stray text (eqb c 114) (number_lexeme_by_digits Revision 2 ds) sound in
+    let here : CountsOnlyRise text (number_lexeme_by_digits Revision 2 ds) = subst (λ t. CountsOnlyRise text (cond t (number_lexeme_by_digits Revision 2 ds) stray_lexeme)) letter sound in
     let numeral = digits_numeral rest (number_goes_on text Revision 2 ds here) in
     let short : length behind ≤ n = omega (arith, length-drop (length ds) rest) in
     let end = shorter Revision behind short
-    (sound_after text behind (number_lexeme Revision 2 ds) (number_token Revision (digits_value 10 ds)) (2 + length ds) (number_read Revision 2 ds numeral) refl (drop_two (length ds) b c rest) here) in
+    (sound_after text behind (number_lexeme_by_digits Revision 2 ds) (number_token Revision (digits_value 10 ds)) (2 + length ds) (number_read Revision 2 ds numeral) refl (drop_two (length ds) b c rest) here) in
     let tail = with_revision last ds behind guard numeral end in
     subst (IsTail last)
     (λ i. sym dash i ∷ same_byte c 114 letter i ∷ sym (split_run is_ascii_digit rest) i) tail
 
-revision_case : (n : ℕ) → Shorter n → (last : Class) (b : ℕ) (rest : List ℕ) → length rest ≤ n → (eqb b 45 && is_allowed_before_revision last) ≡ true → CountsOnlyRise (b ∷ rest) (revision_lexeme rest) → IsTail last (b ∷ rest)
+revision_case : (n : ℕ) → Shorter n → (last : Class) (b : ℕ) (rest : List ℕ) → length rest ≤ n → (eqb b 45 && is_allowed_before_revision last) ≡ true → CountsOnlyRise (b ∷ rest) (revision_lexeme_by_text_after_hyphen rest) → IsTail last (b ∷ rest)
 revision_case n shorter last b rest few guard sound =
     revision_by n shorter last b rest few (sym (same_byte b 45 (first_true (eqb b 45) (is_allowed_before_revision last) guard)))
     (then_true (eqb b 45) (is_allowed_before_revision last) guard) sound
@@ -410,12 +410,12 @@ lexeme_case : (n : ℕ) → Shorter n → (last : Class) (b : ℕ) (rest : List 
 unfolding next_lexeme
 lexeme_case n shorter last b rest few =
     let P : Lexeme → Type 0 = λ found. CountsOnlyRise (b ∷ rest) found → IsTail last (b ∷ rest) in
-    cond_case P (eqb b 46 && is_component last) (later_component_lexeme (leading_digits rest)) _ (component_case n shorter last b rest few)
+    cond_case P (eqb b 46 && is_component last) (later_component_lexeme_by_digits (leading_digits rest)) _ (component_case n shorter last b rest few)
     (cond_case P (is_ascii_lowercase b && is_component last) (lexeme (number_token Letter b) 1) _ (letter_case n shorter last b rest few)
-    (cond_case P (eqb b 95 && is_allowed_before_suffix_or_hash last) (suffix_lexeme (leading_letters rest)) _ (suffix_case n shorter last b rest few)
-    (cond_case P (is_ascii_digit b && is_suffix last) (number_lexeme SuffixNumber 0 (leading_digits (b ∷ rest))) _ (number_case n shorter last b rest few)
-    (cond_case P (eqb b 126 && is_allowed_before_suffix_or_hash last) (hash_lexeme (leading_hex_digits rest)) _ (hash_case n shorter last b rest few)
-    (cond_case P (eqb b 45 && is_allowed_before_revision last) (revision_lexeme rest) stray_lexeme (revision_case n shorter last b rest few)
+    (cond_case P (eqb b 95 && is_allowed_before_suffix_or_hash last) (suffix_lexeme_by_word (leading_letters rest)) _ (suffix_case n shorter last b rest few)
+    (cond_case P (is_ascii_digit b && is_suffix last) (number_lexeme_by_digits SuffixNumber 0 (leading_digits (b ∷ rest))) _ (number_case n shorter last b rest few)
+    (cond_case P (eqb b 126 && is_allowed_before_suffix_or_hash last) (hash_lexeme_by_hex_digits (leading_hex_digits rest)) _ (hash_case n shorter last b rest few)
+    (cond_case P (eqb b 45 && is_allowed_before_revision last) (revision_lexeme_by_text_after_hyphen rest) stray_lexeme (revision_case n shorter last b rest few)
     (λ sound. absurd (false≢true sound)))))))
 
 tails : (n : ℕ) → Shorter n
@@ -423,18 +423,18 @@ tails zero last [] few sound = at_end last
 tails zero last (b ∷ rest) few sound = absurd (omega arith)
 tails (suc n) last [] few sound = at_end last
 tails (suc n) last (b ∷ rest) few sound =
-    lexeme_case n (tails n) last b rest (omega arith) (ap are_in_grammar (sym (tokens_after_class_skipping_bytes-step (Some last) (b ∷ rest))) ∙ sound)
+    lexeme_case n (tails n) last b rest (omega arith) (ap has_no_stray_token (sym (tokens_after_class_skipping_bytes-step (Some last) (b ∷ rest))) ∙ sound)
 
 pub spelled : (text : List ℕ) → is_version text ≡ true → IsSpelledVersion text
 unfolding is_version tokens
 spelled text h =
     let ds : List ℕ = leading_digits text in
     let behind : List ℕ = drop (length ds) text in
-    let here : CountsOnlyRise text (number_lexeme Component 0 ds) = ap are_in_grammar (sym (tokens_after_class_skipping_bytes-step None text)) ∙ h in
+    let here : CountsOnlyRise text (number_lexeme_by_digits Component 0 ds) = ap has_no_stray_token (sym (tokens_after_class_skipping_bytes-step None text)) ∙ h in
     let numeral = digits_numeral text (number_goes_on text Component 0 ds here) in
     let same : drop (0 + length ds) text ≡ behind = let e : 0 + length ds ≡ length ds = omega arith in ap (λ m. drop m text) e in
     let end = tails (length behind) Component behind (omega arith)
-    (sound_after text behind (number_lexeme Component 0 ds) (number_token Component (digits_value 10 ds)) (0 + length ds) (number_read Component 0 ds numeral) refl same here) in
+    (sound_after text behind (number_lexeme_by_digits Component 0 ds) (number_token Component (digits_value 10 ds)) (0 + length ds) (number_read Component 0 ds numeral) refl same here) in
     let parts : VersionParts = record { first = ds; later = end.later; letter = end.letter; suffixes = end.suffixes; hash = end.hash; revision = end.revision } in
     record {
       parts = parts;

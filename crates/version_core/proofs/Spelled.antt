@@ -12,8 +12,8 @@ use Rattle.std.proofs.lemmas.List.Sums.{take_while-cons}
 use Rattle.std.proofs.lemmas.Slice.Eq.{bytes_eq-Decides}
 use Rattle.version_core.specs.declared.token.Class.{Class}
 use Rattle.version_core.specs.declared.token.Class.TheVariants.{Stray, PreRelease, End, Revision, Hash, SuffixNumber, Suffix, Letter, ZeroComponent, Component}
-use Rattle.version_core.specs.Token.{Token, Lexeme, token_without_value, number_token, text_token, lexeme, stray_lexeme, has_number_length, is_hex_digit, is_component, is_suffix, is_allowed_before_suffix_or_hash, is_allowed_before_revision, begins_with_zero, leading_digits, leading_hex_digits, leading_letters, number_lexeme, later_component_lexeme, suffix_rank, suffix_lexeme, suffix_lexeme_of_rank, hash_lexeme, revision_lexeme, next_lexeme, lexeme_at}
-use Rattle.version_core.specs.Order.{are_in_grammar, is_last_token_class, is_stray_class, is_version, tokens, tokens_after_class_skipping_bytes}
+use Rattle.version_core.specs.Token.{Token, Lexeme, token_without_value, number_token, text_token, lexeme, stray_lexeme, has_number_length, is_hex_digit, is_component, is_suffix, is_allowed_before_suffix_or_hash, is_allowed_before_revision, begins_with_zero, leading_digits, leading_hex_digits, leading_letters, number_lexeme_by_digits, later_component_lexeme_by_digits, suffix_rank, suffix_lexeme_by_word, suffix_lexeme_by_word_and_rank, hash_lexeme_by_hex_digits, revision_lexeme_by_text_after_hyphen, next_lexeme, lexeme_at}
+use Rattle.version_core.specs.Order.{has_no_stray_token, is_end_or_stray_class, is_stray_class, is_version, tokens, tokens_after_class_skipping_bytes}
 use Rattle.version_core.specs.Grammar.{VersionParts, are_version_parts, spelling, tokens_of, is_none_or, is_numeral, is_hash_text, is_suffix_part, SuffixPart, later_components_text, letter_text, number_text, suffixes_text, hash_text, revision_text, component_token, later_component_tokens, letter_tokens, number_tokens, suffix_tokens, hash_tokens, revision_tokens}
 use Rattle.version_core.proofs.Walk.{after, tokens_after_class_skipping_bytes-step}
 
@@ -89,15 +89,15 @@ run_all q ds all = ap (take_while q) (sym (append-nil ds)) ∙ run-append q ds [
 
 -- ---- one token
 
-read_token : (last : Option Class) (text front rest : List ℕ) (token : Token) (width : ℕ) → text ≡ front ++ rest → width ≡ length front → lexeme_at last text ≡ lexeme token width → is_last_token_class token.class ≡ false → tokens_after_class_skipping_bytes last 0 text ≡ token ∷ tokens_after_class_skipping_bytes (Some token.class) 0 rest
+read_token : (last : Option Class) (text front rest : List ℕ) (token : Token) (width : ℕ) → text ≡ front ++ rest → width ≡ length front → lexeme_at last text ≡ lexeme token width → is_end_or_stray_class token.class ≡ false → tokens_after_class_skipping_bytes last 0 text ≡ token ∷ tokens_after_class_skipping_bytes (Some token.class) 0 rest
 read_token last text front rest token width whole long e h =
     let behind : drop width text ≡ rest = (λ i. drop (long i) (whole i)) ∙ drop-append_seam front rest in
     tokens_after_class_skipping_bytes-step last text
     ∙ ap (λ (l : Lexeme). l.token ∷ after text l) e
     ∙ (λ i. token ∷ cond (h i) [] (tokens_after_class_skipping_bytes (Some token.class) 0 (behind i)))
 
-pub number_read : (class : Class) (mark : ℕ) (ds : List ℕ) → is_numeral ds ≡ true → number_lexeme class mark ds ≡ lexeme (number_token class (digits_value 10 ds)) (mark + length ds)
-unfolding number_lexeme
+pub number_read : (class : Class) (mark : ℕ) (ds : List ℕ) → is_numeral ds ≡ true → number_lexeme_by_digits class mark ds ≡ lexeme (number_token class (digits_value 10 ds)) (mark + length ds)
+unfolding number_lexeme_by_digits
 number_read class mark ds h =
     ap (λ t. cond t (lexeme (number_token class (digits_value 10 ds)) (mark + length ds)) stray_lexeme) (first_true (has_number_length ds) (list_all is_ascii_digit ds) h)
 
@@ -106,14 +106,14 @@ numeral_digits ds h = then_true (has_number_length ds) (list_all is_ascii_digit 
 
 -- ---- revision
 
-next_revision : (last : Class) (rest : List ℕ) → is_allowed_before_revision last ≡ true → next_lexeme last (45 ∷ rest) ≡ revision_lexeme rest
+next_revision : (last : Class) (rest : List ℕ) → is_allowed_before_revision last ≡ true → next_lexeme last (45 ∷ rest) ≡ revision_lexeme_by_text_after_hyphen rest
 unfolding next_lexeme
 next_revision last rest h = rw h refl
 
-pub revision_digits : (ds : List ℕ) → is_numeral ds ≡ true → revision_lexeme (114 ∷ ds) ≡ lexeme (number_token Revision (digits_value 10 ds)) (2 + length ds)
-unfolding revision_lexeme
+pub revision_digits : (ds : List ℕ) → is_numeral ds ≡ true → revision_lexeme_by_text_after_hyphen (114 ∷ ds) ≡ lexeme (number_token Revision (digits_value 10 ds)) (2 + length ds)
+unfolding revision_lexeme_by_text_after_hyphen
 revision_digits ds ok =
-    ap (number_lexeme Revision 2) (run_all is_ascii_digit ds (numeral_digits ds ok)) ∙ number_read Revision 2 ds ok
+    ap (number_lexeme_by_digits Revision 2) (run_all is_ascii_digit ds (numeral_digits ds ok)) ∙ number_read Revision 2 ds ok
 
 at_end : (last : Class) → tokens_after_class_skipping_bytes (Some last) 0 [] ≡ token_without_value End ∷ []
 unfolding next_lexeme
@@ -129,12 +129,12 @@ read_revision (Some ds) last h ok =
 
 -- ---- hash
 
-next_hash : (last : Class) (rest : List ℕ) → is_allowed_before_suffix_or_hash last ≡ true → next_lexeme last (126 ∷ rest) ≡ hash_lexeme (leading_hex_digits rest)
+next_hash : (last : Class) (rest : List ℕ) → is_allowed_before_suffix_or_hash last ≡ true → next_lexeme last (126 ∷ rest) ≡ hash_lexeme_by_hex_digits (leading_hex_digits rest)
 unfolding next_lexeme
 next_hash last rest h = rw h refl
 
-pub hash_read : (ds : List ℕ) → is_hash_text ds ≡ true → hash_lexeme ds ≡ lexeme (text_token Hash ds) (1 + length ds)
-unfolding hash_lexeme
+pub hash_read : (ds : List ℕ) → is_hash_text ds ≡ true → hash_lexeme_by_hex_digits ds ≡ lexeme (text_token Hash ds) (1 + length ds)
+unfolding hash_lexeme_by_hex_digits
 hash_read ds h =
     ap (λ t. cond t (lexeme (text_token Hash ds) (1 + length ds)) stray_lexeme) (first_true (ltb 0 (length ds)) (list_all is_hex_digit ds) h)
 
@@ -156,12 +156,12 @@ read_hash (Some ds) last rest ts h ok other more =
     let long : 1 + length ds ≡ length (126 ∷ ds) = omega arith in
     let all = then_true (ltb 0 (length ds)) (list_all is_hex_digit ds) ok in
     read_token (Some last) (126 ∷ (ds ++ rest)) (126 ∷ ds) rest (text_token Hash ds) (1 + length ds) refl long
-    (next_hash last (ds ++ rest) h ∙ ap hash_lexeme (run-append is_hex_digit ds rest all other) ∙ hash_read ds ok) refl
+    (next_hash last (ds ++ rest) h ∙ ap hash_lexeme_by_hex_digits (run-append is_hex_digit ds rest all other) ∙ hash_read ds ok) refl
     ∙ ap (λ tokens. text_token Hash ds ∷ tokens) (more Hash refl)
 
 -- ---- suffixes
 
-next_number : (last : Class) (d : ℕ) (rest : List ℕ) → is_suffix last ≡ true → is_ascii_digit d ≡ true → next_lexeme last (d ∷ rest) ≡ number_lexeme SuffixNumber 0 (leading_digits (d ∷ rest))
+next_number : (last : Class) (d : ℕ) (rest : List ℕ) → is_suffix last ≡ true → is_ascii_digit d ≡ true → next_lexeme last (d ∷ rest) ≡ number_lexeme_by_digits SuffixNumber 0 (leading_digits (d ∷ rest))
 unfolding next_lexeme
 next_number last d rest h digit =
     rw (digit_is_no_dot d digit, digit_is_no_letter d digit, digit_is_no_underscore d digit, digit, h) refl
@@ -178,7 +178,7 @@ suffix_before_hash Letter h = refl
 suffix_before_hash ZeroComponent h = refl
 suffix_before_hash Component h = refl
 
-pub suffix_is_not_last : (last : Class) → is_suffix last ≡ true → is_last_token_class last ≡ false
+pub suffix_is_not_last : (last : Class) → is_suffix last ≡ true → is_end_or_stray_class last ≡ false
 suffix_is_not_last PreRelease h = refl
 suffix_is_not_last Suffix h = refl
 suffix_is_not_last Stray h = absurd (false≢true h)
@@ -198,14 +198,14 @@ read_number (Some (d ∷ ds)) last rest ts h ok other more =
     let long : 0 + length (d ∷ ds) ≡ length (d ∷ ds) = omega arith in
     read_token (Some last) (d ∷ (ds ++ rest)) (d ∷ ds) rest (number_token SuffixNumber (digits_value 10 (d ∷ ds))) (0 + length (d ∷ ds)) refl long
     (next_number last d (ds ++ rest) h (first_true (is_ascii_digit d) (list_all is_ascii_digit ds) all)
-    ∙ ap (number_lexeme SuffixNumber 0) (run-append is_ascii_digit (d ∷ ds) rest all other) ∙ number_read SuffixNumber 0 (d ∷ ds) ok) refl
+    ∙ ap (number_lexeme_by_digits SuffixNumber 0) (run-append is_ascii_digit (d ∷ ds) rest all other) ∙ number_read SuffixNumber 0 (d ∷ ds) ok) refl
     ∙ ap (λ tokens. number_token SuffixNumber (digits_value 10 (d ∷ ds)) ∷ tokens) (more SuffixNumber refl)
 
-next_suffix : (last : Class) (rest : List ℕ) → is_allowed_before_suffix_or_hash last ≡ true → next_lexeme last (95 ∷ rest) ≡ suffix_lexeme (leading_letters rest)
+next_suffix : (last : Class) (rest : List ℕ) → is_allowed_before_suffix_or_hash last ≡ true → next_lexeme last (95 ∷ rest) ≡ suffix_lexeme_by_word (leading_letters rest)
 unfolding next_lexeme
 next_suffix last rest h = rw h refl
 
-pub suffix_whole_by : (word : List ℕ) (rank : Option ℕ) → is_some rank ≡ true → suffix_lexeme_of_rank word rank ≡ lexeme (suffix_lexeme_of_rank word rank).token (1 + length word)
+pub suffix_whole_by : (word : List ℕ) (rank : Option ℕ) → is_some rank ≡ true → suffix_lexeme_by_word_and_rank word rank ≡ lexeme (suffix_lexeme_by_word_and_rank word rank).token (1 + length word)
 suffix_whole_by word None h = absurd (false≢true h)
 suffix_whole_by word (Some rank) h = refl
 
@@ -213,7 +213,7 @@ two_suffixes : (b : Bool) → is_suffix (cond b PreRelease Suffix) ≡ true
 two_suffixes true = refl
 two_suffixes false = refl
 
-pub suffix_class_by : (word : List ℕ) (rank : Option ℕ) → is_some rank ≡ true → is_suffix (suffix_lexeme_of_rank word rank).token.class ≡ true
+pub suffix_class_by : (word : List ℕ) (rank : Option ℕ) → is_some rank ≡ true → is_suffix (suffix_lexeme_by_word_and_rank word rank).token.class ≡ true
 suffix_class_by word None h = absurd (false≢true h)
 suffix_class_by word (Some rank) h = two_suffixes (ltb rank 4)
 
@@ -254,11 +254,11 @@ read_suffixes (s ∷ ss) last rest ts h ok no_digit no_letter more =
     (begins_no_letter s.number behind number (begins-suffixes is_ascii_lowercase ss rest refl no_letter)) in
     let class = suffix_class_by s.name (suffix_rank s.name) known in
     ap (tokens_after_class_skipping_bytes (Some last) 0) whole
-    ∙ read_token (Some last) (95 ∷ (s.name ++ (number_text s.number ++ behind))) (95 ∷ s.name) (number_text s.number ++ behind) (suffix_lexeme s.name).token (1 + length s.name) refl long
-    (next_suffix last (s.name ++ (number_text s.number ++ behind)) h ∙ ap suffix_lexeme word ∙ suffix_whole_by s.name (suffix_rank s.name) known)
-    (suffix_is_not_last (suffix_lexeme s.name).token.class class)
-    ∙ ap (λ tokens. (suffix_lexeme s.name).token ∷ tokens)
-    (read_number s.number (suffix_lexeme s.name).token.class behind (suffix_tokens ss ++ ts) class number
+    ∙ read_token (Some last) (95 ∷ (s.name ++ (number_text s.number ++ behind))) (95 ∷ s.name) (number_text s.number ++ behind) (suffix_lexeme_by_word s.name).token (1 + length s.name) refl long
+    (next_suffix last (s.name ++ (number_text s.number ++ behind)) h ∙ ap suffix_lexeme_by_word word ∙ suffix_whole_by s.name (suffix_rank s.name) known)
+    (suffix_is_not_last (suffix_lexeme_by_word s.name).token.class class)
+    ∙ ap (λ tokens. (suffix_lexeme_by_word s.name).token ∷ tokens)
+    (read_number s.number (suffix_lexeme_by_word s.name).token.class behind (suffix_tokens ss ++ ts) class number
     (begins-suffixes is_ascii_digit ss rest refl no_digit)
     (λ c before. read_suffixes ss c rest ts before (then_true (is_suffix_part s) (list_all is_suffix_part ss) ok) no_digit no_letter more)
     ∙ sym (append_assoc (number_tokens s.number) (suffix_tokens ss) ts))
@@ -289,7 +289,7 @@ read_letter (Some b) last rest ts h ok more =
 
 -- ---- components
 
-next_component : (last : Class) (rest : List ℕ) → is_component last ≡ true → next_lexeme last (46 ∷ rest) ≡ later_component_lexeme (leading_digits rest)
+next_component : (last : Class) (rest : List ℕ) → is_component last ≡ true → next_lexeme last (46 ∷ rest) ≡ later_component_lexeme_by_digits (leading_digits rest)
 unfolding next_lexeme
 next_component last rest h = rw h refl
 
@@ -297,12 +297,12 @@ component_by : (zero : Bool) (a b : Token) (width : ℕ) → cond zero (lexeme a
 component_by true a b width = refl
 component_by false a b width = refl
 
-pub component_read : (ds : List ℕ) → is_numeral ds ≡ true → later_component_lexeme ds ≡ lexeme (component_token ds) (1 + length ds)
-unfolding later_component_lexeme
+pub component_read : (ds : List ℕ) → is_numeral ds ≡ true → later_component_lexeme_by_digits ds ≡ lexeme (component_token ds) (1 + length ds)
+unfolding later_component_lexeme_by_digits
 component_read ds ok =
     let number = first_true (has_number_length ds) (list_all is_ascii_digit ds) ok in
     let zero : Lexeme = lexeme (text_token ZeroComponent ds) (1 + length ds) in
-    ap (λ t. cond (t && begins_with_zero ds) zero (number_lexeme Component 1 ds)) number
+    ap (λ t. cond (t && begins_with_zero ds) zero (number_lexeme_by_digits Component 1 ds)) number
     ∙ ap (λ l. cond (begins_with_zero ds) zero l) (number_read Component 1 ds ok)
     ∙ component_by (begins_with_zero ds) (text_token ZeroComponent ds) (number_token Component (digits_value 10 ds)) (1 + length ds)
 
@@ -310,7 +310,7 @@ pub component_class_by : (zero : Bool) (text : List ℕ) (n : ℕ) → is_compon
 component_class_by true text n = refl
 component_class_by false text n = refl
 
-pub component_is_not_last_by : (zero : Bool) (text : List ℕ) (n : ℕ) → is_last_token_class (cond zero (text_token ZeroComponent text) (number_token Component n)).class ≡ false
+pub component_is_not_last_by : (zero : Bool) (text : List ℕ) (n : ℕ) → is_end_or_stray_class (cond zero (text_token ZeroComponent text) (number_token Component n)).class ≡ false
 component_is_not_last_by true text n = refl
 component_is_not_last_by false text n = refl
 
@@ -323,7 +323,7 @@ read_later (ds ∷ later) last rest ts h ok other more =
     ap (λ t. tokens_after_class_skipping_bytes (Some last) 0 (46 ∷ t)) (append_assoc ds (later_components_text later) rest)
     ∙ read_token (Some last) (46 ∷ (ds ++ behind)) (46 ∷ ds) behind (component_token ds) (1 + length ds) refl long
     (next_component last (ds ++ behind) h
-    ∙ ap later_component_lexeme (run-append is_ascii_digit ds behind (numeral_digits ds numeral) (begins-later is_ascii_digit later rest refl other))
+    ∙ ap later_component_lexeme_by_digits (run-append is_ascii_digit ds behind (numeral_digits ds numeral) (begins-later is_ascii_digit later rest refl other))
     ∙ component_read ds numeral)
     (component_is_not_last_by (begins_with_zero ds) ds (digits_value 10 ds))
     ∙ ap (λ tokens. component_token ds ∷ tokens)
@@ -375,7 +375,7 @@ read_spelling parts ok =
     let digit1 = begins-later is_ascii_digit parts.later t2 refl digit2 in
     let long : 0 + length parts.first ≡ length parts.first = omega arith in
     read_token None (parts.first ++ t1) parts.first t1 (number_token Component (digits_value 10 parts.first)) (0 + length parts.first) refl long
-    (ap (number_lexeme Component 0) (run-append is_ascii_digit parts.first t1 (numeral_digits parts.first each.first) digit1)
+    (ap (number_lexeme_by_digits Component 0) (run-append is_ascii_digit parts.first t1 (numeral_digits parts.first each.first) digit1)
     ∙ number_read Component 0 parts.first each.first) refl
     ∙ ap (λ ts. number_token Component (digits_value 10 parts.first) ∷ ts)
     (read_later parts.later Component t2 s2 refl each.later digit2
@@ -384,24 +384,24 @@ read_spelling parts ok =
     (λ c4 h4. read_hash parts.hash c4 t5 s5 h4 each.hash (begins-revision is_hex_digit parts.revision refl)
     (λ c5 h5. read_revision parts.revision c5 h5 each.revision)))))
 
-sound-append : (xs ys : List Token) → are_in_grammar xs ≡ true → are_in_grammar ys ≡ true → are_in_grammar (xs ++ ys) ≡ true
+sound-append : (xs ys : List Token) → has_no_stray_token xs ≡ true → has_no_stray_token ys ≡ true → has_no_stray_token (xs ++ ys) ≡ true
 sound-append [] ys h k = k
 sound-append (x ∷ xs) ys h k =
-    rw (first_true (not (is_stray_class x.class)) (are_in_grammar xs) h) (sound-append xs ys (then_true (not (is_stray_class x.class)) (are_in_grammar xs) h) k)
+    rw (first_true (not (is_stray_class x.class)) (has_no_stray_token xs) h) (sound-append xs ys (then_true (not (is_stray_class x.class)) (has_no_stray_token xs) h) k)
 
 component_sound : (zero : Bool) (text : List ℕ) (n : ℕ) → not (is_stray_class (cond zero (text_token ZeroComponent text) (number_token Component n)).class) ≡ true
 component_sound true text n = refl
 component_sound false text n = refl
 
-later_sound : (later : List (List ℕ)) → are_in_grammar (later_component_tokens later) ≡ true
+later_sound : (later : List (List ℕ)) → has_no_stray_token (later_component_tokens later) ≡ true
 later_sound [] = refl
 later_sound (ds ∷ later) = rw (component_sound (begins_with_zero ds) ds (digits_value 10 ds)) (later_sound later)
 
-letter_sound : (letter : Option ℕ) → are_in_grammar (letter_tokens letter) ≡ true
+letter_sound : (letter : Option ℕ) → has_no_stray_token (letter_tokens letter) ≡ true
 letter_sound None = refl
 letter_sound (Some b) = refl
 
-number_sound : (number : Option (List ℕ)) → are_in_grammar (number_tokens number) ≡ true
+number_sound : (number : Option (List ℕ)) → has_no_stray_token (number_tokens number) ≡ true
 number_sound None = refl
 number_sound (Some ds) = refl
 
@@ -409,22 +409,22 @@ suffix_sound_by : (b : Bool) → not (is_stray_class (cond b PreRelease Suffix))
 suffix_sound_by true = refl
 suffix_sound_by false = refl
 
-suffix_sound : (word : List ℕ) (rank : Option ℕ) → is_some rank ≡ true → not (is_stray_class (suffix_lexeme_of_rank word rank).token.class) ≡ true
+suffix_sound : (word : List ℕ) (rank : Option ℕ) → is_some rank ≡ true → not (is_stray_class (suffix_lexeme_by_word_and_rank word rank).token.class) ≡ true
 suffix_sound word None h = absurd (false≢true h)
 suffix_sound word (Some rank) h = suffix_sound_by (ltb rank 4)
 
-suffixes_sound : (suffixes : List SuffixPart) → list_all is_suffix_part suffixes ≡ true → are_in_grammar (suffix_tokens suffixes) ≡ true
+suffixes_sound : (suffixes : List SuffixPart) → list_all is_suffix_part suffixes ≡ true → has_no_stray_token (suffix_tokens suffixes) ≡ true
 suffixes_sound [] ok = refl
 suffixes_sound (s ∷ ss) ok =
     let known = first_true (is_some (suffix_rank s.name)) (is_none_or is_numeral s.number) (first_true (is_suffix_part s) (list_all is_suffix_part ss) ok) in
     rw (suffix_sound s.name (suffix_rank s.name) known)
     (sound-append (number_tokens s.number) (suffix_tokens ss) (number_sound s.number) (suffixes_sound ss (then_true (is_suffix_part s) (list_all is_suffix_part ss) ok)))
 
-hash_sound : (hash : Option (List ℕ)) → are_in_grammar (hash_tokens hash) ≡ true
+hash_sound : (hash : Option (List ℕ)) → has_no_stray_token (hash_tokens hash) ≡ true
 hash_sound None = refl
 hash_sound (Some ds) = refl
 
-revision_sound : (revision : Option (List ℕ)) → are_in_grammar (revision_tokens revision) ≡ true
+revision_sound : (revision : Option (List ℕ)) → has_no_stray_token (revision_tokens revision) ≡ true
 revision_sound None = refl
 revision_sound (Some ds) = refl
 
@@ -432,7 +432,7 @@ pub spelling_is_version : (parts : VersionParts) → are_version_parts parts ≡
 unfolding is_version
 spelling_is_version parts ok =
     let each = in_grammar parts ok in
-    ap are_in_grammar (read_spelling parts ok)
+    ap has_no_stray_token (read_spelling parts ok)
     ∙ sound-append (later_component_tokens parts.later) _ (later_sound parts.later)
     (sound-append (letter_tokens parts.letter) _ (letter_sound parts.letter)
     (sound-append (suffix_tokens parts.suffixes) _ (suffixes_sound parts.suffixes each.suffixes)

@@ -11,8 +11,8 @@ use Rattle.std.proofs.lemmas.List.{drop-drop, drop_more, length-drop, length-tak
 use Rattle.std.proofs.lemmas.Slice.Eq.{bytes_eq-Decides}
 use Rattle.version_core.specs.declared.token.Class.{Class}
 use Rattle.version_core.specs.declared.token.Class.TheVariants.{PreRelease, Revision, SuffixNumber, Suffix, Letter, ZeroComponent, Component}
-use Rattle.version_core.specs.Token.{Lexeme, number_token, text_token, lexeme, stray_lexeme, has_number_length, is_component, is_suffix, is_allowed_before_suffix_or_hash, is_allowed_before_revision, begins_with_zero, leading_digits, leading_hex_digits, leading_letters, number_lexeme, later_component_lexeme, suffix_class, suffix_rank, suffix_lexeme_of_rank, hash_lexeme, revision_lexeme, next_lexeme, lexeme_at}
-use Rattle.version_core.specs.Order.{is_last_token_class, is_stray_class, is_version}
+use Rattle.version_core.specs.Token.{Lexeme, number_token, text_token, lexeme, stray_lexeme, has_number_length, is_component, is_suffix, is_allowed_before_suffix_or_hash, is_allowed_before_revision, begins_with_zero, leading_digits, leading_hex_digits, leading_letters, number_lexeme_by_digits, later_component_lexeme_by_digits, suffix_class, suffix_rank, suffix_lexeme_by_word_and_rank, hash_lexeme_by_hex_digits, revision_lexeme_by_text_after_hyphen, next_lexeme, lexeme_at}
+use Rattle.version_core.specs.Order.{is_end_or_stray_class, is_stray_class, is_version}
 use Rattle.version_core.specs.Reading.{AreEqualUpTo, AreEqualUpToPlaceInHash, HasUnmarkedEnd, IsLastMark, begins_with_mark, is_token_mark, is_unmarked}
 use Rattle.version_core.proofs.EqualFront.{IsGood, and_left, and_right, by_mark, cut_text, good_after, good_front, good_whole, goes_on, mark_within, with_mark}
 use Rattle.version_core.proofs.Walk.{lexeme_at_within}
@@ -34,7 +34,7 @@ room_component false false h = absurd (false≢true h)
 
 -- a token, and what may follow it without a mark, have so many bytes at most
 abbrev IsShort : ℕ → Lexeme → Type 0
-IsShort most found = is_last_token_class found.token.class ≡ false → found.width + room found.token.class ≤ most
+IsShort most found = is_end_or_stray_class found.token.class ≡ false → found.width + room found.token.class ≤ most
 
 shorter : (n m : ℕ) (found : Lexeme) → n ≤ m → IsShort n found → IsShort m found
 shorter n m found le short token = omega (arith, le, short token)
@@ -52,17 +52,17 @@ number_few ds h = grind (arith, nat_tests)
 number_room : (mark len after : ℕ) → len ≤ 18 → mark + len + after ≤ mark + 18 + after
 number_room mark len after few = omega (arith, few)
 
-number_short : (class : Class) (mark : ℕ) (ds : List ℕ) → IsShort (mark + 18 + room class) (number_lexeme class mark ds)
-unfolding number_lexeme
+number_short : (class : Class) (mark : ℕ) (ds : List ℕ) → IsShort (mark + 18 + room class) (number_lexeme_by_digits class mark ds)
+unfolding number_lexeme_by_digits
 number_short class mark ds =
     cond_short (mark + 18 + room class) (has_number_length ds) (lexeme (number_token class (digits_value 10 ds)) (mark + length ds)) stray_lexeme
     (λ h token. number_room mark (length ds) (room class) (number_few ds h))
     (stray_short (mark + 18 + room class))
 
-component_short : (ds : List ℕ) → IsShort 20 (later_component_lexeme ds)
-unfolding later_component_lexeme
+component_short : (ds : List ℕ) → IsShort 20 (later_component_lexeme_by_digits ds)
+unfolding later_component_lexeme_by_digits
 component_short ds =
-    cond_short 20 (has_number_length ds && begins_with_zero ds) (lexeme (text_token ZeroComponent ds) (1 + length ds)) (number_lexeme Component 1 ds)
+    cond_short 20 (has_number_length ds && begins_with_zero ds) (lexeme (text_token ZeroComponent ds) (1 + length ds)) (number_lexeme_by_digits Component 1 ds)
     (λ h token. number_room 1 (length ds) 1 (number_few ds (and_left (has_number_length ds) (begins_with_zero ds) h)))
     (number_short Component 1 ds)
 
@@ -88,21 +88,21 @@ suffix_room : (pre : Bool) → room (cond pre PreRelease Suffix) ≡ 18
 suffix_room true = refl
 suffix_room false = refl
 
-suffix_short_by : (word : List ℕ) (rank : Option ℕ) → (is_some rank ≡ true → length word ≤ 5) → IsShort 24 (suffix_lexeme_of_rank word rank)
+suffix_short_by : (word : List ℕ) (rank : Option ℕ) → (is_some rank ≡ true → length word ≤ 5) → IsShort 24 (suffix_lexeme_by_word_and_rank word rank)
 suffix_short_by word None few token = stray_short 24 token
 suffix_short_by word (Some rank) few token =
     let after : room (suffix_class rank) ≡ 18 = suffix_room (ltb rank 4) in
     let whole : 1 + length word + room (suffix_class rank) ≤ 24 = omega (arith, few refl, after) in
     whole
 
-suffix_short : (word : List ℕ) → IsShort 24 (suffix_lexeme_of_rank word (suffix_rank word))
+suffix_short : (word : List ℕ) → IsShort 24 (suffix_lexeme_by_word_and_rank word (suffix_rank word))
 suffix_short word = suffix_short_by word (suffix_rank word) (word_few word)
 
-revision_short : (rest : List ℕ) → IsShort 20 (revision_lexeme rest)
-unfolding revision_lexeme
+revision_short : (rest : List ℕ) → IsShort 20 (revision_lexeme_by_text_after_hyphen rest)
+unfolding revision_lexeme_by_text_after_hyphen
 revision_short [] = stray_short 20
 revision_short (b ∷ rest) =
-    cond_short 20 (eqb b 114) (number_lexeme Revision 2 (leading_digits rest)) stray_lexeme
+    cond_short 20 (eqb b 114) (number_lexeme_by_digits Revision 2 (leading_digits rest)) stray_lexeme
     (λ _. number_short Revision 2 (leading_digits rest))
     (stray_short 20)
 
@@ -115,20 +115,20 @@ no_mark b mark other bare is h =
 letter_short : (last : Class) (b : ℕ) → is_component last ≡ true → IsShort (room last) (lexeme (number_token Letter b) 1)
 letter_short last b h token = omega (arith, room_component (is_suffix last) (is_component last) h)
 
-suffix_number_short : (last : Class) (ds : List ℕ) → is_suffix last ≡ true → IsShort (room last) (number_lexeme SuffixNumber 0 ds)
+suffix_number_short : (last : Class) (ds : List ℕ) → is_suffix last ≡ true → IsShort (room last) (number_lexeme_by_digits SuffixNumber 0 ds)
 suffix_number_short last ds h =
-    shorter 18 (room last) (number_lexeme SuffixNumber 0 ds) (room_suffix (is_suffix last) (is_component last) h) (number_short SuffixNumber 0 ds)
+    shorter 18 (room last) (number_lexeme_by_digits SuffixNumber 0 ds) (room_suffix (is_suffix last) (is_component last) h) (number_short SuffixNumber 0 ds)
 
 -- without a mark a letter alone follows a component, and a number a suffix
 unmarked_short : (last : Class) (b : ℕ) (rest : List ℕ) → not (is_token_mark b) ≡ true → IsShort (room last) (next_lexeme last (b ∷ rest))
 unfolding next_lexeme
 unmarked_short last b rest bare =
-    cond_short (room last) (eqb b 46 && is_component last) (later_component_lexeme (leading_digits rest)) _ (no_mark b 46 (is_component last) bare refl)
+    cond_short (room last) (eqb b 46 && is_component last) (later_component_lexeme_by_digits (leading_digits rest)) _ (no_mark b 46 (is_component last) bare refl)
     (cond_short (room last) (is_ascii_lowercase b && is_component last) (lexeme (number_token Letter b) 1) _ (λ h. letter_short last b (and_right (is_ascii_lowercase b) (is_component last) h))
-    (cond_short (room last) (eqb b 95 && is_allowed_before_suffix_or_hash last) (suffix_lexeme_of_rank (leading_letters rest) (suffix_rank (leading_letters rest))) _ (no_mark b 95 (is_allowed_before_suffix_or_hash last) bare refl)
-    (cond_short (room last) (is_ascii_digit b && is_suffix last) (number_lexeme SuffixNumber 0 (leading_digits (b ∷ rest))) _ (λ h. suffix_number_short last (leading_digits (b ∷ rest)) (and_right (is_ascii_digit b) (is_suffix last) h))
-    (cond_short (room last) (eqb b 126 && is_allowed_before_suffix_or_hash last) (hash_lexeme (leading_hex_digits rest)) _ (no_mark b 126 (is_allowed_before_suffix_or_hash last) bare refl)
-    (cond_short (room last) (eqb b 45 && is_allowed_before_revision last) (revision_lexeme rest) stray_lexeme (no_mark b 45 (is_allowed_before_revision last) bare refl)
+    (cond_short (room last) (eqb b 95 && is_allowed_before_suffix_or_hash last) (suffix_lexeme_by_word_and_rank (leading_letters rest) (suffix_rank (leading_letters rest))) _ (no_mark b 95 (is_allowed_before_suffix_or_hash last) bare refl)
+    (cond_short (room last) (is_ascii_digit b && is_suffix last) (number_lexeme_by_digits SuffixNumber 0 (leading_digits (b ∷ rest))) _ (λ h. suffix_number_short last (leading_digits (b ∷ rest)) (and_right (is_ascii_digit b) (is_suffix last) h))
+    (cond_short (room last) (eqb b 126 && is_allowed_before_suffix_or_hash last) (hash_lexeme_by_hex_digits (leading_hex_digits rest)) _ (no_mark b 126 (is_allowed_before_suffix_or_hash last) bare refl)
+    (cond_short (room last) (eqb b 45 && is_allowed_before_revision last) (revision_lexeme_by_text_after_hyphen rest) stray_lexeme (no_mark b 45 (is_allowed_before_revision last) bare refl)
     (stray_short (room last)))))))
 
 -- ---- bytes in a row
@@ -140,23 +140,23 @@ few_unmarked last (suc inside) (b ∷ p) x bare good =
     omega (arith, few_unmarked last inside p x (and_right (not (is_token_mark b)) (is_unmarked p) bare) good)
 few_unmarked last zero (b ∷ p) x bare good =
     let found = lexeme_at (Some last) (b ∷ (p ++ x)) in
-    let token : is_last_token_class found.token.class ≡ false = goes_on (Some last) b (p ++ x) good in
+    let token : is_end_or_stray_class found.token.class ≡ false = goes_on (Some last) b (p ++ x) good in
     let short : found.width + room found.token.class ≤ room last = unmarked_short last b (p ++ x) (and_left (not (is_token_mark b)) (is_unmarked p) bare) token in
     let some : 0 < found.width = (lexeme_at_within (Some last) (b ∷ (p ++ x))).some token in
     let more : length p ≤ found.width - 1 + room found.token.class =
     few_unmarked found.token.class (found.width - 1) p x (and_right (not (is_token_mark b)) (is_unmarked p) bare)
-    (good_after (p ++ x) found (is_stray_class found.token.class) (is_last_token_class found.token.class) token good) in
+    (good_after (p ++ x) found (is_stray_class found.token.class) (is_end_or_stray_class found.token.class) token good) in
     omega (arith, short, some, more)
 
 -- after the first byte of a token
 few_after : (last : Option Class) (b : ℕ) (p x : List ℕ) (most : ℕ) → is_unmarked p ≡ true → IsShort most (lexeme_at last (b ∷ (p ++ x))) → IsGood last 0 (b ∷ (p ++ x)) → length p < most
 few_after last b p x most bare short good =
     let found = lexeme_at last (b ∷ (p ++ x)) in
-    let token : is_last_token_class found.token.class ≡ false = goes_on last b (p ++ x) good in
+    let token : is_end_or_stray_class found.token.class ≡ false = goes_on last b (p ++ x) good in
     let whole : found.width + room found.token.class ≤ most = short token in
     let some : 0 < found.width = (lexeme_at_within last (b ∷ (p ++ x))).some token in
     let more : length p ≤ found.width - 1 + room found.token.class =
-    few_unmarked found.token.class (found.width - 1) p x bare (good_after (p ++ x) found (is_stray_class found.token.class) (is_last_token_class found.token.class) token good) in
+    few_unmarked found.token.class (found.width - 1) p x bare (good_after (p ++ x) found (is_stray_class found.token.class) (is_end_or_stray_class found.token.class) token good) in
     omega (arith, whole, some, more)
 
 -- at the front of a version

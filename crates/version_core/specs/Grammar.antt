@@ -8,7 +8,7 @@ use Rattle.std.specs.Char.{is_ascii_digit, is_ascii_lowercase}
 use Rattle.std.specs.List.{list_all}
 use Rattle.std.specs.Str.Parse.{digits_value}
 use Rattle.version_core.specs.declared.token.Class.TheVariants.{End, Revision, Hash, SuffixNumber, Letter, ZeroComponent, Component}
-use Rattle.version_core.specs.Token.{Token, token_without_value, number_token, text_token, begins_with_zero, is_hex_digit, has_number_length, suffix_lexeme, suffix_rank}
+use Rattle.version_core.specs.Token.{Token, token_without_value, number_token, text_token, begins_with_zero, is_hex_digit, has_number_length, suffix_lexeme_by_word, suffix_rank}
 
 -- a suffix of a version: its word, and the digits of its number if it has one
 pub record SuffixPart : Type 0 where
@@ -118,7 +118,7 @@ number_tokens (Some digits) = number_token SuffixNumber (digits_value 10 digits)
 abbrev pub suffix_tokens : List SuffixPart → List Token
 suffix_tokens [] = []
 suffix_tokens (suffix ∷ rest) =
-    (suffix_lexeme suffix.name).token ∷ (number_tokens suffix.number ++ suffix_tokens rest)
+    (suffix_lexeme_by_word suffix.name).token ∷ (number_tokens suffix.number ++ suffix_tokens rest)
 
 -- the token of the hash, if there is one
 abbrev pub hash_tokens : Option (List ℕ) → List Token

@@ -5,13 +5,13 @@ use Rattle.std.specs.Str.{bytes_eq}
 use Rattle.std.specs.Ordering.{is_lt, is_eq, is_gt}
 use Rattle.version_core.specs.declared.token.Class.{Class}
 use Rattle.version_core.specs.declared.token.Class.TheVariants.{ZeroComponent}
-use Rattle.version_core.specs.Op.{EQUAL, LESS, GREATER, FUZZY, is_operator_bits}
-use Rattle.version_core.specs.Order.{is_last_token_class, token_cmp, tokens, version_cmp}
+use Rattle.version_core.specs.Op.{EQUAL, LESS, GREATER, FUZZY, are_match_bits_below_16_except_6_and_14}
+use Rattle.version_core.specs.Order.{is_end_or_stray_class, token_cmp, tokens, version_cmp}
 use Rattle.version_core.specs.Token.{Token}
 
 -- these match bits if they are those of an operator, else None
 abbrev pub operator_if_bits : ℕ → Option ℕ
-operator_if_bits bits = if is_operator_bits bits then Some bits else None
+operator_if_bits bits = if are_match_bits_below_16_except_6_and_14 bits then Some bits else None
 
 -- whether the match bit `bit` is set in the match bits of an operator
 abbrev pub has_bit : ℕ → ℕ → Bool
@@ -29,8 +29,8 @@ is_zero_component _ = false
 
 -- whether the token `found` fits the token `wanted` in a fuzzy match: both are equal. If both are components that are
 -- compared as text, it is enough that `found` begins with `wanted`
-unfoldable pub fits : Token → Token → Bool
-fits wanted found =
+unfoldable pub is_wanted_token_met_by : Token → Token → Bool
+is_wanted_token_met_by wanted found =
     if is_zero_component wanted.class && is_zero_component found.class
     then is_prefix_of wanted.text found.text else
     is_eq (token_cmp found wanted)
@@ -39,9 +39,9 @@ fits wanted found =
 -- the same index
 abbrev pub are_wanted_tokens_met_by : List Token → List Token → Bool
 are_wanted_tokens_met_by [] found = true
-are_wanted_tokens_met_by (w ∷ ws) [] = is_last_token_class w.class
+are_wanted_tokens_met_by (w ∷ ws) [] = is_end_or_stray_class w.class
 are_wanted_tokens_met_by (w ∷ ws) (f ∷ fs) =
-    is_last_token_class w.class || (fits w f && are_wanted_tokens_met_by ws fs)
+    is_end_or_stray_class w.class || (is_wanted_token_met_by w f && are_wanted_tokens_met_by ws fs)
 
 -- the fuzzy match: whether the version `found` begins with the tokens of the version `wanted`
 unfoldable pub is_fuzzy_match : List ℕ → List ℕ → Bool

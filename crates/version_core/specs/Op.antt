@@ -22,5 +22,5 @@ FUZZY = 8
 
 -- whether a number is the match bits of an operator: four bits, in which less and greater are not both set without
 -- equal (so neither 6, which is 2 and 4, nor 14, which is 2, 4 and 8)
-abbrev pub is_operator_bits : ℕ → Bool
-is_operator_bits bits = nat_lt bits 16 && not (bits == 6) && not (bits == 14)
+abbrev pub are_match_bits_below_16_except_6_and_14 : ℕ → Bool
+are_match_bits_below_16_except_6_and_14 bits = nat_lt bits 16 && not (bits == 6) && not (bits == 14)

@@ -15,9 +15,9 @@ is_stray_class Stray = true
 is_stray_class _ = false
 
 -- whether a token of this class is the last one of a text: it is the end, or stray
-abbrev pub is_last_token_class : Class → Bool
-is_last_token_class End = true
-is_last_token_class class = is_stray_class class
+abbrev pub is_end_or_stray_class : Class → Bool
+is_end_or_stray_class End = true
+is_end_or_stray_class class = is_stray_class class
 
 -- the tokens of a text that follows a token of the class `last` in a version; None if the text is the whole version.
 -- The first `inside` bytes of the text still belong to this token
@@ -28,7 +28,7 @@ tokens_after_class_skipping_bytes last (suc inside) (b ∷ rest) =
 tokens_after_class_skipping_bytes last zero (b ∷ rest) =
     let found = lexeme_at last (b ∷ rest) in
     found.token
-    ∷ (if is_last_token_class found.token.class then []
+    ∷ (if is_end_or_stray_class found.token.class then []
     else tokens_after_class_skipping_bytes (Some found.token.class) (found.width - 1) rest)
 
 -- the tokens of a text, with the end of the text as the last token. At bytes outside the grammar they end with a stray
@@ -37,12 +37,12 @@ unfoldable pub tokens : List ℕ → List Token
 tokens text = tokens_after_class_skipping_bytes None 0 text
 
 -- whether none of the tokens is stray, so that they are those of a version
-abbrev pub are_in_grammar : List Token → Bool
-are_in_grammar found = list_all (λ token. not (is_stray_class token.class)) found
+abbrev pub has_no_stray_token : List Token → Bool
+has_no_stray_token found = list_all (λ token. not (is_stray_class token.class)) found
 
 -- whether a text is a version
 unfoldable pub is_version : List ℕ → Bool
-is_version text = are_in_grammar (tokens text)
+is_version text = has_no_stray_token (tokens text)
 
 -- the rank of a class in the order of classes, from 0 for the least
 abbrev pub class_rank : Class → ℕ

@@ -2,7 +2,7 @@
 -- `OverlappingVersions` (its row in the README of this crate); what a version is is defined in
 -- `docs/formats.md`, "Versions".
 use Rattle.std.specs.Prelude.{◌≡◌, ℕ, ◌<◌, ◌≤◌, Bool, if◌then◌else◌, List, slice_range, Some}
-use Rattle.version_core.specs.Order.{are_in_grammar, tokens_after_class_skipping_bytes}
+use Rattle.version_core.specs.Order.{has_no_stray_token, tokens_after_class_skipping_bytes}
 use Rattle.version_core.specs.Reading.{is_hash, unread_len}
 use Rattle.version_core.specs.Token.{Lexeme}
 use Rattle.version_core.specs.declared.overlapping.Place.{Place}
@@ -16,7 +16,7 @@ passed_len found = if is_hash found.token.class then 2 else found.width
 -- and may be between the digits of a hash
 abbrev pub is_valid_version_rest : Place → List ℕ → Bool
 is_valid_version_rest place rest =
-    are_in_grammar (tokens_after_class_skipping_bytes (Some place.class)
+    has_no_stray_token (tokens_after_class_skipping_bytes (Some place.class)
     (unread_len (Some place.class) rest) rest)
 
 -- whether the bytes between this place and the offset `end` may be the rest of a version

@@ -71,8 +71,8 @@ has_number_length digits = nat_lt 0 (length digits) && nat_le (length digits) MO
 
 -- the lexeme of a number of this class, given its digits; `mark` is how many bytes of its mark precede them. The lexeme
 -- is stray if there are no digits or too many
-unfoldable pub number_lexeme : Class → ℕ → List ℕ → Lexeme
-number_lexeme class mark digits =
+unfoldable pub number_lexeme_by_digits : Class → ℕ → List ℕ → Lexeme
+number_lexeme_by_digits class mark digits =
     if has_number_length digits
     then lexeme (number_token class (digits_value 10 digits)) (mark + length digits)
     else stray_lexeme
@@ -84,11 +84,11 @@ begins_with_zero (b ∷ rest) = b == 48
 
 -- the lexeme of a component after the first, given the digits after its mark `.`. The component is compared as text if
 -- the first digit is 0, else as a number
-unfoldable pub later_component_lexeme : List ℕ → Lexeme
-later_component_lexeme digits =
+unfoldable pub later_component_lexeme_by_digits : List ℕ → Lexeme
+later_component_lexeme_by_digits digits =
     if has_number_length digits && begins_with_zero digits
     then lexeme (text_token ZeroComponent digits) (1 + length digits)
-    else number_lexeme Component 1 digits
+    else number_lexeme_by_digits Component 1 digits
 
 -- the rank of a suffix, given its word, in the order of suffixes, counted from 0; None if the word is no suffix
 unfoldable pub suffix_rank : List ℕ → Option ℕ
@@ -110,26 +110,26 @@ suffix_class rank = if nat_lt rank 4 then PreRelease else Suffix
 
 -- the lexeme of a suffix, given its word and the rank of this word; a word without rank makes it
 -- stray
-abbrev pub suffix_lexeme_of_rank : List ℕ → Option ℕ → Lexeme
-suffix_lexeme_of_rank word None = stray_lexeme
-suffix_lexeme_of_rank word (Some rank) =
+abbrev pub suffix_lexeme_by_word_and_rank : List ℕ → Option ℕ → Lexeme
+suffix_lexeme_by_word_and_rank word None = stray_lexeme
+suffix_lexeme_by_word_and_rank word (Some rank) =
     lexeme (number_token (suffix_class rank) rank) (1 + length word)
 
 -- the lexeme of a suffix, given the word after its mark `_`
-abbrev pub suffix_lexeme : List ℕ → Lexeme
-suffix_lexeme word = suffix_lexeme_of_rank word (suffix_rank word)
+abbrev pub suffix_lexeme_by_word : List ℕ → Lexeme
+suffix_lexeme_by_word word = suffix_lexeme_by_word_and_rank word (suffix_rank word)
 
 -- the lexeme of a hash, given the digits after its mark `~`; without a digit it is stray
-unfoldable pub hash_lexeme : List ℕ → Lexeme
-hash_lexeme digits =
+unfoldable pub hash_lexeme_by_hex_digits : List ℕ → Lexeme
+hash_lexeme_by_hex_digits digits =
     if nat_lt 0 (length digits) then lexeme (text_token Hash digits) (1 + length digits)
     else stray_lexeme
 
 -- the lexeme of a revision, given the text after its `-`, which has to begin with `r` and a number
-unfoldable pub revision_lexeme : List ℕ → Lexeme
-revision_lexeme [] = stray_lexeme
-revision_lexeme (b ∷ rest) =
-    if b == 114 then number_lexeme Revision 2 (leading_digits rest) else stray_lexeme
+unfoldable pub revision_lexeme_by_text_after_hyphen : List ℕ → Lexeme
+revision_lexeme_by_text_after_hyphen [] = stray_lexeme
+revision_lexeme_by_text_after_hyphen (b ∷ rest) =
+    if b == 114 then number_lexeme_by_digits Revision 2 (leading_digits rest) else stray_lexeme
 
 -- whether a token of this class is a component, so that another component or a letter may follow
 abbrev pub is_component : Class → Bool
@@ -159,17 +159,17 @@ is_allowed_before_revision class = is_allowed_before_suffix_or_hash class
 unfoldable pub next_lexeme : Class → List ℕ → Lexeme
 next_lexeme last [] = lexeme (token_without_value End) 0
 next_lexeme last (b ∷ rest) =
-    if (b == 46) && is_component last then later_component_lexeme (leading_digits rest) else
+    if (b == 46) && is_component last then later_component_lexeme_by_digits (leading_digits rest) else
     if is_ascii_lowercase b && is_component last then lexeme (number_token Letter b) 1 else
-    if (b == 95) && is_allowed_before_suffix_or_hash last then suffix_lexeme (leading_letters rest) else
+    if (b == 95) && is_allowed_before_suffix_or_hash last then suffix_lexeme_by_word (leading_letters rest) else
     if is_ascii_digit b && is_suffix last
-    then number_lexeme SuffixNumber 0 (leading_digits (b ∷ rest)) else
-    if (b == 126) && is_allowed_before_suffix_or_hash last then hash_lexeme (leading_hex_digits rest) else
-    if (b == 45) && is_allowed_before_revision last then revision_lexeme rest else
+    then number_lexeme_by_digits SuffixNumber 0 (leading_digits (b ∷ rest)) else
+    if (b == 126) && is_allowed_before_suffix_or_hash last then hash_lexeme_by_hex_digits (leading_hex_digits rest) else
+    if (b == 45) && is_allowed_before_revision last then revision_lexeme_by_text_after_hyphen rest else
     stray_lexeme
 
 -- the first lexeme of a text. At the start of a version (None) it is the first component. Otherwise the class of the
 -- token before the text (`last`) and the first byte of the text decide
 abbrev pub lexeme_at : Option Class → List ℕ → Lexeme
-lexeme_at None text = number_lexeme Component 0 (leading_digits text)
+lexeme_at None text = number_lexeme_by_digits Component 0 (leading_digits text)
 lexeme_at (Some last) text = next_lexeme last text

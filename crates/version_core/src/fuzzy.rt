@@ -54,7 +54,7 @@ fn are_wanted_tokens_met_by(wanted: Tokens<'_>, found: Tokens<'_>) -> bool
     loop {
         let token = wanted_tokens.next();
         // All tokens of the wanted version fit.
-        if token.class.is_last_token_class() {
+        if token.class.is_end_or_stray_class() {
             return true;
         }
         if !token.fits(&found_tokens.next()) {

@@ -8,7 +8,7 @@ ghost use Rattle.std.specs.Char.{is_ascii_digit, is_ascii_lowercase};
 ghost use Rattle.std.specs.Ordering.{nat_cmp};
 ghost use Rattle.std.specs.Cmp.Lexicographic.{slice_cmp};
 ghost use Rattle.std.specs.Str.Parse.{digits_value};
-ghost use Rattle.version_core.specs.Token.{begins_with_zero, later_component_lexeme, leading_digits, hash_lexeme, leading_hex_digits, is_hex_digit, lexeme, lexeme_at, next_lexeme, number_lexeme, number_token, revision_lexeme, stray_lexeme, suffix_class, suffix_lexeme, suffix_rank, leading_letters, text_token, MOST_DIGITS};
+ghost use Rattle.version_core.specs.Token.{begins_with_zero, later_component_lexeme_by_digits, leading_digits, hash_lexeme_by_hex_digits, leading_hex_digits, is_hex_digit, lexeme, lexeme_at, next_lexeme, number_lexeme_by_digits, number_token, revision_lexeme_by_text_after_hyphen, stray_lexeme, suffix_class, suffix_lexeme_by_word, suffix_rank, leading_letters, text_token, MOST_DIGITS};
 ghost use Rattle.version_core.specs.Overlapping.{passed_len};
 ghost use Rattle.version_core.specs.Reading.{AreDigits, hex_digit_at, is_hash, lexeme_view, whole_lexeme};
 
@@ -119,7 +119,7 @@ fn next_lexeme<'a>(last: Class, text: &'a [u8]) -> Lexeme<'a>
 
 /// The lexeme of a number of this class, given its digits. `mark` is how many bytes are before the
 /// digits: 0 (none), 1 (`.`) or 2 (`-r`).
-#[tactic(auto, unfolding(crate::specs::Token::number_lexeme))]
+#[tactic(auto, unfolding(crate::specs::Token::number_lexeme_by_digits))]
 fn number(class: Class, mark: usize, digits: &[u8]) -> Lexeme<'_>
     // The bytes are decimal digits.
     requires digits { AreDigits digits.now }
@@ -128,7 +128,7 @@ fn number(class: Class, mark: usize, digits: &[u8]) -> Lexeme<'_>
     // The class is not that of a hash.
     requires plain { is_hash class ≡ false }
     // The lexeme is that of a number after its mark (separator).
-    ensures token { whole_lexeme result ≡ number_lexeme class mark digits.now }
+    ensures token { whole_lexeme result ≡ number_lexeme_by_digits class mark digits.now }
     // The token is no hash.
     ensures plain { is_hash result.token.class ≡ false }
 {
@@ -140,12 +140,12 @@ fn number(class: Class, mark: usize, digits: &[u8]) -> Lexeme<'_>
 
 /// The lexeme of a component after the first, given its digits, which follow `.`. The component is
 /// compared as text if it begins with 0, else as a number.
-#[tactic(auto, using(crate::proofs::Lexemes::component_lexeme_zero), unfolding(crate::specs::Token::later_component_lexeme))]
+#[tactic(auto, using(crate::proofs::Lexemes::component_lexeme_zero), unfolding(crate::specs::Token::later_component_lexeme_by_digits))]
 fn component(digits: &[u8]) -> Lexeme<'_>
     // The bytes are decimal digits.
     requires { AreDigits digits.now }
     // The lexeme is that of a component after the first.
-    ensures token { whole_lexeme result ≡ later_component_lexeme digits.now }
+    ensures token { whole_lexeme result ≡ later_component_lexeme_by_digits digits.now }
     // The token is no hash.
     ensures plain { is_hash result.token.class ≡ false }
 {
@@ -165,7 +165,7 @@ fn begins_with_zero(digits: &[u8]) -> bool
 /// The lexeme of a suffix, given the word after its mark `_`.
 fn suffix(word: &[u8]) -> Lexeme<'_>
     // The lexeme is that of a suffix.
-    ensures token { whole_lexeme result ≡ suffix_lexeme word.now }
+    ensures token { whole_lexeme result ≡ suffix_lexeme_by_word word.now }
     // The token is no hash.
     ensures plain { is_hash result.token.class ≡ false }
 {
@@ -207,12 +207,12 @@ fn suffix_class(rank: u64) -> Class
 }
 
 /// The lexeme of a hash; the text begins with its mark, `~`.
-#[tactic(auto, unfolding(crate::specs::Token::hash_lexeme))]
+#[tactic(auto, unfolding(crate::specs::Token::hash_lexeme_by_hex_digits))]
 fn hash(text: &[u8]) -> Lexeme<'_>
     // The text is not empty.
     requires { 0 < length text.now }
     // The lexeme is that of the digits after the mark.
-    ensures { lexeme_view text.now result ≡ hash_lexeme (leading_hex_digits (drop 1 text.now)) }
+    ensures { lexeme_view text.now result ≡ hash_lexeme_by_hex_digits (leading_hex_digits (drop 1 text.now)) }
 {
     let digits = behind(text, 1);
     // A hash without a digit is no token of the grammar.
@@ -223,10 +223,10 @@ fn hash(text: &[u8]) -> Lexeme<'_>
 }
 
 /// The lexeme of a revision; the text begins after its `-`.
-#[tactic(auto, unfolding(crate::specs::Token::revision_lexeme))]
+#[tactic(auto, unfolding(crate::specs::Token::revision_lexeme_by_text_after_hyphen))]
 fn revision(text: &[u8]) -> Lexeme<'_>
     // The lexeme is that of a revision.
-    ensures token { whole_lexeme result ≡ revision_lexeme text.now }
+    ensures token { whole_lexeme result ≡ revision_lexeme_by_text_after_hyphen text.now }
     // The token is no hash.
     ensures plain { is_hash result.token.class ≡ false }
 {

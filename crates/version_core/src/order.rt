@@ -118,7 +118,7 @@ fn compare_tokens(left: Tokens<'_>, right: Tokens<'_>) -> Ordering
     loop {
         let token = left_tokens.next();
         let order = token.compare(&right_tokens.next());
-        if order.is_ne() || token.class.is_last_token_class() {
+        if order.is_ne() || token.class.is_end_or_stray_class() {
             return order;
         }
     }

@@ -224,7 +224,7 @@ fn first_place(bytes: &[u8], from: usize, end: usize) -> Option<Place>
 {
     // The class of the first token, and how many of its bytes are skipped at first.
     let (class, len) = first_token(None, &bytes[from..end]);
-    if class.is_last_token_class() {
+    if class.is_end_or_stray_class() {
         return None;
     }
     Some(Place {
@@ -284,7 +284,7 @@ fn place_after_token(bytes: &[u8], place: Place, end: usize) -> Option<Place>
 {
     // The class of the next token, and how many of its bytes are skipped at first.
     let (class, len) = first_token(Some(place.class), &bytes[place.at..end]);
-    if class.is_last_token_class() {
+    if class.is_end_or_stray_class() {
         return None;
     }
     Some(Place {

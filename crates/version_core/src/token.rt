@@ -4,8 +4,8 @@
 
 ghost use Rattle.std.specs.Prelude.{◌≡◌, ◌<◌, Some, false, [], ◌∷◌, drop, if◌then◌else◌};
 ghost use Rattle.version_core.specs.Token.{is_allowed_before_suffix_or_hash, is_allowed_before_revision, is_component, is_suffix};
-ghost use Rattle.version_core.specs.Order.{class_rank, is_last_token_class, token_cmp, tokens, tokens_after_class_skipping_bytes};
-ghost use Rattle.version_core.specs.Matching.{fits};
+ghost use Rattle.version_core.specs.Order.{class_rank, is_end_or_stray_class, token_cmp, tokens, tokens_after_class_skipping_bytes};
+ghost use Rattle.version_core.specs.Matching.{is_wanted_token_met_by};
 ghost use Rattle.version_core.specs.Reading.{bytes_left, token_view, tokens_left, unread_len};
 
 use crate::lexeme::{behind, compare_hex_digits, leading_hex_digits, lexeme_at};
@@ -45,8 +45,8 @@ impl Class {
     }
 
     /// Whether no token follows a token of this class.
-    pub fn is_last_token_class(self) -> bool
-        ensures { result ≡ is_last_token_class self }
+    pub fn is_end_or_stray_class(self) -> bool
+        ensures { result ≡ is_end_or_stray_class self }
     {
         matches!(self, Class::End | Class::Stray)
     }
@@ -113,9 +113,9 @@ impl TokenAt<'_> {
     }
 
     /// Whether the token `found` fits this token, which is wanted, in a fuzzy match.
-    #[tactic(auto, unfolding(crate::specs::Matching::fits))]
+    #[tactic(auto, unfolding(crate::specs::Matching::is_wanted_token_met_by))]
     pub fn fits(&self, found: &TokenAt<'_>) -> bool
-        ensures { result ≡ fits (token_view self.now) (token_view found.now) }
+        ensures { result ≡ is_wanted_token_met_by (token_view self.now) (token_view found.now) }
     {
         // Two components that are compared as text: the found text begins with the wanted one.
         if self.class == Class::ZeroComponent && found.class == Class::ZeroComponent {
@@ -166,9 +166,9 @@ impl<'a> Tokens<'a> {
         // The tokens that were left are the result and those that are left now.
         ensures tokens { tokens_left self.old
             ≡ token_view result ∷
-            (if is_last_token_class result.class then [] else tokens_left self.new) }
+            (if is_end_or_stray_class result.class then [] else tokens_left self.new) }
         // Fewer bytes are left than before, so that a loop ends.
-        ensures shorter { is_last_token_class result.class ≡ false
+        ensures shorter { is_end_or_stray_class result.class ≡ false
             → bytes_left self.new < bytes_left self.old }
     {
         // The text after the last token.

@@ -2,7 +2,7 @@
 //! "Versions"; the operators and their match bits below "An operator has four bits".
 
 ghost use Rattle.std.specs.Prelude.{◌≡◌, IfSome, IsTrue, is_some};
-ghost use Rattle.version_core.specs.Op.{is_operator_bits};
+ghost use Rattle.version_core.specs.Op.{are_match_bits_below_16_except_6_and_14};
 ghost use Rattle.version_core.specs.Order.{is_version, tokens, version_cmp};
 ghost use Rattle.version_core.specs.Matching.{has_bit, operator_if_bits, matches};
 
@@ -34,7 +34,7 @@ pub struct Op {
 
 impl Model for Op {
     ghost use Rattle.std.specs.Prelude.{ℕ, IsTrue};
-    ghost use Rattle.version_core.specs.Op.{is_operator_bits};
+    ghost use Rattle.version_core.specs.Op.{are_match_bits_below_16_except_6_and_14};
 
     // Contracts see an operator as its match bits.
     ghost Value = { ℕ };
@@ -42,7 +42,7 @@ impl Model for Op {
     ghost view = { λ op. op.bits };
 
     // The bits are those of an operator.
-    ghost invariant = { λ op. IsTrue (is_operator_bits op.bits) };
+    ghost invariant = { λ op. IsTrue (are_match_bits_below_16_except_6_and_14 op.bits) };
 
     // The operator that has these bits.
     ghost inverse = { λ bits. record { bits = bits } };
@@ -64,7 +64,7 @@ impl Op {
     pub fn bits(self) -> u8
         ensures bits { result ≡ self }
         // The bits are those of an operator.
-        ensures op { IsTrue (is_operator_bits self) }
+        ensures op { IsTrue (are_match_bits_below_16_except_6_and_14 self) }
     {
         self.bits
     }

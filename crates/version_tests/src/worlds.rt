@@ -4,7 +4,7 @@
 
 use base_core::Words;
 use dep_core::{
-    Dep, Repos, ReposFault, World, WorldFault, dep_of, dep_text, is_dep_name, is_package_name,
+    Dep, Repos, ReposFault, World, WorldFault, dep_of, dep_text, is_dependency_name_by_bytes_and_length, is_package_name,
     read_dep,
 };
 use row_lines::{add_number, add_word, add_yes_or_no, number_of, word_at};
@@ -159,5 +159,5 @@ pub(crate) fn is_name(words: &Words) -> bool {
     if word_at(words, 0) == b"package".as_slice() {
         return is_package_name(word_at(words, 1));
     }
-    is_dep_name(word_at(words, 1))
+    is_dependency_name_by_bytes_and_length(word_at(words, 1))
 }

@@ -16,9 +16,9 @@ use Rattle.words_core.specs.declared.options.Meaning.TheVariants.{Flag as Plain}
 use Rattle.words_core.specs.declared.reading.AppletSite.{AppletSite}
 use Rattle.words_core.specs.declared.reading.OptionState.{OptionState}
 use Rattle.words_core.specs.declared.reading.Start.{Start}
-use Rattle.words_core.specs.Grammar.{applet_site, spelled_command_by_start, spelled_command, command_from_end_place_and_reading, flags_with_early_options, option_state_at_start, is_double_dash, is_option, start_of_command_line, words_as_operands_from_place, reading_of_words_from_place, reading_of_rest_of_command_words, words_reading_from_parts, applet_site_of_word, applet_site_after_double_dash, applet_site_from_parts, start_from_parts, start_by_applet_site, start_with_early_flags, command_of_reading_with_end_place, flags_with_meaning, flags_with_option_word, flags_with_option}
+use Rattle.words_core.specs.Grammar.{applet_site, spelled_command_by_start, spelled_command, command_from_end_place_and_reading, flags_with_options_before_applet, option_state_at_start, is_double_dash, is_option_or_double_dash, start_of_command_line, words_as_operands_from_place, reading_of_words_from_place, reading_of_rest_of_command_words, words_reading_from_parts, applet_site_of_word, applet_site_after_double_dash, applet_site_from_ended_read_applet, start_from_parts, start_by_applet_site, start_with_flags_before_applet, command_of_reading_with_end_place, flags_with_meaning_if_one_command_kind, flags_with_option_word_if_one_command_kind, flags_with_option_if_one_command_kind}
 use Rattle.words_core.specs.Kinds.{can_info_kind_follow}
-use Rattle.words_core.specs.Options.{OptionSpec, applets, common_options, early_option_words, is_early_option_word, option_of_word, options_of}
+use Rattle.words_core.specs.Options.{OptionSpec, applets, common_options, option_words_that_may_precede_applet, is_option_word_that_may_precede_applet, option_of_word, options_of}
 use Rattle.words_core.specs.Stuck.{is_stuck_by, are_options_of}
 use Rattle.words_core.proofs.LinesRead.{by_early}
 use Rattle.words_core.proofs.KindCompleted.{kind_completes}
@@ -55,40 +55,40 @@ is_as_add applet word = says_same (option_of_word (options_of applet) word) (opt
 abbrev other_applets : List Applet
 other_applets = drop 2 applets
 
-today : list_all (λ applet. list_all (is_as_add applet) early_option_words) other_applets ≡ true
-unfolding common_options options_of early_option_words
+today : list_all (λ applet. list_all (is_as_add applet) option_words_that_may_precede_applet) other_applets ≡ true
+unfolding common_options options_of option_words_that_may_precede_applet
 today = refl
 
-same_flags : (flags more : Flags) (a b : Meaning) → is_same_meaning a b ≡ true → flags_with_meaning flags a ≡ Some more → flags_with_meaning flags b ≡ Some more
+same_flags : (flags more : Flags) (a b : Meaning) → is_same_meaning a b ≡ true → flags_with_meaning_if_one_command_kind flags a ≡ Some more → flags_with_meaning_if_one_command_kind flags b ≡ Some more
 same_flags flags more (Plain AllowUntrusted) (Plain AllowUntrusted) s h = h
 same_flags flags more (Plain NoScripts) (Plain NoScripts) s h = h
 same_flags flags more (Plain Initdb) (Plain Initdb) s h = h
 same_flags flags more (Plain Simulate) (Plain Simulate) s h = h
 same_flags flags more a b s h = absurd (false≢true s)
 
-same_option : (flags more : Flags) (o v : Option OptionSpec) → says_same o v ≡ true → option_and_then (flags_with_option flags) o ≡ Some more → option_and_then (flags_with_option flags) v ≡ Some more
+same_option : (flags more : Flags) (o v : Option OptionSpec) → says_same o v ≡ true → option_and_then (flags_with_option_if_one_command_kind flags) o ≡ Some more → option_and_then (flags_with_option_if_one_command_kind flags) v ≡ Some more
 same_option flags more None v s h = absurd (none-some more h)
 same_option flags more (Some o) None s h = absurd (false≢true s)
 same_option flags more (Some o) (Some v) s h = same_flags flags more o.meaning v.meaning s h
 
 -- options before the applet that are an applet's are those of `add` too
 abbrev IsSuited : Applet → Flags → ℕ → List (List ℕ) → Type 0
-IsSuited applet flags place words = (more : Flags) × (flags_with_early_options (options_of applet) flags place words ≡ Ok more)
+IsSuited applet flags place words = (more : Flags) × (flags_with_options_before_applet (options_of applet) flags place words ≡ Ok more)
 
-suited : (applet : Applet) (flags : Flags) (place : ℕ) (words : List (List ℕ)) → list_all (is_as_add applet) early_option_words ≡ true → applet_site place words ≡ Err (place + length words) → IsSuited applet flags place words → IsSuited Add flags place words
+suited : (applet : Applet) (flags : Flags) (place : ℕ) (words : List (List ℕ)) → list_all (is_as_add applet) option_words_that_may_precede_applet ≡ true → applet_site place words ≡ Err (place + length words) → IsSuited applet flags place words → IsSuited Add flags place words
 suited applet flags place [] each s f = (flags, refl)
 suited applet flags place (word ∷ words) each s f =
     let next : place + length (word ∷ words) ≡ place + 1 + length words = omega arith in
     elim (is_double_dash word) as (λ b. is_double_dash word ≡ b → IsSuited Add flags place (word ∷ words)) [
       | true ↦ λ e. (flags, flags_end (options_of Add) flags place word words e)
-      | false ↦ λ e. elim (is_option word) as (λ b. is_option word ≡ b → IsSuited Add flags place (word ∷ words)) [
+      | false ↦ λ e. elim (is_option_or_double_dash word) as (λ b. is_option_or_double_dash word ≡ b → IsSuited Add flags place (word ∷ words)) [
         | false ↦ λ o. absurd (let same : place + length (word ∷ words) ≡ place = err_here place (place + length (word ∷ words)) false word (sym (seek_here place word words e o) ∙ s) in omega arith)
-        | true ↦ λ o. elim (is_early_option_word word) as (λ b. is_early_option_word word ≡ b → IsSuited Add flags place (word ∷ words)) [
+        | true ↦ λ o. elim (is_option_word_that_may_precede_applet word) as (λ b. is_option_word_that_may_precede_applet word ≡ b → IsSuited Add flags place (word ∷ words)) [
           | false ↦ λ y. absurd (let same : Err place ≡ Err (place + length (word ∷ words)) = sym (seek_late place word words e o y) ∙ s in let is : place ≡ place + length (word ∷ words) = cc in omega arith)
-          | true ↦ λ y. elim (flags_with_option_word (options_of applet) flags word) as (λ m. flags_with_option_word (options_of applet) flags word ≡ m → IsSuited Add flags place (word ∷ words)) [
+          | true ↦ λ y. elim (flags_with_option_word_if_one_command_kind (options_of applet) flags word) as (λ m. flags_with_option_word_if_one_command_kind (options_of applet) flags word ≡ m → IsSuited Add flags place (word ∷ words)) [
             | None ↦ λ m. absurd (let none : Err place ≡ Ok f.0 = sym (flags_step (options_of applet) flags place word words None e m) ∙ f.1 in cc)
             | Some g ↦ λ m.
-                let same : flags_with_option_word (options_of Add) flags word ≡ Some g = same_option flags g (option_of_word (options_of applet) word) (option_of_word (options_of Add) word) (by_early (is_as_add applet) word each y) m in
+                let same : flags_with_option_word_if_one_command_kind (options_of Add) flags word ≡ Some g = same_option flags g (option_of_word (options_of applet) word) (option_of_word (options_of Add) word) (by_early (is_as_add applet) word each y) m in
                 let rest = suited applet g (place + 1) words each (sym (seek_early place word words e o y) ∙ (s ∙ ap Err next)) (f.0, sym (flags_step (options_of applet) flags place word words (Some g) e m) ∙ f.1) in
                 (rest.0, flags_step (options_of Add) flags place word words (Some g) e same ∙ rest.1)
           ] refl
@@ -96,11 +96,11 @@ suited applet flags place (word ∷ words) each s f =
       ] refl
     ] refl
 
-any_suits : (words : List (List ℕ)) (xs : List Applet) → list_all (λ applet. list_all (is_as_add applet) early_option_words) xs ≡ true → applet_site 1 words ≡ Err (1 + length words) → list_any (are_options_of words) xs ≡ true → IsSuited Add no_flags 1 words
+any_suits : (words : List (List ℕ)) (xs : List Applet) → list_all (λ applet. list_all (is_as_add applet) option_words_that_may_precede_applet) xs ≡ true → applet_site 1 words ≡ Err (1 + length words) → list_any (are_options_of words) xs ≡ true → IsSuited Add no_flags 1 words
 any_suits words [] each s h = absurd (false≢true h)
 any_suits words (x ∷ xs) each s h =
-    let parts = and_parts (list_all (is_as_add x) early_option_words) (list_all (λ applet. list_all (is_as_add applet) early_option_words) xs) each in
-    elim (flags_with_early_options (options_of x) no_flags 1 words) as (λ r. flags_with_early_options (options_of x) no_flags 1 words ≡ r → (is_ok r || list_any (are_options_of words) xs) ≡ true → IsSuited Add no_flags 1 words) [
+    let parts = and_parts (list_all (is_as_add x) option_words_that_may_precede_applet) (list_all (λ applet. list_all (is_as_add applet) option_words_that_may_precede_applet) xs) each in
+    elim (flags_with_options_before_applet (options_of x) no_flags 1 words) as (λ r. flags_with_options_before_applet (options_of x) no_flags 1 words ≡ r → (is_ok r || list_any (are_options_of words) xs) ≡ true → IsSuited Add no_flags 1 words) [
       | Ok more ↦ λ f h. suited x no_flags 1 words parts.0 s (more, f)
       | Err at ↦ λ f h. any_suits words xs parts.1 s h
     ] refl h
@@ -108,9 +108,9 @@ any_suits words (x ∷ xs) each s h =
 -- they are those of `add`, or of `del`
 one_suits : (words : List (List ℕ)) → applet_site 1 words ≡ Err (1 + length words) → list_any (are_options_of words) applets ≡ true → IsSuited Add no_flags 1 words ⊎ IsSuited Del no_flags 1 words
 one_suits words s h =
-    elim (flags_with_early_options (options_of Add) no_flags 1 words) as (λ r. flags_with_early_options (options_of Add) no_flags 1 words ≡ r → (is_ok r || (are_options_of words Del || list_any (are_options_of words) other_applets)) ≡ true → IsSuited Add no_flags 1 words ⊎ IsSuited Del no_flags 1 words) [
+    elim (flags_with_options_before_applet (options_of Add) no_flags 1 words) as (λ r. flags_with_options_before_applet (options_of Add) no_flags 1 words ≡ r → (is_ok r || (are_options_of words Del || list_any (are_options_of words) other_applets)) ≡ true → IsSuited Add no_flags 1 words ⊎ IsSuited Del no_flags 1 words) [
       | Ok more ↦ λ f h. inl (more, f)
-      | Err at ↦ λ f h. elim (flags_with_early_options (options_of Del) no_flags 1 words) as (λ r. flags_with_early_options (options_of Del) no_flags 1 words ≡ r → (is_ok r || list_any (are_options_of words) other_applets) ≡ true → IsSuited Add no_flags 1 words ⊎ IsSuited Del no_flags 1 words) [
+      | Err at ↦ λ f h. elim (flags_with_options_before_applet (options_of Del) no_flags 1 words) as (λ r. flags_with_options_before_applet (options_of Del) no_flags 1 words ≡ r → (is_ok r || list_any (are_options_of words) other_applets) ≡ true → IsSuited Add no_flags 1 words ⊎ IsSuited Del no_flags 1 words) [
         | Ok more ↦ λ g h. inr (more, g)
         | Err at ↦ λ g h. inl (any_suits words other_applets today s h)
       ] refl h
@@ -125,15 +125,15 @@ one_good state place end = judged_good Del (words_reading_from_parts state (oper
 -- ---- an applet behind words that lack it: its word, and operands behind it
 
 module _ (applet : Applet) (named : List ℕ) (operands : List (List ℕ))
-    (here : (place : ℕ) → applet_site place (named ∷ operands) ≡ Ok (applet_site_from_parts false place applet))
-    (after_end : (place : ℕ) → applet_site_after_double_dash place (named ∷ operands) ≡ Ok (applet_site_from_parts true place applet))
+    (here : (place : ℕ) → applet_site place (named ∷ operands) ≡ Ok (applet_site_from_ended_read_applet false place applet))
+    (after_end : (place : ℕ) → applet_site_after_double_dash place (named ∷ operands) ≡ Ok (applet_site_from_ended_read_applet true place applet))
     (texts : AreTexts operands) (good : (state : OptionState) (place : ℕ) → IsJudgedGood applet (words_reading_from_parts state (words_as_operands_from_place place operands) None)) where
   abbrev more : List (List ℕ)
   more = named ∷ operands
 
   -- the words before the applet, whether or not the options have ended
   abbrev IsSought : ℕ → List (List ℕ) → Type 0
-  IsSought place words = (ended : Bool) × (applet_site place (words ++ more) ≡ Ok (applet_site_from_parts ended (place + length words) applet))
+  IsSought place words = (ended : Bool) × (applet_site place (words ++ more) ≡ Ok (applet_site_from_ended_read_applet ended (place + length words) applet))
 
   end_sought : (place : ℕ) (word : List ℕ) (words : List (List ℕ)) → is_double_dash word ≡ true → applet_site_after_double_dash (place + 1) words ≡ Err (place + length (word ∷ words)) → IsSought place (word ∷ words)
   unfolding applet_site_after_double_dash applet_site_of_word
@@ -141,16 +141,16 @@ module _ (applet : Applet) (named : List ℕ) (operands : List (List ℕ))
   end_sought place word (next ∷ words) e h = absurd (let same : place + length (word ∷ (next ∷ words)) ≡ place + 1 = err_here (place + 1) (place + length (word ∷ (next ∷ words))) true next h in omega arith)
 
   sought : (place : ℕ) (words : List (List ℕ)) → applet_site place words ≡ Err (place + length words) → IsSought place words
-  sought place [] h = (false, here place ∙ (let same : place ≡ place + 0 = omega arith in ap (λ k. Ok (applet_site_from_parts false k applet)) same))
+  sought place [] h = (false, here place ∙ (let same : place ≡ place + 0 = omega arith in ap (λ k. Ok (applet_site_from_ended_read_applet false k applet)) same))
   sought place (word ∷ words) h =
       let next : place + length (word ∷ words) ≡ place + 1 + length words = omega arith in
       elim (is_double_dash word) as (λ b. is_double_dash word ≡ b → IsSought place (word ∷ words)) [
         | true ↦ λ e. end_sought place word words e (sym (seek_end place word words e) ∙ h)
-        | false ↦ λ e. elim (is_option word) as (λ b. is_option word ≡ b → IsSought place (word ∷ words)) [
-          | true ↦ λ o. elim (is_early_option_word word) as (λ b. is_early_option_word word ≡ b → IsSought place (word ∷ words)) [
+        | false ↦ λ e. elim (is_option_or_double_dash word) as (λ b. is_option_or_double_dash word ≡ b → IsSought place (word ∷ words)) [
+          | true ↦ λ o. elim (is_option_word_that_may_precede_applet word) as (λ b. is_option_word_that_may_precede_applet word ≡ b → IsSought place (word ∷ words)) [
             | false ↦ λ y. absurd (let same : Err place ≡ Err (place + length (word ∷ words)) = sym (seek_late place word words e o y) ∙ h in let is : place ≡ place + length (word ∷ words) = cc in omega arith)
             | true ↦ λ y. (let rest = sought (place + 1) words (sym (seek_early place word words e o y) ∙ (h ∙ ap Err next)) in
-                (rest.0, seek_early place word (words ++ more) e o y ∙ (rest.1 ∙ ap (λ k. Ok (applet_site_from_parts rest.0 k applet)) (sym next))))
+                (rest.0, seek_early place word (words ++ more) e o y ∙ (rest.1 ∙ ap (λ k. Ok (applet_site_from_ended_read_applet rest.0 k applet)) (sym next))))
           ] refl
           | false ↦ λ o. absurd (let same : place + length (word ∷ words) ≡ place = err_here place (place + length (word ∷ words)) false word (sym (seek_here place word words e o) ∙ h) in omega arith)
         ] refl
@@ -174,32 +174,32 @@ module _ (applet : Applet) (named : List ℕ) (operands : List (List ℕ))
   unfolding spelled_command
   completed_by words h flags =
       let found = sought 1 words h in
-      let site : AppletSite = applet_site_from_parts found.0 (1 + length words) applet in
+      let site : AppletSite = applet_site_from_ended_read_applet found.0 (1 + length words) applet in
       let start : Start = start_from_parts site flags.0 in
       let reading = words_reading_from_parts (option_state_at_start flags.0) (words_as_operands_from_place (1 + length words + 1) operands) None in
       let before : 1 + length words - 1 ≡ length words = omega arith in
-      let early : flags_with_early_options (options_of applet) no_flags 1 (take (1 + length words - 1) (words ++ more)) ≡ Ok flags.0 =
-      ap (λ n. flags_with_early_options (options_of applet) no_flags 1 (take n (words ++ more))) before
-      ∙ (ap (flags_with_early_options (options_of applet) no_flags 1) (take_stays (length words) words more (omega arith) ∙ take_all words) ∙ flags.1) in
-      let is : start_of_command_line (words ++ more) ≡ Ok start = ap (start_by_applet_site (words ++ more)) found.1 ∙ ap (start_with_early_flags site) early in (
+      let early : flags_with_options_before_applet (options_of applet) no_flags 1 (take (1 + length words - 1) (words ++ more)) ≡ Ok flags.0 =
+      ap (λ n. flags_with_options_before_applet (options_of applet) no_flags 1 (take n (words ++ more))) before
+      ∙ (ap (flags_with_options_before_applet (options_of applet) no_flags 1) (take_stays (length words) words more (omega arith) ∙ take_all words) ∙ flags.1) in
+      let is : start_of_command_line (words ++ more) ≡ Ok start = ap (start_by_applet_site (words ++ more)) found.1 ∙ ap (start_with_flags_before_applet site) early in (
         more,
         command_from_end_place_and_reading (length (words ++ more) + 1) applet reading,
         ap (spelled_command_by_start (words ++ more)) is ∙ (ap (command_of_reading_with_end_place (length (words ++ more) + 1) applet) (from_named start words refl refl) ∙ good (option_state_at_start flags.0) (1 + length words + 1) (length (words ++ more) + 1)),
       )
 
-add_here : (place : ℕ) → applet_site place (codes "add" ∷ []) ≡ Ok (applet_site_from_parts false place Add)
+add_here : (place : ℕ) → applet_site place (codes "add" ∷ []) ≡ Ok (applet_site_from_ended_read_applet false place Add)
 unfolding applet_site_of_word
 add_here place = refl
 
-add_after : (place : ℕ) → applet_site_after_double_dash place (codes "add" ∷ []) ≡ Ok (applet_site_from_parts true place Add)
+add_after : (place : ℕ) → applet_site_after_double_dash place (codes "add" ∷ []) ≡ Ok (applet_site_from_ended_read_applet true place Add)
 unfolding applet_site_of_word applet_site_after_double_dash
 add_after place = refl
 
-del_here : (place : ℕ) → applet_site place (codes "del" ∷ (codes "a" ∷ [])) ≡ Ok (applet_site_from_parts false place Del)
+del_here : (place : ℕ) → applet_site place (codes "del" ∷ (codes "a" ∷ [])) ≡ Ok (applet_site_from_ended_read_applet false place Del)
 unfolding applet_site_of_word
 del_here place = refl
 
-del_after : (place : ℕ) → applet_site_after_double_dash place (codes "del" ∷ (codes "a" ∷ [])) ≡ Ok (applet_site_from_parts true place Del)
+del_after : (place : ℕ) → applet_site_after_double_dash place (codes "del" ∷ (codes "a" ∷ [])) ≡ Ok (applet_site_from_ended_read_applet true place Del)
 unfolding applet_site_of_word applet_site_after_double_dash
 del_after place = refl
 

@@ -8,14 +8,14 @@ use Rattle.std.proofs.lemmas.List.{length-take-le}
 use Rattle.std.proofs.lemmas.Option.{none-some, same_Some}
 use Rattle.command_core.specs.declared.command.Applet.{Applet}
 use Rattle.command_core.specs.declared.command.Applet.TheVariants.{Help, ProgramVersion}
-use Rattle.command_core.specs.Command.{CommandLine, command_from_parts}
+use Rattle.command_core.specs.Command.{CommandLine, command_from_parts_and_end_place}
 use Rattle.command_core.specs.Flags.{no_flags}
 use Rattle.command_core.specs.Sound.{is_valid_command}
 use Rattle.command_core.specs.declared.operands.Operand.{Operand}
 use Rattle.command_core.specs.Operands.{operand_at}
 use Rattle.words_core.specs.declared.reading.AppletSite.{AppletSite}
 use Rattle.words_core.specs.Asked.{IsHelpOrVersionAskedBy}
-use Rattle.words_core.specs.Grammar.{applet_site, help_or_version_option_at, help_or_version_command, help_or_version_or_err, spelled_command_by_start, command_of, spelled_command, start_of_command_line, next_word_of_command_line, spelled_command_or_help_or_version, can_be_option, help_topic_operands}
+use Rattle.words_core.specs.Grammar.{applet_site, help_or_version_option_at, command_with_help_or_version_applet, help_or_version_or_err, spelled_command_by_start, command_of, spelled_command, start_of_command_line, next_word_of_command_line, command_else_help_or_version_at_error, can_be_option, help_topic_operands}
 use Rattle.words_core.specs.Kinds.{can_info_kind_follow}
 use Rattle.words_core.specs.Lines.{AreWordsOfCommand}
 use Rattle.words_core.specs.Options.{applet_word, applet_of_help_or_version_option}
@@ -38,9 +38,9 @@ pub record IsAskedAt (words : List (List ℕ)) (command : CommandLine) : Type 0 
   pub applet : Applet
   pub offends : spelled_command words ≡ Err place
   pub asked : help_or_version_option_at words place ≡ Some applet
-  pub is : help_or_version_command words applet ≡ command
+  pub is : command_with_help_or_version_applet words applet ≡ command
 
-pub asked_command_is : (words : List (List ℕ)) (place : ℕ) (applet : Applet) → spelled_command words ≡ Err place → help_or_version_option_at words place ≡ Some applet → command_of words ≡ Ok (help_or_version_command words applet)
+pub asked_command_is : (words : List (List ℕ)) (place : ℕ) (applet : Applet) → spelled_command words ≡ Err place → help_or_version_option_at words place ≡ Some applet → command_of words ≡ Ok (command_with_help_or_version_applet words applet)
 unfolding command_of
 asked_command_is words place applet e a = rw e (rw a refl)
 
@@ -55,22 +55,22 @@ unasked_is words place e a = rw e (rw a refl)
 pub offends_unasked : (words : List (List ℕ)) (place : ℕ) → command_of words ≡ Err place → IsUnasked words place
 unfolding command_of
 offends_unasked words place c =
-    elim (spelled_command words) as (λ r. spelled_command words ≡ r → spelled_command_or_help_or_version words r ≡ Err place → IsUnasked words place) [
+    elim (spelled_command words) as (λ r. spelled_command words ≡ r → command_else_help_or_version_at_error words r ≡ Err place → IsUnasked words place) [
       | Ok command ↦ λ e (h : Ok command ≡ Err place). absurd (cc)
       | Err at ↦ λ e. elim (help_or_version_option_at words at) as (λ o. help_or_version_option_at words at ≡ o → help_or_version_or_err words at o ≡ Err place → IsUnasked words place) [
         | None ↦ λ a (h : Err at ≡ Err place). (let same : at ≡ place = cc in subst (λ p. IsUnasked words p) same (record { offends = e; unasked = a }))
-        | Some applet ↦ λ a (h : Ok (help_or_version_command words applet) ≡ Err place). absurd (cc)
+        | Some applet ↦ λ a (h : Ok (command_with_help_or_version_applet words applet) ≡ Err place). absurd (cc)
       ] refl
     ] refl c
 
 pub line_or_asked : (words : List (List ℕ)) (command : CommandLine) → command_of words ≡ Ok command → (spelled_command words ≡ Ok command) ⊎ IsAskedAt words command
 unfolding command_of
 line_or_asked words command c =
-    elim (spelled_command words) as (λ r. spelled_command words ≡ r → spelled_command_or_help_or_version words r ≡ Ok command → (spelled_command words ≡ Ok command) ⊎ IsAskedAt words command) [
+    elim (spelled_command words) as (λ r. spelled_command words ≡ r → command_else_help_or_version_at_error words r ≡ Ok command → (spelled_command words ≡ Ok command) ⊎ IsAskedAt words command) [
       | Ok spelled ↦ λ e (h : Ok spelled ≡ Ok command). inl (e ∙ h)
       | Err at ↦ λ e. elim (help_or_version_option_at words at) as (λ o. help_or_version_option_at words at ≡ o → help_or_version_or_err words at o ≡ Ok command → (spelled_command words ≡ Ok command) ⊎ IsAskedAt words command) [
         | None ↦ λ a (h : Err at ≡ Ok command). absurd (cc)
-        | Some applet ↦ λ a (h : Ok (help_or_version_command words applet) ≡ Ok command). (let same : help_or_version_command words applet ≡ command = cc in inr (record { place = at; applet = applet; offends = e; asked = a; is = same }))
+        | Some applet ↦ λ a (h : Ok (command_with_help_or_version_applet words applet) ≡ Ok command). (let same : command_with_help_or_version_applet words applet ≡ command = cc in inr (record { place = at; applet = applet; offends = e; asked = a; is = same }))
       ] refl
     ] refl c
 
@@ -104,7 +104,7 @@ asked_line words command a = subst (λ c. IsHelpOrVersionAskedBy words c) a.is h
     parts : HasAsked words a.place a.applet
     parts = asked_parts words a.place a.applet a.asked
 
-    here : IsHelpOrVersionAskedBy words (help_or_version_command words a.applet)
+    here : IsHelpOrVersionAskedBy words (command_with_help_or_version_applet words a.applet)
     here = record {
       before = take (a.place - 1) words;
       word = parts.word;
@@ -176,7 +176,7 @@ asked_offends words more place applet e a =
     let longer : words ++ more ≡ before ++ (parts.word ∷ (parts.after ++ more)) = ap (λ ws. ws ++ more) parts.whole ∙ append_assoc before (parts.word ∷ parts.after) more in
     ap spelled_command longer ∙ same_fault before parts.after (parts.after ++ more) parts.word place (asking parts.word applet parts.asks) parts.option (sym (ap spelled_command parts.whole) ∙ e)
 
-pub asked_on : (words more : List (List ℕ)) (place : ℕ) (applet : Applet) → spelled_command words ≡ Err place → help_or_version_option_at words place ≡ Some applet → command_of (words ++ more) ≡ Ok (help_or_version_command (words ++ more) applet)
+pub asked_on : (words more : List (List ℕ)) (place : ℕ) (applet : Applet) → spelled_command words ≡ Err place → help_or_version_option_at words place ≡ Some applet → command_of (words ++ more) ≡ Ok (command_with_help_or_version_applet (words ++ more) applet)
 asked_on words more place applet e a =
     asked_command_is (words ++ more) place applet (asked_offends words more place applet e a) (asked_stays words more place (asked_parts words place applet a).within ∙ a)
 
@@ -185,7 +185,7 @@ offends_after_words words more command place k c d = by_parts (line_or_asked wor
   where
     by_parts : (spelled_command words ≡ Ok command) ⊎ IsAskedAt words command → length words < place
     by_parts (inl e) = offends_after words more command place k e (offends_unasked (words ++ more) place d).offends
-    by_parts (inr a) = absurd (let both : Ok (help_or_version_command (words ++ more) a.applet) ≡ Err place = sym (asked_on words more a.place a.applet a.offends a.asked) ∙ d in cc)
+    by_parts (inr a) = absurd (let both : Ok (command_with_help_or_version_applet (words ++ more) a.applet) ≡ Err place = sym (asked_on words more a.place a.applet a.offends a.asked) ∙ d in cc)
 
 -- ---- what words ask for is a command
 
@@ -199,19 +199,19 @@ one_of_both word applet h =
       ]
     ] h
 
-help_sound : (words : List (List ℕ)) → is_valid_command (help_or_version_command words Help) ≡ true
+help_sound : (words : List (List ℕ)) → is_valid_command (command_with_help_or_version_applet words Help) ≡ true
 help_sound words =
-    elim (applet_site 1 words) as (λ s. is_valid_command (command_from_parts Help no_flags (help_topic_operands s) [] (length words + 1)) ≡ true) [
+    elim (applet_site 1 words) as (λ s. is_valid_command (command_from_parts_and_end_place Help no_flags (help_topic_operands s) [] (length words + 1)) ≡ true) [
       | Err place ↦ refl
       | Ok site ↦ refl
     ]
 
-pub asked_sound : (words : List (List ℕ)) (place : ℕ) (applet : Applet) → help_or_version_option_at words place ≡ Some applet → is_valid_command (help_or_version_command words applet) ≡ true
+pub asked_sound : (words : List (List ℕ)) (place : ℕ) (applet : Applet) → help_or_version_option_at words place ≡ Some applet → is_valid_command (command_with_help_or_version_applet words applet) ≡ true
 asked_sound words place applet a =
     let parts = asked_parts words place applet a in
-    elim (one_of_both parts.word applet parts.asks) as (λ _. is_valid_command (help_or_version_command words applet) ≡ true) [
-      | inl is ↦ subst (λ x. is_valid_command (help_or_version_command words x) ≡ true) is (help_sound words)
-      | inr is ↦ subst (λ x. is_valid_command (help_or_version_command words x) ≡ true) is refl
+    elim (one_of_both parts.word applet parts.asks) as (λ _. is_valid_command (command_with_help_or_version_applet words applet) ≡ true) [
+      | inl is ↦ subst (λ x. is_valid_command (command_with_help_or_version_applet words x) ≡ true) is (help_sound words)
+      | inr is ↦ subst (λ x. is_valid_command (command_with_help_or_version_applet words x) ≡ true) is refl
     ]
 
 -- where an applet was found before the word that asks, its own options stand before it

@@ -10,12 +10,12 @@ use Rattle.command_core.specs.declared.command.Applet.{Applet}
 use Rattle.command_core.specs.declared.operands.Operand.{Operand}
 use Rattle.command_core.specs.declared.operands.OperandRule.{OperandRule}
 use Rattle.command_core.specs.declared.values.ValueRule.{ValueRule}
-use Rattle.command_core.specs.Applets.{operand_rule}
-use Rattle.command_core.specs.Operands.{first_refused_operand}
+use Rattle.command_core.specs.Applets.{operand_rule_if_needed_kind_flag_given}
+use Rattle.command_core.specs.Operands.{place_of_first_refused_operand}
 use Rattle.words_core.specs.declared.next.NextWord.TheVariants.{OptionOrOperand, Operand as OperandAlone, Value as NextValue}
 use Rattle.words_core.specs.declared.reading.Reading.{Reading}
 use Rattle.words_core.specs.declared.reading.Start.{Start}
-use Rattle.words_core.specs.Grammar.{help_or_version_option_at, spelled_command_by_start, option_state_at_start, spelled_command, start_of_command_line, next_word_of_command_line, next_word_after_words, words_as_operands_from_place, reading_of_words_from_place, reading_of_rest_of_command_words, words_reading_from_parts, place_of_refused_operand, start_by_applet_site, can_be_option}
+use Rattle.words_core.specs.Grammar.{help_or_version_option_at, spelled_command_by_start, option_state_at_start, spelled_command, start_of_command_line, next_word_of_command_line, next_word_after_words, words_as_operands_from_place, reading_of_words_from_place, reading_of_rest_of_command_words, words_reading_from_parts, place_of_first_operand_refused_by_rule, start_by_applet_site, can_be_option}
 use Rattle.words_core.specs.Options.{OptionSpec, applet_of_help_or_version_option, options_of}
 use Rattle.words_core.specs.Stuck.{have_options_ended}
 use Rattle.words_core.proofs.Asked.{HasNoMeaning, asks_first, asks_now, awaited_next, ended_alone, found_next, next_at, next_behind, operand_stays}
@@ -66,11 +66,11 @@ awaited_after words start rule l a u =
 
 -- the first that offends in what was read, and before the end of the words
 abbrev pub IsBad : ℕ → Applet → Reading → Type 0
-IsBad end applet reading = (at : ℕ) × (option_or (place_of_refused_operand (operand_rule applet reading.state.flags) reading.operands) reading.unread ≡ Some at) × (at < end)
+IsBad end applet reading = (at : ℕ) × (option_or (place_of_first_operand_refused_by_rule (operand_rule_if_needed_kind_flag_given applet reading.state.flags) reading.operands) reading.unread ≡ Some at) × (at < end)
 
 -- nothing offends in what was read
 pub record IsFree (applet : Applet) (reading : Reading) : Type 0 where
-  pub operands : place_of_refused_operand (operand_rule applet reading.state.flags) reading.operands ≡ None
+  pub operands : place_of_first_operand_refused_by_rule (operand_rule_if_needed_kind_flag_given applet reading.state.flags) reading.operands ≡ None
   pub unread : reading.unread ≡ None
 
 -- what is read of the words before a word that asks, with it: the same offends, or it does
@@ -80,10 +80,10 @@ IsAskedIn end applet reading longer =
     ⊎ ((reading.unread ≡ None) × (longer ≡ words_reading_from_parts reading.state reading.operands (Some end)))
 
 -- the first that offends, where a word cannot be read
-pub first_near : (low end : ℕ) (rule : Option OperandRule) (operands : List Operand) (at : ℕ) → AllBetween low end operands → at < end → (p : ℕ) × (option_or (place_of_refused_operand rule operands) (Some at) ≡ Some p) × (p < end)
+pub first_near : (low end : ℕ) (rule : Option OperandRule) (operands : List Operand) (at : ℕ) → AllBetween low end operands → at < end → (p : ℕ) × (option_or (place_of_first_operand_refused_by_rule rule operands) (Some at) ≡ Some p) × (p < end)
 first_near low end None operands at p l = (at, refl, l)
 first_near low end (Some rule) operands at p l =
-    elim (first_refused_operand rule 0 operands) as (λ o. first_refused_operand rule 0 operands ≡ o → (q : ℕ) × (option_or o (Some at) ≡ Some q) × (q < end)) [
+    elim (place_of_first_refused_operand rule 0 operands) as (λ o. place_of_first_refused_operand rule 0 operands ≡ o → (q : ℕ) × (option_or o (Some at) ≡ Some q) × (q < end)) [
       | None ↦ λ f. (at, refl, l)
       | Some q ↦ λ f. (q, refl, (refused_between rule 0 low end q operands p f).1)
     ] refl
@@ -123,8 +123,8 @@ asked_in words after start word m s t = by_going (from_going start words low)
 
     by_going : IsRemovedPackage options end ended reading (λ more. reading_of_rest_of_command_words start (words ++ more)) → IsAskedIn end start.applet reading (reading_of_rest_of_command_words start (words ++ (word ∷ after)))
     by_going (inl stopped) =
-        let bad = first_near (start.read + 1) end (operand_rule start.applet reading.state.flags) reading.operands stopped.0 placed stopped.2 in
-        inl ((bad.0, ap (option_or (place_of_refused_operand (operand_rule start.applet reading.state.flags) reading.operands)) stopped.1 ∙ bad.1, bad.2), stopped.3 (word ∷ after))
+        let bad = first_near (start.read + 1) end (operand_rule_if_needed_kind_flag_given start.applet reading.state.flags) reading.operands stopped.0 placed stopped.2 in
+        inl ((bad.0, ap (option_or (place_of_first_operand_refused_by_rule (operand_rule_if_needed_kind_flag_given start.applet reading.state.flags) reading.operands)) stopped.1 ∙ bad.1, bad.2), stopped.3 (word ∷ after))
     by_going (inr (inl on)) = by_awaiting reading.state.awaiting refl on.unread on.goes_on
     by_going (inr (inr off)) = absurd (false≢true (sym (not_ended words start s t) ∙ off.over))
 
@@ -172,32 +172,32 @@ asked_after before after word m t =
           | inr f ↦ absurd (let far = foreign_between before at f in omega (arith, far.1, more))
         ]
 
-    refused_near : (rule : Option OperandRule) (low end at : ℕ) (operands : List Operand) → AllBetween low end operands → place_of_refused_operand rule operands ≡ Some at → at < end
+    refused_near : (rule : Option OperandRule) (low end at : ℕ) (operands : List Operand) → AllBetween low end operands → place_of_first_operand_refused_by_rule rule operands ≡ Some at → at < end
     refused_near None low end at operands p e = absurd (none-some at e)
     refused_near (Some rule) low end at operands p e = (refused_between rule 0 low end at operands p e).1
 
-    by_operands : (start : Start) → start_of_command_line before ≡ Ok start → (reading_of_rest_of_command_words start before).unread ≡ None → reading_of_rest_of_command_words start all ≡ words_reading_from_parts (reading_of_rest_of_command_words start before).state (reading_of_rest_of_command_words start before).operands (Some (length before + 1)) → (o : Option ℕ) → place_of_refused_operand (operand_rule start.applet (reading_of_rest_of_command_words start before).state.flags) (reading_of_rest_of_command_words start before).operands ≡ o → IsAskedAfter before all
+    by_operands : (start : Start) → start_of_command_line before ≡ Ok start → (reading_of_rest_of_command_words start before).unread ≡ None → reading_of_rest_of_command_words start all ≡ words_reading_from_parts (reading_of_rest_of_command_words start before).state (reading_of_rest_of_command_words start before).operands (Some (length before + 1)) → (o : Option ℕ) → place_of_first_operand_refused_by_rule (operand_rule_if_needed_kind_flag_given start.applet (reading_of_rest_of_command_words start before).state.flags) (reading_of_rest_of_command_words start before).operands ≡ o → IsAskedAfter before all
     by_operands start s u l None r =
         let known : IsPlain start (1 + length before) = start_known before start s in
-        let longer : option_or (place_of_refused_operand (operand_rule start.applet (reading_of_rest_of_command_words start all).state.flags) (reading_of_rest_of_command_words start all).operands) (reading_of_rest_of_command_words start all).unread ≡ Some (length before + 1) =
-        ap (λ (x : Reading). option_or (place_of_refused_operand (operand_rule start.applet x.state.flags) x.operands) x.unread) l ∙ ap (λ o. option_or o (Some (length before + 1))) r in
+        let longer : option_or (place_of_first_operand_refused_by_rule (operand_rule_if_needed_kind_flag_given start.applet (reading_of_rest_of_command_words start all).state.flags) (reading_of_rest_of_command_words start all).operands) (reading_of_rest_of_command_words start all).unread ≡ Some (length before + 1) =
+        ap (λ (x : Reading). option_or (place_of_first_operand_refused_by_rule (operand_rule_if_needed_kind_flag_given start.applet x.state.flags) x.operands) x.unread) l ∙ ap (λ o. option_or o (Some (length before + 1))) r in
         inr (
           λ place e. far place (judged_at start.applet (reading_of_rest_of_command_words start before) (length before + 1) place (sym (ap (spelled_command_by_start before) s) ∙ e)),
           ap (spelled_command_by_start all) (start_stays before (word ∷ after) start s) ∙ judged_bad start.applet (reading_of_rest_of_command_words start all) (length all + 1) (length before + 1) longer,
         )
       where
-        nothing : option_or (place_of_refused_operand (operand_rule start.applet (reading_of_rest_of_command_words start before).state.flags) (reading_of_rest_of_command_words start before).operands) (reading_of_rest_of_command_words start before).unread ≡ None
+        nothing : option_or (place_of_first_operand_refused_by_rule (operand_rule_if_needed_kind_flag_given start.applet (reading_of_rest_of_command_words start before).state.flags) (reading_of_rest_of_command_words start before).operands) (reading_of_rest_of_command_words start before).unread ≡ None
         nothing = ap (λ o. option_or o (reading_of_rest_of_command_words start before).unread) r ∙ u
 
-        far : (place : ℕ) → IsJudgedAt (length before + 1) (option_or (place_of_refused_operand (operand_rule start.applet (reading_of_rest_of_command_words start before).state.flags) (reading_of_rest_of_command_words start before).operands) (reading_of_rest_of_command_words start before).unread) place → length before < place
+        far : (place : ℕ) → IsJudgedAt (length before + 1) (option_or (place_of_first_operand_refused_by_rule (operand_rule_if_needed_kind_flag_given start.applet (reading_of_rest_of_command_words start before).state.flags) (reading_of_rest_of_command_words start before).operands) (reading_of_rest_of_command_words start before).unread) place → length before < place
         far place (inl here) = absurd (none-some place (sym nothing ∙ here))
         far place (inr end) = omega (arith, end.1)
     by_operands start s u l (Some at) r =
         let known : IsPlain start (1 + length before) = start_known before start s in
         let placed : AllBetween (start.read + 1) (length before + 1) (reading_of_rest_of_command_words start before).operands = (from_placed start before (omega (arith, known.read))).operands in
-        let near : at < length before + 1 = refused_near (operand_rule start.applet (reading_of_rest_of_command_words start before).state.flags) (start.read + 1) (length before + 1) at (reading_of_rest_of_command_words start before).operands placed r in
-        let longer : option_or (place_of_refused_operand (operand_rule start.applet (reading_of_rest_of_command_words start all).state.flags) (reading_of_rest_of_command_words start all).operands) (reading_of_rest_of_command_words start all).unread ≡ Some at =
-        ap (λ (x : Reading). option_or (place_of_refused_operand (operand_rule start.applet x.state.flags) x.operands) x.unread) l ∙ ap (λ o. option_or o (Some (length before + 1))) r in
+        let near : at < length before + 1 = refused_near (operand_rule_if_needed_kind_flag_given start.applet (reading_of_rest_of_command_words start before).state.flags) (start.read + 1) (length before + 1) at (reading_of_rest_of_command_words start before).operands placed r in
+        let longer : option_or (place_of_first_operand_refused_by_rule (operand_rule_if_needed_kind_flag_given start.applet (reading_of_rest_of_command_words start all).state.flags) (reading_of_rest_of_command_words start all).operands) (reading_of_rest_of_command_words start all).unread ≡ Some at =
+        ap (λ (x : Reading). option_or (place_of_first_operand_refused_by_rule (operand_rule_if_needed_kind_flag_given start.applet x.state.flags) x.operands) x.unread) l ∙ ap (λ o. option_or o (Some (length before + 1))) r in
         inl (
           (at, ap (spelled_command_by_start before) s ∙ judged_bad start.applet (reading_of_rest_of_command_words start before) (length before + 1) at (ap (λ o. option_or o (reading_of_rest_of_command_words start before).unread) r), omega (arith, near)),
           ap (spelled_command_by_start all) (start_stays before (word ∷ after) start s) ∙ judged_bad start.applet (reading_of_rest_of_command_words start all) (length all + 1) at longer,
@@ -206,13 +206,13 @@ asked_after before after word m t =
     by_reading : (start : Start) → start_of_command_line before ≡ Ok start → IsAskedIn (length before + 1) start.applet (reading_of_rest_of_command_words start before) (reading_of_rest_of_command_words start all) → IsAskedAfter before all
     by_reading start s (inl same) =
         let bad = same.0 in
-        let longer : option_or (place_of_refused_operand (operand_rule start.applet (reading_of_rest_of_command_words start all).state.flags) (reading_of_rest_of_command_words start all).operands) (reading_of_rest_of_command_words start all).unread ≡ Some bad.0 =
-        ap (λ (r : Reading). option_or (place_of_refused_operand (operand_rule start.applet r.state.flags) r.operands) r.unread) same.1 ∙ bad.1 in
+        let longer : option_or (place_of_first_operand_refused_by_rule (operand_rule_if_needed_kind_flag_given start.applet (reading_of_rest_of_command_words start all).state.flags) (reading_of_rest_of_command_words start all).operands) (reading_of_rest_of_command_words start all).unread ≡ Some bad.0 =
+        ap (λ (r : Reading). option_or (place_of_first_operand_refused_by_rule (operand_rule_if_needed_kind_flag_given start.applet r.state.flags) r.operands) r.unread) same.1 ∙ bad.1 in
         inl (
           (bad.0, ap (spelled_command_by_start before) s ∙ judged_bad start.applet (reading_of_rest_of_command_words start before) (length before + 1) bad.0 bad.1, omega (arith, bad.2)),
           ap (spelled_command_by_start all) (start_stays before (word ∷ after) start s) ∙ judged_bad start.applet (reading_of_rest_of_command_words start all) (length all + 1) bad.0 longer,
         )
-    by_reading start s (inr free) = by_operands start s free.0 free.1 (place_of_refused_operand (operand_rule start.applet (reading_of_rest_of_command_words start before).state.flags) (reading_of_rest_of_command_words start before).operands) refl
+    by_reading start s (inr free) = by_operands start s free.0 free.1 (place_of_first_operand_refused_by_rule (operand_rule_if_needed_kind_flag_given start.applet (reading_of_rest_of_command_words start before).state.flags) (reading_of_rest_of_command_words start before).operands) refl
 
 -- ---- where a word asks
 

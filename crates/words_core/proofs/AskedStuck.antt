@@ -10,14 +10,14 @@ use Rattle.command_core.specs.declared.command.Applet.TheVariants.{Help}
 use Rattle.command_core.specs.declared.operands.Operand.{Operand}
 use Rattle.command_core.specs.declared.operands.OperandRule.{OperandRule}
 use Rattle.command_core.specs.declared.values.ValueRule.{ValueRule}
-use Rattle.command_core.specs.Applets.{operand_rule}
+use Rattle.command_core.specs.Applets.{operand_rule_if_needed_kind_flag_given}
 use Rattle.command_core.specs.Command.{CommandLine}
 use Rattle.words_core.specs.declared.next.NextWord.TheVariants.{OptionOrCommand, Command as CommandAlone, Value as NextValue}
 use Rattle.words_core.specs.declared.reading.AppletSite.{AppletSite}
 use Rattle.words_core.specs.declared.reading.Reading.{Reading}
 use Rattle.words_core.specs.declared.reading.Start.{Start}
-use Rattle.words_core.specs.Grammar.{applet_site, help_or_version_option_at, help_or_version_command, spelled_command_by_start, command_of, is_double_dash, is_option, spelled_command, start_of_command_line, next_word_of_command_line, next_word_after_words, reading_of_words_from_place, reading_of_rest_of_command_words, words_reading_from_parts, place_of_refused_operand, applet_site_after_double_dash, start_by_applet_site, can_be_option}
-use Rattle.words_core.specs.Options.{OptionSpec, applets, is_early_option_word, options_of}
+use Rattle.words_core.specs.Grammar.{applet_site, help_or_version_option_at, command_with_help_or_version_applet, spelled_command_by_start, command_of, is_double_dash, is_option_or_double_dash, spelled_command, start_of_command_line, next_word_of_command_line, next_word_after_words, reading_of_words_from_place, reading_of_rest_of_command_words, words_reading_from_parts, place_of_first_operand_refused_by_rule, applet_site_after_double_dash, start_by_applet_site, can_be_option}
+use Rattle.words_core.specs.Options.{OptionSpec, applets, is_option_word_that_may_precede_applet, options_of}
 use Rattle.words_core.specs.Stuck.{is_command_line_stuck, are_stuck_by, awaits_impossible_value, have_options_ended, is_stuck_by, is_required_option_missing, are_options_of}
 use Rattle.words_core.proofs.AppletCompleted.{line_stuck, line_stuck_by, usage_is_first}
 use Rattle.words_core.proofs.Asked.{alone_stays, asking, next_append, next_early, next_end, operand_stays}
@@ -43,8 +43,8 @@ first_next place (word ∷ words) h =
     let next : place + length (word ∷ words) ≡ place + 1 + length words = omega arith in
     elim (is_double_dash word) as (λ b. is_double_dash word ≡ b → next_word_after_words OptionOrCommand (word ∷ words) ≡ (if b || list_any is_double_dash words then CommandAlone else OptionOrCommand)) [
       | true ↦ λ e. ap (λ n. next_word_after_words n words) (next_end word e) ∙ alone words (sym (seek_end place word words e) ∙ h)
-      | false ↦ λ e. elim (is_option word) as (λ b. is_option word ≡ b → next_word_after_words OptionOrCommand (word ∷ words) ≡ (if list_any is_double_dash words then CommandAlone else OptionOrCommand)) [
-        | true ↦ λ o. elim (is_early_option_word word) as (λ b. is_early_option_word word ≡ b → next_word_after_words OptionOrCommand (word ∷ words) ≡ (if list_any is_double_dash words then CommandAlone else OptionOrCommand)) [
+      | false ↦ λ e. elim (is_option_or_double_dash word) as (λ b. is_option_or_double_dash word ≡ b → next_word_after_words OptionOrCommand (word ∷ words) ≡ (if list_any is_double_dash words then CommandAlone else OptionOrCommand)) [
+        | true ↦ λ o. elim (is_option_word_that_may_precede_applet word) as (λ b. is_option_word_that_may_precede_applet word ≡ b → next_word_after_words OptionOrCommand (word ∷ words) ≡ (if list_any is_double_dash words then CommandAlone else OptionOrCommand)) [
           | true ↦ λ y. ap (λ n. next_word_after_words n words) (next_early word e o) ∙ first_next (place + 1) words (sym (seek_early place word words e o y) ∙ (h ∙ ap Err next))
           | false ↦ λ y. absurd (let same : Err place ≡ Err (place + length (word ∷ words)) = sym (seek_late place word words e o y) ∙ h in let is : place ≡ place + length (word ∷ words) = cc in omega arith)
         ] refl
@@ -65,8 +65,8 @@ CanBeCommand words = (more : List (List ℕ)) × (command : CommandLine) × (com
 asks_help : (words : List (List ℕ)) → spelled_command words ≡ Err (length words + 1) → next_word_of_command_line words ≡ OptionOrCommand → CanBeCommand words
 asks_help words e n = (
   codes "--help" ∷ [],
-  help_or_version_command (words ++ (codes "--help" ∷ [])) Help,
-  asked_made (words ++ (codes "--help" ∷ [])) (help_or_version_command (words ++ (codes "--help" ∷ [])) Help) (record {
+  command_with_help_or_version_applet (words ++ (codes "--help" ∷ [])) Help,
+  asked_made (words ++ (codes "--help" ∷ [])) (command_with_help_or_version_applet (words ++ (codes "--help" ∷ [])) Help) (record {
     before = words;
     word = codes "--help";
     after = [];
@@ -141,7 +141,7 @@ module _ (words more : List (List ℕ)) (place : ℕ) (applet : Applet) (offends
   parts = asked_parts (words ++ more) place applet asked
 
   -- a word of these asks
-  within : place - 1 < length words → command_of words ≡ Ok (help_or_version_command words applet)
+  within : place - 1 < length words → command_of words ≡ Ok (command_with_help_or_version_applet words applet)
   within l =
       let same : help_or_version_option_at words place ≡ Some applet = sym (asked_stays words more place l) ∙ asked in
       let here : HasAsked words place applet = asked_parts words place applet same in
@@ -170,7 +170,7 @@ module _ (words more : List (List ℕ)) (place : ℕ) (applet : Applet) (offends
   ended start s e l = false≢true (sym (ap (λ n. can_be_option (next_word_after_words n later)) (ended_next words start s e) ∙ ap can_be_option (operand_stays start.applet later)) ∙ option l)
 
   -- what was read of all words offends at the place
-  judged : (start : Start) (at : ℕ) → start_of_command_line words ≡ Ok start → option_or (place_of_refused_operand (operand_rule start.applet (reading_of_rest_of_command_words start (words ++ more)).state.flags) (reading_of_rest_of_command_words start (words ++ more)).operands) (reading_of_rest_of_command_words start (words ++ more)).unread ≡ Some at → at ≡ place
+  judged : (start : Start) (at : ℕ) → start_of_command_line words ≡ Ok start → option_or (place_of_first_operand_refused_by_rule (operand_rule_if_needed_kind_flag_given start.applet (reading_of_rest_of_command_words start (words ++ more)).state.flags) (reading_of_rest_of_command_words start (words ++ more)).operands) (reading_of_rest_of_command_words start (words ++ more)).unread ≡ Some at → at ≡ place
   unfolding spelled_command
   judged start at s first =
       let same : Err at ≡ Err place = sym (ap (spelled_command_by_start (words ++ more)) (start_stays words more start s) ∙ judged_bad start.applet (reading_of_rest_of_command_words start (words ++ more)) (length (words ++ more) + 1) at first) ∙ offends in cc
@@ -197,12 +197,12 @@ module _ (words more : List (List ℕ)) (place : ℕ) (applet : Applet) (offends
       placed = (from_placed start words low).operands
 
       rule : Option OperandRule
-      rule = operand_rule start.applet reading.state.flags
+      rule = operand_rule_if_needed_kind_flag_given start.applet reading.state.flags
 
       near : (at : ℕ) → reading_of_rest_of_command_words start (words ++ more) ≡ words_reading_from_parts reading.state reading.operands (Some at) → at ≤ end → (p : ℕ) × (p ≡ place) × (p ≤ end)
       near at same h = (
         first.0,
-        judged start first.0 s (ap (λ (r : Reading). option_or (place_of_refused_operand (operand_rule start.applet r.state.flags) r.operands) r.unread) same ∙ first.1),
+        judged start first.0 s (ap (λ (r : Reading). option_or (place_of_first_operand_refused_by_rule (operand_rule_if_needed_kind_flag_given start.applet r.state.flags) r.operands) r.unread) same ∙ first.1),
         omega (arith, first.2),
       )
         where
@@ -212,13 +212,13 @@ module _ (words more : List (List ℕ)) (place : ℕ) (applet : Applet) (offends
           far : AllBetween (start.read + 1) (end + 1) reading.operands
           far = all_wider (start.read + 1) end reading.operands placed
 
-          first : (p : ℕ) × (option_or (place_of_refused_operand rule reading.operands) (Some at) ≡ Some p) × (p < end + 1)
+          first : (p : ℕ) × (option_or (place_of_first_operand_refused_by_rule rule reading.operands) (Some at) ≡ Some p) × (p < end + 1)
           first = first_near (start.read + 1) (end + 1) rule reading.operands at far wide
 
       stopped : (at : ℕ) → reading.unread ≡ Some at → at < end → reading_of_rest_of_command_words start (words ++ more) ≡ reading → ⊥
       stopped at u h same =
           let first = first_near (start.read + 1) end rule reading.operands at placed h in
-          let is : first.0 ≡ place = judged start first.0 s (ap (λ (r : Reading). option_or (place_of_refused_operand (operand_rule start.applet r.state.flags) r.operands) r.unread) same ∙ (ap (option_or (place_of_refused_operand rule reading.operands)) u ∙ first.1)) in
+          let is : first.0 ≡ place = judged start first.0 s (ap (λ (r : Reading). option_or (place_of_first_operand_refused_by_rule (operand_rule_if_needed_kind_flag_given start.applet r.state.flags) r.operands) r.unread) same ∙ (ap (option_or (place_of_first_operand_refused_by_rule rule reading.operands)) u ∙ first.1)) in
           let bound = first.2 in
           let start_low = (usage_between (words ++ more) place offends).0 in
           omega (arith, is, bound, l, start_low)

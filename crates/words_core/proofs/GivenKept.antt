@@ -13,12 +13,12 @@ use Rattle.command_core.specs.declared.values.OptionValue.{OptionValue}
 use Rattle.command_core.specs.declared.values.ValueRule.{ValueRule}
 use Rattle.command_core.specs.Sound.{may_have_flags, value_rules, may_both_be_given, are_allowed_values, are_exclusive_values, is_allowed_value, value_rule_of_letter}
 use Rattle.command_core.specs.Operands.{operand_at}
-use Rattle.command_core.specs.Values.{excludes, is_excluded_by_earlier_value, is_given, is_single_and_given, is_value_of_kind, option_value_from_place_and_letter}
+use Rattle.command_core.specs.Values.{excludes, is_excluded_by_earlier_value, is_given, is_single_and_given, is_value_of_kind, option_value_from_place_letter_and_text}
 use Rattle.words_core.specs.declared.options.Meaning.{Meaning}
 use Rattle.words_core.specs.declared.options.Meaning.TheVariants.{Flag as Plain, Kind, Value}
 use Rattle.words_core.specs.declared.reading.OptionState.{OptionState}
 use Rattle.words_core.specs.declared.reading.Start.{Start}
-use Rattle.words_core.specs.Grammar.{option_state_at_start, attached_value, is_double_dash, is_option_or_value, words_as_operands_from_place, option_name, reading_of_words_from_place, or_stop_at_unread_word, reading_of_rest_of_command_words, words_reading_from_parts, option_state_from_parts, with_flags_if_some, with_value_or_awaited, flags_with_meaning, state_with_meaning, with_operand_in_front, with_value_option, flags_with_option, with_option_word, with_option_value, with_option_or_value_word, with_word_as_option_or_value}
+use Rattle.words_core.specs.Grammar.{option_state_at_start, value_in_long_or_short_option_word, is_double_dash, is_option_or_value, words_as_operands_from_place, option_word_without_value, reading_of_words_from_place, or_stop_at_unread_word, reading_of_rest_of_command_words, words_reading_from_parts, option_state_from_parts, with_flags_if_some, with_value_or_awaited, flags_with_meaning_if_one_command_kind, state_with_meaning, with_operand_in_front, with_value_option, flags_with_option_if_one_command_kind, with_option_word, with_option_value, with_option_or_value_word, with_word_as_option_or_value}
 use Rattle.words_core.specs.Options.{OptionSpec, common_options, option_of_word, options_of}
 use Rattle.words_core.specs.Steps.{IsSoundReading}
 use Rattle.words_core.proofs.KindsKept.{IsPlain, find_passes, options_kept, pass_or_none}
@@ -61,7 +61,7 @@ pub both_false : (a b c : Bool) → (a && (b || c)) ≡ false → ((a && b) ≡ 
 both_false true b c h = or_parts b c h
 both_false false b c h = (refl, refl)
 
-pub apart_by : (rules : List ValueRule) (rule : ValueRule) (w : OptionValue) (text : List ℕ) (place : ℕ) → value_rule_of_letter rules rule.letter ≡ Some rule → (rule.single && (w.letter == rule.letter)) ≡ false → ((w.letter == rule.letter) && excludes rule.kind w.text text) ≡ false → may_both_be_given rules w (option_value_from_place_and_letter place rule.letter text) ≡ true
+pub apart_by : (rules : List ValueRule) (rule : ValueRule) (w : OptionValue) (text : List ℕ) (place : ℕ) → value_rule_of_letter rules rule.letter ≡ Some rule → (rule.single && (w.letter == rule.letter)) ≡ false → ((w.letter == rule.letter) && excludes rule.kind w.text text) ≡ false → may_both_be_given rules w (option_value_from_place_letter_and_text place rule.letter text) ≡ true
 apart_by rules rule w text place own spent excluded =
     elim (w.letter == rule.letter) as (λ b. (w.letter == rule.letter) ≡ b → (rule.single && b) ≡ false → (b && excludes rule.kind w.text text) ≡ false → not (b && are_exclusive_values (value_rule_of_letter rules w.letter) w.text text) ≡ true) [
       | true ↦ λ e s x.
@@ -76,16 +76,16 @@ apart_by rules rule w text place own spent excluded =
     alone true h = h
     alone false h = h
 
-pub values_push : (rules : List ValueRule) (rule : ValueRule) (text : List ℕ) (place : ℕ) (values : List OptionValue) → value_rule_of_letter rules rule.letter ≡ Some rule → is_value_of_kind rule.kind text ≡ true → is_single_and_given rule values ≡ false → is_excluded_by_earlier_value rule text values ≡ false → are_allowed_values rules values ≡ true → are_allowed_values rules (values ++ (option_value_from_place_and_letter place rule.letter text ∷ [])) ≡ true
+pub values_push : (rules : List ValueRule) (rule : ValueRule) (text : List ℕ) (place : ℕ) (values : List OptionValue) → value_rule_of_letter rules rule.letter ≡ Some rule → is_value_of_kind rule.kind text ≡ true → is_single_and_given rule values ≡ false → is_excluded_by_earlier_value rule text values ≡ false → are_allowed_values rules values ≡ true → are_allowed_values rules (values ++ (option_value_from_place_letter_and_text place rule.letter text ∷ [])) ≡ true
 values_push rules rule text place [] own good spent excluded are = rw own (rw good refl)
 values_push rules rule text place (w ∷ ws) own good spent excluded are =
     let first = both_false rule.single (w.letter == rule.letter) (is_given rule.letter ws) spent in
     let others = or_parts ((w.letter == rule.letter) && excludes rule.kind w.text text) (is_excluded_by_earlier_value rule text ws) excluded in
     let parts = and_parts (is_allowed_value (value_rule_of_letter rules w.letter) w.text && list_all (may_both_be_given rules w) ws) (are_allowed_values rules ws) are in
     let both = and_parts (is_allowed_value (value_rule_of_letter rules w.letter) w.text) (list_all (may_both_be_given rules w) ws) parts.0 in
-    let last : list_all (may_both_be_given rules w) (option_value_from_place_and_letter place rule.letter text ∷ []) ≡ true = and_from (may_both_be_given rules w (option_value_from_place_and_letter place rule.letter text)) true (apart_by rules rule w text place own first.0 others.0) refl in
-    let all : list_all (may_both_be_given rules w) (ws ++ (option_value_from_place_and_letter place rule.letter text ∷ [])) ≡ true = list_all-append (may_both_be_given rules w) ws (option_value_from_place_and_letter place rule.letter text ∷ []) ∙ and_from (list_all (may_both_be_given rules w) ws) _ both.1 last in
-    and_from (is_allowed_value (value_rule_of_letter rules w.letter) w.text && list_all (may_both_be_given rules w) (ws ++ (option_value_from_place_and_letter place rule.letter text ∷ []))) _
+    let last : list_all (may_both_be_given rules w) (option_value_from_place_letter_and_text place rule.letter text ∷ []) ≡ true = and_from (may_both_be_given rules w (option_value_from_place_letter_and_text place rule.letter text)) true (apart_by rules rule w text place own first.0 others.0) refl in
+    let all : list_all (may_both_be_given rules w) (ws ++ (option_value_from_place_letter_and_text place rule.letter text ∷ [])) ≡ true = list_all-append (may_both_be_given rules w) ws (option_value_from_place_letter_and_text place rule.letter text ∷ []) ∙ and_from (list_all (may_both_be_given rules w) ws) _ both.1 last in
+    and_from (is_allowed_value (value_rule_of_letter rules w.letter) w.text && list_all (may_both_be_given rules w) (ws ++ (option_value_from_place_letter_and_text place rule.letter text ∷ []))) _
     (and_from (is_allowed_value (value_rule_of_letter rules w.letter) w.text) _ both.0 all)
     (values_push rules rule text place ws own good first.1 others.1 parts.1)
 
@@ -101,9 +101,9 @@ pub record IsGood (applet : Applet) (state : OptionState) : Type 0 where
 
 pub value_good : (applet : Applet) (state more : OptionState) (place : ℕ) (text : List ℕ) (rule : ValueRule) → IsGood applet state → value_rule_of_letter (value_rules applet) rule.letter ≡ Some rule → is_single_and_given rule state.values ≡ false → with_option_value state place text rule ≡ Some more → IsGood applet more
 value_good applet state more place text rule good own spent w =
-    elim (is_value_of_kind rule.kind text) as (λ b. is_value_of_kind rule.kind text ≡ b → (if b && not (is_excluded_by_earlier_value rule text state.values) then Some (option_state_from_parts state.flags (state.values ++ (option_value_from_place_and_letter place rule.letter text ∷ [])) None) else None) ≡ Some more → IsGood applet more) [
+    elim (is_value_of_kind rule.kind text) as (λ b. is_value_of_kind rule.kind text ≡ b → (if b && not (is_excluded_by_earlier_value rule text state.values) then Some (option_state_from_parts state.flags (state.values ++ (option_value_from_place_letter_and_text place rule.letter text ∷ [])) None) else None) ≡ Some more → IsGood applet more) [
       | false ↦ λ v (h : None ≡ Some more). absurd (none-some more h)
-      | true ↦ λ v. elim (is_excluded_by_earlier_value rule text state.values) as (λ b. is_excluded_by_earlier_value rule text state.values ≡ b → (if not b then Some (option_state_from_parts state.flags (state.values ++ (option_value_from_place_and_letter place rule.letter text ∷ [])) None) else None) ≡ Some more → IsGood applet more) [
+      | true ↦ λ v. elim (is_excluded_by_earlier_value rule text state.values) as (λ b. is_excluded_by_earlier_value rule text state.values ≡ b → (if not b then Some (option_state_from_parts state.flags (state.values ++ (option_value_from_place_letter_and_text place rule.letter text ∷ [])) None) else None) ≡ Some more → IsGood applet more) [
         | true ↦ λ x (h : None ≡ Some more). absurd (none-some more h)
         | false ↦ λ x h. subst (λ (g : OptionState). IsGood applet g) (same_Some _ more h) (record {
           flags = good.flags;
@@ -129,19 +129,19 @@ flags_good applet state more None good p w = absurd (none-some more w)
 flags_good applet state more (Some flags) good p w =
     subst (λ (g : OptionState). IsGood applet g) (same_Some (option_state_from_parts flags state.values state.awaiting) more w) (record { flags = p; values = good.values; awaiting = good.awaiting })
 
-pub meaning_good : (applet : Applet) (state more : OptionState) (place : ℕ) (held : Option (List ℕ)) (meaning : Meaning) → IsGood applet state → IsOwn applet meaning → pass_or_none (may_have_flags applet) (flags_with_meaning state.flags meaning) ≡ true → state_with_meaning state place held meaning ≡ Some more → IsGood applet more
+pub meaning_good : (applet : Applet) (state more : OptionState) (place : ℕ) (held : Option (List ℕ)) (meaning : Meaning) → IsGood applet state → IsOwn applet meaning → pass_or_none (may_have_flags applet) (flags_with_meaning_if_one_command_kind state.flags meaning) ≡ true → state_with_meaning state place held meaning ≡ Some more → IsGood applet more
 meaning_good applet state more place held (Value rule) good own p w = rule_good applet state more place held rule good own w
 meaning_good applet state more place (Some text) (Plain flag) good own p w = absurd (none-some more w)
 meaning_good applet state more place (Some text) (Kind flag) good own p w = absurd (none-some more w)
-meaning_good applet state more place None (Plain flag) good own p w = flags_good applet state more (flags_with_meaning state.flags (Plain flag)) good p w
-meaning_good applet state more place None (Kind flag) good own p w = flags_good applet state more (flags_with_meaning state.flags (Kind flag)) good p w
+meaning_good applet state more place None (Plain flag) good own p w = flags_good applet state more (flags_with_meaning_if_one_command_kind state.flags (Plain flag)) good p w
+meaning_good applet state more place None (Kind flag) good own p w = flags_good applet state more (flags_with_meaning_if_one_command_kind state.flags (Kind flag)) good p w
 
 pub spelled_good : (applet : Applet) (state more : OptionState) (place : ℕ) (word : List ℕ) → IsGood applet state → with_option_word (options_of applet) state place word ≡ Some more → IsGood applet more
 spelled_good applet state more place word good w =
-    option_and_then_some (λ (e : OptionSpec). state_with_meaning state place (attached_value word) e.meaning) (option_of_word (options_of applet) (option_name word)) more w
-    (λ found is made. meaning_good applet state more place (attached_value word) found.meaning good
-    (found_own applet (options_of applet) (option_name word) found (all_own applet) is)
-    (find_passes (λ x. pass_or_none (may_have_flags applet) (flags_with_option state.flags x)) (λ (x : OptionSpec). bytes_eq x.long (option_name word) || bytes_eq x.short (option_name word)) (options_of applet) found (options_kept applet state.flags good.flags) is)
+    option_and_then_some (λ (e : OptionSpec). state_with_meaning state place (value_in_long_or_short_option_word word) e.meaning) (option_of_word (options_of applet) (option_word_without_value word)) more w
+    (λ found is made. meaning_good applet state more place (value_in_long_or_short_option_word word) found.meaning good
+    (found_own applet (options_of applet) (option_word_without_value word) found (all_own applet) is)
+    (find_passes (λ x. pass_or_none (may_have_flags applet) (flags_with_option_if_one_command_kind state.flags x)) (λ (x : OptionSpec). bytes_eq x.long (option_word_without_value word) || bytes_eq x.short (option_word_without_value word)) (options_of applet) found (options_kept applet state.flags good.flags) is)
     made)
 
 pub word_good : (applet : Applet) (state more : OptionState) (place : ℕ) (word : List ℕ) → IsGood applet state → with_option_or_value_word (options_of applet) state place word ≡ Some more → IsGood applet more

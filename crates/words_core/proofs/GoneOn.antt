@@ -10,7 +10,7 @@ use Rattle.command_core.specs.Operands.{operand_at}
 use Rattle.words_core.specs.declared.reading.OptionState.{OptionState}
 use Rattle.words_core.specs.declared.reading.Reading.{Reading}
 use Rattle.words_core.specs.declared.reading.Start.{Start}
-use Rattle.words_core.specs.Grammar.{option_state_at_start, attached_value, is_double_dash, is_option, is_option_or_value, words_as_operands_from_place, option_name, reading_of_words_from_place, or_stop_at_unread_word, reading_of_rest_of_command_words, words_reading_from_parts, awaited_rule, value_rule_unless_attached, state_with_meaning, with_operand_in_front, with_option_or_value_word, with_word_as_option_or_value}
+use Rattle.words_core.specs.Grammar.{option_state_at_start, value_in_long_or_short_option_word, is_double_dash, is_option_or_double_dash, is_option_or_value, words_as_operands_from_place, option_word_without_value, reading_of_words_from_place, or_stop_at_unread_word, reading_of_rest_of_command_words, words_reading_from_parts, awaited_rule, value_rule_unless_attached, state_with_meaning, with_operand_in_front, with_option_or_value_word, with_word_as_option_or_value}
 use Rattle.words_core.specs.Options.{OptionSpec, option_of_word, options_of}
 use Rattle.words_core.specs.Stuck.{have_options_ended}
 use Rattle.words_core.proofs.LinesRead.{Says, meaning_says, rule_at_is, value_says}
@@ -63,24 +63,24 @@ none_ended options (Some rule) = refl
 pub ended_here : (options : List OptionSpec) (word : List ℕ) (words : List (List ℕ)) → is_double_dash word ≡ true → have_options_ended options None (word ∷ words) ≡ true
 ended_here options word words e = rw e refl
 
-pub ended_option : (options : List OptionSpec) (word : List ℕ) (words : List (List ℕ)) → is_double_dash word ≡ false → is_option word ≡ true → have_options_ended options None (word ∷ words) ≡ have_options_ended options (awaited_rule options word) words
+pub ended_option : (options : List OptionSpec) (word : List ℕ) (words : List (List ℕ)) → is_double_dash word ≡ false → is_option_or_double_dash word ≡ true → have_options_ended options None (word ∷ words) ≡ have_options_ended options (awaited_rule options word) words
 ended_option options word words e o = rw e (rw o refl)
 
-pub ended_after : (options : List OptionSpec) (word : List ℕ) (words : List (List ℕ)) → is_double_dash word ≡ false → is_option word ≡ false → have_options_ended options None (word ∷ words) ≡ have_options_ended options None words
+pub ended_after : (options : List OptionSpec) (word : List ℕ) (words : List (List ℕ)) → is_double_dash word ≡ false → is_option_or_double_dash word ≡ false → have_options_ended options None (word ∷ words) ≡ have_options_ended options None words
 ended_after options word words e o = rw e (rw o refl)
 
 pub ended_taken : (options : List OptionSpec) (state more : OptionState) (place : ℕ) (word : List ℕ) (words : List (List ℕ)) → is_option_or_value state word ≡ true → with_option_or_value_word options state place word ≡ Some more → have_options_ended options state.awaiting (word ∷ words) ≡ have_options_ended options more.awaiting words
 ended_taken options state more place word words t w = by_rule state.awaiting refl t w
   where
-    by_rule : (rule : Option ValueRule) → state.awaiting ≡ rule → (is_some rule || (is_option word && not (is_double_dash word))) ≡ true → with_word_as_option_or_value options state place word rule ≡ Some more → have_options_ended options rule (word ∷ words) ≡ have_options_ended options more.awaiting words
+    by_rule : (rule : Option ValueRule) → state.awaiting ≡ rule → (is_some rule || (is_option_or_double_dash word && not (is_double_dash word))) ≡ true → with_word_as_option_or_value options state place word rule ≡ Some more → have_options_ended options rule (word ∷ words) ≡ have_options_ended options more.awaiting words
     by_rule (Some rule) a t h = ap (λ o. have_options_ended options o words) (ap (λ (g : OptionState). g.awaiting) (value_says state more place word rule h))
     by_rule None a t h =
-        let parts = and_parts (is_option word) (not (is_double_dash word)) t in
-        option_and_then_some (λ (e : OptionSpec). state_with_meaning state place (attached_value word) e.meaning) (option_of_word options (option_name word)) more h
+        let parts = and_parts (is_option_or_double_dash word) (not (is_double_dash word)) t in
+        option_and_then_some (λ (e : OptionSpec). state_with_meaning state place (value_in_long_or_short_option_word word) e.meaning) (option_of_word options (option_word_without_value word)) more h
         (λ found is made.
-        (let says : Says state place (attached_value word) found.meaning more = meaning_says state more place (attached_value word) found.meaning a made in
+        (let says : Says state place (value_in_long_or_short_option_word word) found.meaning more = meaning_says state more place (value_in_long_or_short_option_word word) found.meaning a made in
         ended_option options word words (not-true (is_double_dash word) parts.1) parts.0
-        ∙ ap (λ o. have_options_ended options o words) (ap (value_rule_unless_attached (attached_value word)) (rule_at_is options word found is) ∙ says.awaiting)))
+        ∙ ap (λ o. have_options_ended options o words) (ap (value_rule_unless_attached (value_in_long_or_short_option_word word)) (rule_at_is options word found is) ∙ says.awaiting)))
 
 -- what is said of a word that is not taken
 pub none_is : (o : Option ValueRule) → is_some o ≡ false → o ≡ None
@@ -109,12 +109,12 @@ going options state end place (word ∷ words) l =
         | Some g ↦ λ w. subst (λ b. IsRemovedPackage options end b (reading_of_words_from_place options g (place + 1) words) (λ more. reading_of_words_from_place options g (place + 1) (words ++ more))) (sym (ended_taken options state g place word words t w)) (going options g end (place + 1) words next)
       ] refl
       | false ↦ λ t.
-          let parts = or_parts (is_some state.awaiting) (is_option word && not (is_double_dash word)) t in
+          let parts = or_parts (is_some state.awaiting) (is_option_or_double_dash word && not (is_double_dash word)) t in
           let a : state.awaiting ≡ None = none_is state.awaiting parts.0 in
           elim (is_double_dash word) as (λ b. is_double_dash word ≡ b → IsRemovedPackage options end (have_options_ended options state.awaiting (word ∷ words)) (if b then words_reading_from_parts state (words_as_operands_from_place (place + 1) words) None else with_operand_in_front (operand_at place word) (reading_of_words_from_place options state (place + 1) words)) (λ more. if b then words_reading_from_parts state (words_as_operands_from_place (place + 1) (words ++ more)) None else with_operand_in_front (operand_at place word) (reading_of_words_from_place options state (place + 1) (words ++ more)))) [
             | true ↦ λ e. subst (λ b. IsRemovedPackage options end b (words_reading_from_parts state (words_as_operands_from_place (place + 1) words) None) (λ more. words_reading_from_parts state (words_as_operands_from_place (place + 1) (words ++ more)) None)) (sym (ap (λ o. have_options_ended options o (word ∷ words)) a ∙ ended_here options word words e)) (going_off options state end (place + 1) words next a)
             | false ↦ λ e. subst (λ b. IsRemovedPackage options end b (with_operand_in_front (operand_at place word) (reading_of_words_from_place options state (place + 1) words)) (λ more. with_operand_in_front (operand_at place word) (reading_of_words_from_place options state (place + 1) (words ++ more))))
-                (sym (ap (λ o. have_options_ended options o (word ∷ words)) a ∙ (ended_after options word words e (not_option (is_option word) (is_double_dash word) e parts.1) ∙ ap (λ o. have_options_ended options o words) (sym a))))
+                (sym (ap (λ o. have_options_ended options o (word ∷ words)) a ∙ (ended_after options word words e (not_option (is_option_or_double_dash word) (is_double_dash word) e parts.1) ∙ ap (λ o. have_options_ended options o words) (sym a))))
                 (going_after options end (have_options_ended options state.awaiting words) (operand_at place word) (reading_of_words_from_place options state (place + 1) words) (λ more. reading_of_words_from_place options state (place + 1) (words ++ more)) (going options state end (place + 1) words next))
           ] refl
     ] refl

@@ -3,7 +3,7 @@ use Rattle.std.proofs.Common.{List, Some, [], ap, append-nil, append_assoc, arit
 use Rattle.std.specs.List.{slice_get}
 use Rattle.command_core.specs.declared.operands.Operand.{Operand}
 use Rattle.command_core.specs.declared.command.Applet.{Applet}
-use Rattle.words_core.specs.HelpTexts.{HelpLine, command_column, command_help_line, commands_text, common_option_help, common_options_text, help_line, help_line_text, help_lines_text, listed_commands, option_column, purpose, help_topic_of, usage_line, synopsis_text_with_first_prefix}
+use Rattle.words_core.specs.HelpTexts.{HelpLine, command_column, command_help_line, commands_text, common_option_help, common_options_text, help_line, help_line_text, help_lines_text, listed_commands, option_column, purpose, help_topic_of, synopsis_line_with_prefix, synopsis_text_with_first_prefix}
 use Rattle.words_core.specs.Options.{applet_of, applet_word}
 
 drop_all : {X : Type 0} (xs : List X) (i : ℕ) → length xs ≤ i → drop i xs ≡ []
@@ -34,11 +34,11 @@ pub lines_done : {X : Type 0} (column : ℕ) (f : X → HelpLine) (xs : List X) 
 lines_done column f xs i text l = ap (λ ys. text ++ help_lines_text column (map f ys)) (drop_all xs i l) ∙ append-nil text
 
 -- one more line of usage
-pub usage_left : {X : Type 0} (f : X → List ℕ) (xs : List X) (i : ℕ) (d : X) (front all text new : List ℕ) → i < length xs → new ≡ text ++ usage_line front (f (get_or xs i d)) → all ≡ text ++ synopsis_text_with_first_prefix front (map f (drop i xs)) → all ≡ new ++ synopsis_text_with_first_prefix (codes "       ") (map f (drop (i + 1) xs))
+pub usage_left : {X : Type 0} (f : X → List ℕ) (xs : List X) (i : ℕ) (d : X) (front all text new : List ℕ) → i < length xs → new ≡ text ++ synopsis_line_with_prefix front (f (get_or xs i d)) → all ≡ text ++ synopsis_text_with_first_prefix front (map f (drop i xs)) → all ≡ new ++ synopsis_text_with_first_prefix (codes "       ") (map f (drop (i + 1) xs))
 usage_left f xs i d front all text new l e kept =
     kept
     ∙ (ap (λ ys. text ++ synopsis_text_with_first_prefix front (map f ys)) (drop_at xs i d l)
-    ∙ more_text text (usage_line front (f (get_or xs i d))) (synopsis_text_with_first_prefix (codes "       ") (map f (drop (i + 1) xs))) new e)
+    ∙ more_text text (synopsis_line_with_prefix front (f (get_or xs i d))) (synopsis_text_with_first_prefix (codes "       ") (map f (drop (i + 1) xs))) new e)
 
 pub usage_done : {X : Type 0} (f : X → List ℕ) (xs : List X) (i : ℕ) (front text : List ℕ) → length xs ≤ i → text ++ synopsis_text_with_first_prefix front (map f (drop i xs)) ≡ text
 usage_done f xs i front text l = ap (λ ys. text ++ synopsis_text_with_first_prefix front (map f ys)) (drop_all xs i l) ∙ append-nil text

@@ -14,12 +14,12 @@ use Rattle.command_core.specs.declared.operands.OperandKind.{OperandKind}
 use Rattle.command_core.specs.declared.operands.OperandKind.TheVariants.{PackageName, Path}
 use Rattle.command_core.specs.declared.operands.OperandRule.{OperandRule}
 use Rattle.command_core.specs.declared.values.OptionValue.{OptionValue}
-use Rattle.command_core.specs.Applets.{info_operand_rule, operand_rule}
+use Rattle.command_core.specs.Applets.{info_operand_rule, operand_rule_if_needed_kind_flag_given}
 use Rattle.command_core.specs.Flags.{has_command_kind_flag, with_flag}
-use Rattle.command_core.specs.Operands.{at_least, exactly, first_refused_operand, is_operand_of_kind}
+use Rattle.command_core.specs.Operands.{at_least, exactly, place_of_first_refused_operand, is_operand_of_kind}
 use Rattle.words_core.specs.declared.reading.Reading.{Reading}
 use Rattle.words_core.specs.declared.reading.Start.{Start}
-use Rattle.words_core.specs.Grammar.{spelled_command_by_start, spelled_command, command_from_end_place_and_reading, attached_value, start_of_command_line, option_name, reading_of_words_from_place, reading_of_rest_of_command_words, words_reading_from_parts, place_of_refused_operand, option_state_from_parts, command_of_reading_with_end_place}
+use Rattle.words_core.specs.Grammar.{spelled_command_by_start, spelled_command, command_from_end_place_and_reading, value_in_long_or_short_option_word, start_of_command_line, option_word_without_value, reading_of_words_from_place, reading_of_rest_of_command_words, words_reading_from_parts, place_of_first_operand_refused_by_rule, option_state_from_parts, command_of_reading_with_end_place}
 use Rattle.words_core.specs.Kinds.{can_info_kind_follow, can_info_kind_follow_if_started, can_started_words_get_info_kind, is_info_applet}
 use Rattle.words_core.specs.Options.{common_options, options_of}
 use Rattle.words_core.specs.Stuck.{have_options_ended}
@@ -48,10 +48,10 @@ four true false false true h = absurd (false≢true h)
 -- ---- rules of the operands of `info`
 
 -- how many there have to be says nothing of each
-least_aside : (a b before : ℕ) (kind : OperandKind) (operands : List Operand) → first_refused_operand (at_least a kind) before operands ≡ first_refused_operand (at_least b kind) before operands
+least_aside : (a b before : ℕ) (kind : OperandKind) (operands : List Operand) → place_of_first_refused_operand (at_least a kind) before operands ≡ place_of_first_refused_operand (at_least b kind) before operands
 least_aside a b before kind [] = refl
 least_aside a b before kind (o ∷ operands) =
-    elim (is_operand_of_kind kind o.text) as (λ t. (if true && t then first_refused_operand (at_least a kind) (before + 1) operands else Some o.place) ≡ (if true && t then first_refused_operand (at_least b kind) (before + 1) operands else Some o.place)) [
+    elim (is_operand_of_kind kind o.text) as (λ t. (if true && t then place_of_first_refused_operand (at_least a kind) (before + 1) operands else Some o.place) ≡ (if true && t then place_of_first_refused_operand (at_least b kind) (before + 1) operands else Some o.place)) [
       | true ↦ least_aside a b (before + 1) kind operands
       | false ↦ refl
     ]
@@ -65,13 +65,13 @@ packages_unless false false true owns h = absurd (false≢true (sym h))
 packages_unless false false false true h = absurd (false≢true (sym h))
 
 -- operands that are refused without a kind, and not under flags, are a path
-path_of : (flags : Flags) (operands : List Operand) (at : ℕ) → first_refused_operand (at_least 0 PackageName) 0 operands ≡ Some at → first_refused_operand (info_operand_rule flags) 0 operands ≡ None → first_refused_operand (exactly 1 Path) 0 operands ≡ None
+path_of : (flags : Flags) (operands : List Operand) (at : ℕ) → place_of_first_refused_operand (at_least 0 PackageName) 0 operands ≡ Some at → place_of_first_refused_operand (info_operand_rule flags) 0 operands ≡ None → place_of_first_refused_operand (exactly 1 Path) 0 operands ≡ None
 path_of flags operands at bad good = by_flags flags.who_owns (flags.installed || flags.contents || flags.depends) good
   where
-    refused : (least : ℕ) → first_refused_operand (at_least least PackageName) 0 operands ≡ None → ⊥
+    refused : (least : ℕ) → place_of_first_refused_operand (at_least least PackageName) 0 operands ≡ None → ⊥
     refused least h = none-some at (sym h ∙ (least_aside least 0 0 PackageName operands ∙ bad))
 
-    by_flags : (owns packages : Bool) → first_refused_operand (if owns then exactly 1 Path else if packages then at_least 1 PackageName else at_least 0 PackageName) 0 operands ≡ None → first_refused_operand (exactly 1 Path) 0 operands ≡ None
+    by_flags : (owns packages : Bool) → place_of_first_refused_operand (if owns then exactly 1 Path else if packages then at_least 1 PackageName else at_least 0 PackageName) 0 operands ≡ None → place_of_first_refused_operand (exactly 1 Path) 0 operands ≡ None
     by_flags true packages h = h
     by_flags false true h = absurd (refused 1 h)
     by_flags false false h = absurd (refused 0 h)
@@ -79,30 +79,30 @@ path_of flags operands at bad good = by_flags flags.who_owns (flags.installed ||
 -- ---- `-W` behind the words
 
 owner_read : (flags : Flags) (values : List OptionValue) (at : ℕ) → has_command_kind_flag flags ≡ false → reading_of_words_from_place (options_of Info) (option_state_from_parts flags values None) at (codes "-W" ∷ []) ≡ words_reading_from_parts (option_state_from_parts (with_flag WhoOwns flags) values None) [] None
-unfolding common_options options_of option_name attached_value
+unfolding common_options options_of option_word_without_value value_in_long_or_short_option_word
 owner_read flags values at k = rw k refl
 
-enough : (operands : List Operand) (at : ℕ) → first_refused_operand (at_least 0 PackageName) 0 operands ≡ Some at → nat_lt (length (operands ++ [])) 1 ≡ false
+enough : (operands : List Operand) (at : ℕ) → place_of_first_refused_operand (at_least 0 PackageName) 0 operands ≡ Some at → nat_lt (length (operands ++ [])) 1 ≡ false
 enough [] at h = absurd (none-some at h)
 enough (o ∷ operands) at h = le-ltb (length (o ∷ (operands ++ []))) 1 (omega arith)
 
-owner_good : (flags : Flags) (values : List OptionValue) (operands : List Operand) (at : ℕ) → first_refused_operand (at_least 0 PackageName) 0 operands ≡ Some at → first_refused_operand (exactly 1 Path) 0 operands ≡ None
+owner_good : (flags : Flags) (values : List OptionValue) (operands : List Operand) (at : ℕ) → place_of_first_refused_operand (at_least 0 PackageName) 0 operands ≡ Some at → place_of_first_refused_operand (exactly 1 Path) 0 operands ≡ None
     → IsJudgedGood Info (behind operands (words_reading_from_parts (option_state_from_parts (with_flag WhoOwns flags) values None) [] None))
 owner_good flags values operands at bad good end =
     judged_good Info (behind operands (words_reading_from_parts (option_state_from_parts (with_flag WhoOwns flags) values None) [] None)) end
-    (ap (first_refused_operand (exactly 1 Path) 0) (append-nil operands) ∙ good) refl (rw (enough operands at bad) refl)
+    (ap (place_of_first_refused_operand (exactly 1 Path) 0) (append-nil operands) ∙ good) refl (rw (enough operands at bad) refl)
 
 -- ---- the words before an operand that offends
 
 -- none of the operands before a place offends where the first that does is there
 none_before : (rule : OperandRule) (low end last place : ℕ) (operands new : List Operand) (unread : Option ℕ) → AllBetween low end operands → end ≤ place → end ≤ last
-    → IsJudgedAt last (option_or (first_refused_operand rule 0 (operands ++ new)) unread) place → first_refused_operand rule 0 operands ≡ None
+    → IsJudgedAt last (option_or (place_of_first_refused_operand rule 0 (operands ++ new)) unread) place → place_of_first_refused_operand rule 0 operands ≡ None
 none_before rule low end last place operands new unread placed far behind judged =
-    elim (first_refused_operand rule 0 operands) as (λ o. first_refused_operand rule 0 operands ≡ o → o ≡ None) [
+    elim (place_of_first_refused_operand rule 0 operands) as (λ o. place_of_first_refused_operand rule 0 operands ≡ o → o ≡ None) [
       | None ↦ λ h. refl
       | Some at ↦ λ h. absurd (
           let is = refused_between rule 0 low end at operands placed h in
-          let all : option_or (first_refused_operand rule 0 (operands ++ new)) unread ≡ Some at = ap (λ o. option_or o unread) (refused_append rule 0 at operands new h) in
+          let all : option_or (place_of_first_refused_operand rule 0 (operands ++ new)) unread ≡ Some at = ap (λ o. option_or o unread) (refused_append rule 0 at operands new h) in
           elim judged as (λ _. ⊥) [
             | inl there ↦ (let same : at ≡ place = same_Some at place (sym all ∙ there) in omega (arith, is.1))
             | inr none ↦ none-some at (sym none.0 ∙ all)
@@ -147,11 +147,11 @@ module _ (words rest : List (List ℕ)) (start : Start) (at place : ℕ) (known 
       kinds_of : (flags : Flags) → has_command_kind_flag flags ≡ false → (flags.installed || (flags.contents || (flags.depends || (flags.who_owns || false)))) ≡ false
       kinds_of flags h = front flags.installed flags.contents flags.depends flags.who_owns flags.test flags.check h
 
-  refused : first_refused_operand (at_least 0 PackageName) 0 reading.operands ≡ Some at
+  refused : place_of_first_refused_operand (at_least 0 PackageName) 0 reading.operands ≡ Some at
   refused =
-      let judged : IsJudgedAt end (option_or (place_of_refused_operand (operand_rule Info reading.state.flags) reading.operands) reading.unread) at = judged_at Info reading end at (ap (λ (a : Applet). command_of_reading_with_end_place end a reading) (sym is) ∙ bad) in
-      elim judged as (λ _. first_refused_operand (at_least 0 PackageName) 0 reading.operands ≡ Some at) [
-        | inl first ↦ by_first (first_refused_operand (at_least 0 PackageName) 0 reading.operands) (ap (λ o. option_or (first_refused_operand (at_least 0 PackageName) 0 reading.operands) o) (sym unread) ∙ (ap (λ (r : OperandRule). option_or (first_refused_operand r 0 reading.operands) reading.unread) (sym rule_is) ∙ first))
+      let judged : IsJudgedAt end (option_or (place_of_first_operand_refused_by_rule (operand_rule_if_needed_kind_flag_given Info reading.state.flags) reading.operands) reading.unread) at = judged_at Info reading end at (ap (λ (a : Applet). command_of_reading_with_end_place end a reading) (sym is) ∙ bad) in
+      elim judged as (λ _. place_of_first_refused_operand (at_least 0 PackageName) 0 reading.operands ≡ Some at) [
+        | inl first ↦ by_first (place_of_first_refused_operand (at_least 0 PackageName) 0 reading.operands) (ap (λ o. option_or (place_of_first_refused_operand (at_least 0 PackageName) 0 reading.operands) o) (sym unread) ∙ (ap (λ (r : OperandRule). option_or (place_of_first_refused_operand r 0 reading.operands) reading.unread) (sym rule_is) ∙ first))
         | inr none ↦ absurd (omega (arith, none.1))
       ]
     where
@@ -163,10 +163,10 @@ module _ (words rest : List (List ℕ)) (start : Start) (at place : ℕ) (known 
     abbrev longer : Reading
     longer = behind reading.operands (reading_of_words_from_place (options_of start.applet) reading.state end rest)
 
-    path : first_refused_operand (exactly 1 Path) 0 reading.operands ≡ None
+    path : place_of_first_refused_operand (exactly 1 Path) 0 reading.operands ≡ None
     path =
         let last : ℕ = length (words ++ rest) + 1 in
-        let judged : IsJudgedAt last (option_or (place_of_refused_operand (operand_rule Info longer.state.flags) longer.operands) longer.unread) place = judged_at Info longer last place (ap (λ (a : Applet). command_of_reading_with_end_place last a longer) (sym is) ∙ (ap (command_of_reading_with_end_place last start.applet) (sym (goes_on rest)) ∙ later)) in
+        let judged : IsJudgedAt last (option_or (place_of_first_operand_refused_by_rule (operand_rule_if_needed_kind_flag_given Info longer.state.flags) longer.operands) longer.unread) place = judged_at Info longer last place (ap (λ (a : Applet). command_of_reading_with_end_place last a longer) (sym is) ∙ (ap (command_of_reading_with_end_place last start.applet) (sym (goes_on rest)) ∙ later)) in
         path_of longer.state.flags reading.operands at refused
         (none_before (info_operand_rule longer.state.flags) (start.read + 1) end last place reading.operands (reading_of_words_from_place (options_of start.applet) reading.state end rest).operands longer.unread (from_placed start words low).operands far (omega (arith, all)) judged)
 

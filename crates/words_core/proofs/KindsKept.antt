@@ -18,8 +18,8 @@ use Rattle.words_core.specs.declared.options.Meaning.{Meaning}
 use Rattle.words_core.specs.declared.options.Meaning.TheVariants.{Flag as Plain, Kind, Value}
 use Rattle.words_core.specs.declared.reading.AppletSite.{AppletSite}
 use Rattle.words_core.specs.declared.reading.Start.{Start}
-use Rattle.words_core.specs.Grammar.{applet_site, flags_with_early_options, is_double_dash, is_option, start_of_command_line, or_err_at, applet_site_of_word, applet_site_after_double_dash, applet_site_from_parts, start_from_parts, start_by_applet_site, start_with_early_flags, flags_with_meaning, flags_with_option_word, flags_with_option}
-use Rattle.words_core.specs.Options.{OptionSpec, applet_of, common_options, is_early_option_word, option_of_word, options_of}
+use Rattle.words_core.specs.Grammar.{applet_site, flags_with_options_before_applet, is_double_dash, is_option_or_double_dash, start_of_command_line, or_err_at, applet_site_of_word, applet_site_after_double_dash, applet_site_from_ended_read_applet, start_from_parts, start_by_applet_site, start_with_flags_before_applet, flags_with_meaning_if_one_command_kind, flags_with_option_word_if_one_command_kind, flags_with_option_if_one_command_kind}
+use Rattle.words_core.specs.Options.{OptionSpec, applet_of, common_options, is_option_word_that_may_precede_applet, option_of_word, options_of}
 
 -- ---- tests on lists
 pub find_passes : {A : Type 0} (q p : A → Bool) (xs : List A) (x : A) → list_all q xs ≡ true → find p xs ≡ Some x → q x ≡ true
@@ -284,7 +284,7 @@ may_have_with applet flags g o s m =
     and_from (are_flags_allowed (allowed_flags applet) (with_flag g flags)) (has_at_most_one kinds (with_flag g flags))
     (within_with (allowed_flags applet) flags g o (and_parts (are_flags_allowed (allowed_flags applet) flags) (has_at_most_one kinds flags) m).0) s
 
-pub meaning_kept : (applet : Applet) (flags : Flags) (meaning : Meaning) → is_own_meaning applet meaning ≡ true → may_have_flags applet flags ≡ true → pass_or_none (may_have_flags applet) (flags_with_meaning flags meaning) ≡ true
+pub meaning_kept : (applet : Applet) (flags : Flags) (meaning : Meaning) → is_own_meaning applet meaning ≡ true → may_have_flags applet flags ≡ true → pass_or_none (may_have_flags applet) (flags_with_meaning_if_one_command_kind flags meaning) ≡ true
 meaning_kept applet flags (Value rule) o m = refl
 meaning_kept applet flags (Plain g) o m =
     let own = and_parts (has_flag g (allowed_flags applet)) (not (is_kind g)) o in
@@ -304,15 +304,15 @@ meaning_kept applet flags (Kind g) o m =
     ] refl
 
 -- flags with an option of a table pass, where they do with each of its options
-pub option_passes : (test : Flags → Bool) (options : List OptionSpec) (flags more : Flags) (word : List ℕ) → list_all (λ o. pass_or_none test (flags_with_option flags o)) options ≡ true → flags_with_option_word options flags word ≡ Some more → test more ≡ true
+pub option_passes : (test : Flags → Bool) (options : List OptionSpec) (flags more : Flags) (word : List ℕ) → list_all (λ o. pass_or_none test (flags_with_option_if_one_command_kind flags o)) options ≡ true → flags_with_option_word_if_one_command_kind options flags word ≡ Some more → test more ≡ true
 option_passes test options flags more word each e =
-    option_and_then_some (flags_with_option flags) (option_of_word options word) more e
-    (λ found is made. subst (λ o. pass_or_none test o ≡ true) made (find_passes (λ x. pass_or_none test (flags_with_option flags x)) (λ (x : OptionSpec). bytes_eq x.long word || bytes_eq x.short word) options found each is))
+    option_and_then_some (flags_with_option_if_one_command_kind flags) (option_of_word options word) more e
+    (λ found is made. subst (λ o. pass_or_none test o ≡ true) made (find_passes (λ x. pass_or_none test (flags_with_option_if_one_command_kind flags x)) (λ (x : OptionSpec). bytes_eq x.long word || bytes_eq x.short word) options found each is))
 
 -- the options of an applet leave it at most one kind
-pub options_kept : (applet : Applet) (flags : Flags) → may_have_flags applet flags ≡ true → list_all (λ o. pass_or_none (may_have_flags applet) (flags_with_option flags o)) (options_of applet) ≡ true
+pub options_kept : (applet : Applet) (flags : Flags) → may_have_flags applet flags ≡ true → list_all (λ o. pass_or_none (may_have_flags applet) (flags_with_option_if_one_command_kind flags o)) (options_of applet) ≡ true
 options_kept applet flags m =
-    all_weaken (is_own_option applet) (λ o. pass_or_none (may_have_flags applet) (flags_with_option flags o)) (options_of applet)
+    all_weaken (is_own_option applet) (λ o. pass_or_none (may_have_flags applet) (flags_with_option_if_one_command_kind flags o)) (options_of applet)
     (λ o own. meaning_kept applet flags o.meaning own m) (own_meanings applet)
 
 -- ---- the applet, and the flags before it
@@ -324,7 +324,7 @@ pub record IsSite (site : AppletSite) (behind : ℕ) : Type 0 where
 pub named_known : (ended : Bool) (place behind : ℕ) (word : List ℕ) → 1 ≤ place → place < behind → IfOk (applet_site_of_word ended place word) (λ s. IsSite s behind)
 unfolding applet_site_of_word
 named_known ended place behind word low l =
-    elim (applet_of word) as (λ o. applet_of word ≡ o → IfOk (or_err_at place (λ applet. Ok (applet_site_from_parts ended place applet)) o) (λ s. IsSite s behind)) [
+    elim (applet_of word) as (λ o. applet_of word ≡ o → IfOk (or_err_at place (λ applet. Ok (applet_site_from_ended_read_applet ended place applet)) o) (λ s. IsSite s behind)) [
       | None ↦ λ e. tt
       | Some applet ↦ λ e. record { low = low; read = l }
     ] refl
@@ -339,10 +339,10 @@ site_known place behind [] low l = tt
 site_known place behind (word ∷ words) low l =
     let less : place + 1 + length words ≤ behind = omega arith in
     let next : 1 ≤ place + 1 = omega arith in
-    elim (is_double_dash word) as (λ b. IfOk (if b then applet_site_after_double_dash (place + 1) words else if is_option word then (if is_early_option_word word then applet_site (place + 1) words else Err place) else applet_site_of_word false place word) (λ s. IsSite s behind)) [
+    elim (is_double_dash word) as (λ b. IfOk (if b then applet_site_after_double_dash (place + 1) words else if is_option_or_double_dash word then (if is_option_word_that_may_precede_applet word then applet_site (place + 1) words else Err place) else applet_site_of_word false place word) (λ s. IsSite s behind)) [
       | true ↦ after_end_known (place + 1) behind words next less
-      | false ↦ elim (is_option word) as (λ b. IfOk (if b then (if is_early_option_word word then applet_site (place + 1) words else Err place) else applet_site_of_word false place word) (λ s. IsSite s behind)) [
-        | true ↦ elim (is_early_option_word word) as (λ b. IfOk (if b then applet_site (place + 1) words else Err place) (λ s. IsSite s behind)) [
+      | false ↦ elim (is_option_or_double_dash word) as (λ b. IfOk (if b then (if is_option_word_that_may_precede_applet word then applet_site (place + 1) words else Err place) else applet_site_of_word false place word) (λ s. IsSite s behind)) [
+        | true ↦ elim (is_option_word_that_may_precede_applet word) as (λ b. IfOk (if b then applet_site (place + 1) words else Err place) (λ s. IsSite s behind)) [
           | true ↦ site_known (place + 1) behind words next less
           | false ↦ tt
         ]
@@ -350,12 +350,12 @@ site_known place behind (word ∷ words) low l =
       ]
     ]
 
-pub early_kept : (applet : Applet) (flags : Flags) (place : ℕ) (words : List (List ℕ)) → may_have_flags applet flags ≡ true → IfOk (flags_with_early_options (options_of applet) flags place words) (λ more. may_have_flags applet more ≡ true)
+pub early_kept : (applet : Applet) (flags : Flags) (place : ℕ) (words : List (List ℕ)) → may_have_flags applet flags ≡ true → IfOk (flags_with_options_before_applet (options_of applet) flags place words) (λ more. may_have_flags applet more ≡ true)
 early_kept applet flags place [] m = m
 early_kept applet flags place (word ∷ words) m =
-    elim (is_double_dash word) as (λ b. IfOk (if b then Ok flags else or_err_at place (λ more. flags_with_early_options (options_of applet) more (place + 1) words) (flags_with_option_word (options_of applet) flags word)) (λ more. may_have_flags applet more ≡ true)) [
+    elim (is_double_dash word) as (λ b. IfOk (if b then Ok flags else or_err_at place (λ more. flags_with_options_before_applet (options_of applet) more (place + 1) words) (flags_with_option_word_if_one_command_kind (options_of applet) flags word)) (λ more. may_have_flags applet more ≡ true)) [
       | true ↦ m
-      | false ↦ elim (flags_with_option_word (options_of applet) flags word) as (λ o. flags_with_option_word (options_of applet) flags word ≡ o → IfOk (or_err_at place (λ more. flags_with_early_options (options_of applet) more (place + 1) words) o) (λ more. may_have_flags applet more ≡ true)) [
+      | false ↦ elim (flags_with_option_word_if_one_command_kind (options_of applet) flags word) as (λ o. flags_with_option_word_if_one_command_kind (options_of applet) flags word ≡ o → IfOk (or_err_at place (λ more. flags_with_options_before_applet (options_of applet) more (place + 1) words) o) (λ more. may_have_flags applet more ≡ true)) [
         | None ↦ λ e. tt
         | Some more ↦ λ e. early_kept applet more (place + 1) words (option_passes (may_have_flags applet) (options_of applet) flags more word (options_kept applet flags m) e)
       ] refl
@@ -374,17 +374,17 @@ pub record IsStart (words : List (List ℕ)) (start : Start) : Type 0 where
   pub site : AppletSite
   pub found : applet_site 1 words ≡ Ok site
   pub flags : Flags
-  pub early : flags_with_early_options (options_of site.applet) no_flags 1 (take (site.read - 1) words) ≡ Ok flags
+  pub early : flags_with_options_before_applet (options_of site.applet) no_flags 1 (take (site.read - 1) words) ≡ Ok flags
   pub same : start_from_parts site flags ≡ start
 
 pub start_parts : (words : List (List ℕ)) (start : Start) → start_of_command_line words ≡ Ok start → IsStart words start
 start_parts words start e =
     elim (applet_site 1 words) as (λ s. applet_site 1 words ≡ s → start_by_applet_site words s ≡ Ok start → IsStart words start) [
       | Err place ↦ λ s (h : Err place ≡ Ok start). absurd (cc)
-      | Ok site ↦ λ s h. by_flags site s (flags_with_early_options (options_of site.applet) no_flags 1 (take (site.read - 1) words)) refl h
+      | Ok site ↦ λ s h. by_flags site s (flags_with_options_before_applet (options_of site.applet) no_flags 1 (take (site.read - 1) words)) refl h
     ] refl e
   where
-    by_flags : (site : AppletSite) → applet_site 1 words ≡ Ok site → (f : Result Flags ℕ) → flags_with_early_options (options_of site.applet) no_flags 1 (take (site.read - 1) words) ≡ f → start_with_early_flags site f ≡ Ok start → IsStart words start
+    by_flags : (site : AppletSite) → applet_site 1 words ≡ Ok site → (f : Result Flags ℕ) → flags_with_options_before_applet (options_of site.applet) no_flags 1 (take (site.read - 1) words) ≡ f → start_with_flags_before_applet site f ≡ Ok start → IsStart words start
     by_flags site s (Err place) f h = absurd (cc)
     by_flags site s (Ok flags) f h = (let same : start_from_parts site flags ≡ start = cc in record { site = site; found = s; flags = flags; early = f; same = same })
 

@@ -4,9 +4,9 @@ use Rattle.std.specs.List.{list_all}
 use Rattle.command_core.specs.declared.command.Applet.{Applet}
 use Rattle.command_core.specs.declared.command.Applet.TheVariants.{Add, Del, Upgrade, Fix, Info, Mkpkg, Mkndx, Version}
 use Rattle.words_core.specs.Options.{own_options}
-use Rattle.words_core.specs.Rows.{is_value_letter_that_of_short_word}
+use Rattle.words_core.specs.Rows.{are_values_stored_under_short_letter}
 
-pub letters : (applet : Applet) → list_all is_value_letter_that_of_short_word (own_options applet) ≡ true
+pub letters : (applet : Applet) → list_all are_values_stored_under_short_letter (own_options applet) ≡ true
 letters Add = refl
 letters Del = refl
 letters Upgrade = refl

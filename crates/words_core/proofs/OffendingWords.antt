@@ -6,14 +6,14 @@ use Rattle.command_core.specs.declared.command.Applet.{Applet}
 use Rattle.command_core.specs.declared.operands.Operand.{Operand}
 use Rattle.command_core.specs.declared.operands.OperandRule.{OperandRule}
 use Rattle.command_core.specs.declared.values.ValueRule.{ValueRule}
-use Rattle.command_core.specs.Applets.{operand_rule}
-use Rattle.command_core.specs.Operands.{first_refused_operand, operand_at, takes}
+use Rattle.command_core.specs.Applets.{operand_rule_if_needed_kind_flag_given}
+use Rattle.command_core.specs.Operands.{place_of_first_refused_operand, operand_at, takes}
 use Rattle.words_core.specs.declared.reading.AppletSite.{AppletSite}
 use Rattle.words_core.specs.declared.reading.OptionState.{OptionState}
 use Rattle.words_core.specs.declared.reading.Reading.{Reading}
 use Rattle.words_core.specs.declared.reading.Start.{Start}
-use Rattle.words_core.specs.Grammar.{applet_site, spelled_command_by_start, spelled_command, command_from_end_place_and_reading, option_state_at_start, is_double_dash, is_option, is_option_or_value, lacks_operand_or_required_value, start_of_command_line, words_as_operands_from_place, reading_of_words_from_place, or_err_at, or_stop_at_unread_word, reading_of_rest_of_command_words, words_reading_from_parts, reading_at_end_of_words, place_of_refused_operand, applet_site_of_word, applet_site_after_double_dash, applet_site_from_parts, unless_refused_at, command_of_reading_with_end_place, with_operand_in_front, with_option_or_value_word}
-use Rattle.words_core.specs.Options.{OptionSpec, applet_of, is_early_option_word, options_of}
+use Rattle.words_core.specs.Grammar.{applet_site, spelled_command_by_start, spelled_command, command_from_end_place_and_reading, option_state_at_start, is_double_dash, is_option_or_double_dash, is_option_or_value, lacks_operand_kind_flag_or_required_option, start_of_command_line, words_as_operands_from_place, reading_of_words_from_place, or_err_at, or_stop_at_unread_word, reading_of_rest_of_command_words, words_reading_from_parts, reading_at_end_of_words, place_of_first_operand_refused_by_rule, applet_site_of_word, applet_site_after_double_dash, applet_site_from_ended_read_applet, unless_refused_at, command_of_reading_with_end_place, with_operand_in_front, with_option_or_value_word}
+use Rattle.words_core.specs.Options.{OptionSpec, applet_of, is_option_word_that_may_precede_applet, options_of}
 use Rattle.words_core.proofs.KindsKept.{IsPlain, start_known}
 use Rattle.words_core.proofs.Sites.{IsForeign, foreign_between, no_start}
 
@@ -35,11 +35,11 @@ operands_between place behind (word ∷ words) l =
     let less : place + 1 + length words ≤ behind = omega arith in
     ((omega arith, omega arith), all_lower (place + 1) place behind (words_as_operands_from_place (place + 1) words) (omega arith) (operands_between (place + 1) behind words less))
 
-pub refused_between : (rule : OperandRule) (before low behind place : ℕ) (operands : List Operand) → AllBetween low behind operands → first_refused_operand rule before operands ≡ Some place → IsBetween low behind place
+pub refused_between : (rule : OperandRule) (before low behind place : ℕ) (operands : List Operand) → AllBetween low behind operands → place_of_first_refused_operand rule before operands ≡ Some place → IsBetween low behind place
 refused_between rule before low behind place [] h e = absurd (none-some place e)
 refused_between rule before low behind place (o ∷ os) h e =
-    elim (takes rule before o.text) as (λ b. (if b then first_refused_operand rule (before + 1) os else Some o.place) ≡ Some place → IsBetween low behind place) [
-      | true ↦ λ (later : first_refused_operand rule (before + 1) os ≡ Some place). refused_between rule (before + 1) low behind place os h.1 later
+    elim (takes rule before o.text) as (λ b. (if b then place_of_first_refused_operand rule (before + 1) os else Some o.place) ≡ Some place → IsBetween low behind place) [
+      | true ↦ λ (later : place_of_first_refused_operand rule (before + 1) os ≡ Some place). refused_between rule (before + 1) low behind place os h.1 later
       | false ↦ λ (here : Some o.place ≡ Some place). subst (λ n. IsBetween low behind n) (same_Some o.place place here) h.0
     ] e
 
@@ -95,10 +95,10 @@ from_placed start words l =
     ]
 
 -- the first that offends, at most behind the words
-pub first_between : (rule : Option OperandRule) (low behind place : ℕ) (reading : Reading) → IsPlaced low behind reading → option_or (place_of_refused_operand rule reading.operands) reading.unread ≡ Some place → IsBetween low (behind + 1) place
+pub first_between : (rule : Option OperandRule) (low behind place : ℕ) (reading : Reading) → IsPlaced low behind reading → option_or (place_of_first_operand_refused_by_rule rule reading.operands) reading.unread ≡ Some place → IsBetween low (behind + 1) place
 first_between None low behind place reading p h = p.unread place h
 first_between (Some rule) low behind place reading p h =
-    elim (first_refused_operand rule 0 reading.operands) as (λ o. first_refused_operand rule 0 reading.operands ≡ o → option_or o reading.unread ≡ Some place → IsBetween low (behind + 1) place) [
+    elim (place_of_first_refused_operand rule 0 reading.operands) as (λ o. place_of_first_refused_operand rule 0 reading.operands ≡ o → option_or o reading.unread ≡ Some place → IsBetween low (behind + 1) place) [
       | None ↦ λ f e. p.unread place e
       | Some at ↦ λ f (e : Some at ≡ Some place).
           let is = refused_between rule 0 low behind place reading.operands p.operands (f ∙ e) in (is.0, omega (arith, is.1))
@@ -108,22 +108,22 @@ first_between (Some rule) low behind place reading p h =
 abbrev pub IsJudgedAt : ℕ → Option ℕ → ℕ → Type 0
 IsJudgedAt behind first place = (first ≡ Some place) ⊎ ((first ≡ None) × (place ≡ behind))
 
-pub judged_at : (applet : Applet) (reading : Reading) (behind place : ℕ) → command_of_reading_with_end_place behind applet reading ≡ Err place → IsJudgedAt behind (option_or (place_of_refused_operand (operand_rule applet reading.state.flags) reading.operands) reading.unread) place
+pub judged_at : (applet : Applet) (reading : Reading) (behind place : ℕ) → command_of_reading_with_end_place behind applet reading ≡ Err place → IsJudgedAt behind (option_or (place_of_first_operand_refused_by_rule (operand_rule_if_needed_kind_flag_given applet reading.state.flags) reading.operands) reading.unread) place
 unfolding command_of_reading_with_end_place
 judged_at applet reading behind place h =
-    let rule = operand_rule applet reading.state.flags in
-    elim (option_or (place_of_refused_operand rule reading.operands) reading.unread) as (λ o. unless_refused_at o (if lacks_operand_or_required_value applet rule reading then Err behind else Ok (command_from_end_place_and_reading behind applet reading)) ≡ Err place → IsJudgedAt behind o place) [
-      | None ↦ elim (lacks_operand_or_required_value applet rule reading) as (λ b. (if b then Err behind else Ok (command_from_end_place_and_reading behind applet reading)) ≡ Err place → IsJudgedAt behind None place) [
+    let rule = operand_rule_if_needed_kind_flag_given applet reading.state.flags in
+    elim (option_or (place_of_first_operand_refused_by_rule rule reading.operands) reading.unread) as (λ o. unless_refused_at o (if lacks_operand_kind_flag_or_required_option applet rule reading then Err behind else Ok (command_from_end_place_and_reading behind applet reading)) ≡ Err place → IsJudgedAt behind o place) [
+      | None ↦ elim (lacks_operand_kind_flag_or_required_option applet rule reading) as (λ b. (if b then Err behind else Ok (command_from_end_place_and_reading behind applet reading)) ≡ Err place → IsJudgedAt behind None place) [
         | true ↦ λ (e : Err behind ≡ Err place). inr (refl, cc)
         | false ↦ λ (e : Ok (command_from_end_place_and_reading behind applet reading) ≡ Err place). absurd (cc)
       ]
       | Some at ↦ λ (e : Err at ≡ Err place). inl cc
     ] h
 
-pub judged_bad : (applet : Applet) (reading : Reading) (behind place : ℕ) → option_or (place_of_refused_operand (operand_rule applet reading.state.flags) reading.operands) reading.unread ≡ Some place → command_of_reading_with_end_place behind applet reading ≡ Err place
+pub judged_bad : (applet : Applet) (reading : Reading) (behind place : ℕ) → option_or (place_of_first_operand_refused_by_rule (operand_rule_if_needed_kind_flag_given applet reading.state.flags) reading.operands) reading.unread ≡ Some place → command_of_reading_with_end_place behind applet reading ≡ Err place
 unfolding command_of_reading_with_end_place
 judged_bad applet reading behind place h =
-    ap (λ o. unless_refused_at o (if lacks_operand_or_required_value applet (operand_rule applet reading.state.flags) reading then Err behind else Ok (command_from_end_place_and_reading behind applet reading))) h
+    ap (λ o. unless_refused_at o (if lacks_operand_kind_flag_or_required_option applet (operand_rule_if_needed_kind_flag_given applet reading.state.flags) reading then Err behind else Ok (command_from_end_place_and_reading behind applet reading))) h
 
 -- where the search for the applet ends
 abbrev pub IsSearched : ℕ → ℕ → Result AppletSite ℕ → Type 0
@@ -133,7 +133,7 @@ IsSearched low behind (Err place) = IsBetween low behind place
 pub named_searched : (ended : Bool) (place low behind : ℕ) (word : List ℕ) → IsBetween low behind place → IsSearched low behind (applet_site_of_word ended place word)
 unfolding applet_site_of_word
 named_searched ended place low behind word h =
-    elim (applet_of word) as (λ o. IsSearched low behind (or_err_at place (λ applet. Ok (applet_site_from_parts ended place applet)) o)) [
+    elim (applet_of word) as (λ o. IsSearched low behind (or_err_at place (λ applet. Ok (applet_site_from_ended_read_applet ended place applet)) o)) [
       | None ↦ h
       | Some applet ↦ tt
     ]
@@ -148,10 +148,10 @@ site_searched place low behind [] l h = (omega arith, omega arith)
 site_searched place low behind (word ∷ words) l h =
     let less : place + 1 + length words < behind = omega arith in
     let here : IsBetween low behind place = (omega arith, omega arith) in
-    elim (is_double_dash word) as (λ b. IsSearched low behind (if b then applet_site_after_double_dash (place + 1) words else if is_option word then (if is_early_option_word word then applet_site (place + 1) words else Err place) else applet_site_of_word false place word)) [
+    elim (is_double_dash word) as (λ b. IsSearched low behind (if b then applet_site_after_double_dash (place + 1) words else if is_option_or_double_dash word then (if is_option_word_that_may_precede_applet word then applet_site (place + 1) words else Err place) else applet_site_of_word false place word)) [
       | true ↦ end_searched (place + 1) low behind words (omega arith, omega arith)
-      | false ↦ elim (is_option word) as (λ b. IsSearched low behind (if b then (if is_early_option_word word then applet_site (place + 1) words else Err place) else applet_site_of_word false place word)) [
-        | true ↦ elim (is_early_option_word word) as (λ b. IsSearched low behind (if b then applet_site (place + 1) words else Err place)) [
+      | false ↦ elim (is_option_or_double_dash word) as (λ b. IsSearched low behind (if b then (if is_option_word_that_may_precede_applet word then applet_site (place + 1) words else Err place) else applet_site_of_word false place word)) [
+        | true ↦ elim (is_option_word_that_may_precede_applet word) as (λ b. IsSearched low behind (if b then applet_site (place + 1) words else Err place)) [
           | true ↦ site_searched (place + 1) low behind words (omega arith) less
           | false ↦ here
         ]
@@ -179,6 +179,6 @@ usage_between words place c =
         let known : IsPlain start (1 + length words) = start_known words start s in
         let placed : IsPlaced (start.read + 1) (length words + 1) (reading_of_rest_of_command_words start words) = from_placed start words (omega (arith, known.read)) in
         elim (judged_at start.applet (reading_of_rest_of_command_words start words) (length words + 1) place e) as (λ _. (1 ≤ place) × (place ≤ length words + 1)) [
-          | inl first ↦ (let is = first_between (operand_rule start.applet (reading_of_rest_of_command_words start words).state.flags) (start.read + 1) (length words + 1) place (reading_of_rest_of_command_words start words) placed first in (omega (arith, is.0), omega (arith, is.1)))
+          | inl first ↦ (let is = first_between (operand_rule_if_needed_kind_flag_given start.applet (reading_of_rest_of_command_words start words).state.flags) (start.read + 1) (length words + 1) place (reading_of_rest_of_command_words start words) placed first in (omega (arith, is.0), omega (arith, is.1)))
           | inr last ↦ (omega (arith, last.1), omega (arith, last.1))
         ]

@@ -7,8 +7,8 @@ use Rattle.command_core.specs.declared.operands.Operand.{Operand}
 use Rattle.command_core.specs.Operands.{operand_at}
 use Rattle.words_core.specs.declared.reading.OptionState.{OptionState}
 use Rattle.words_core.specs.declared.reading.Reading.{Reading}
-use Rattle.words_core.specs.Grammar.{applet_site, flags_with_early_options, is_double_dash, is_option, is_option_or_value, words_as_operands_from_place, reading_of_words_from_place, or_err_at, or_stop_at_unread_word, words_reading_from_parts, applet_site_of_word, applet_site_after_double_dash, with_operand_in_front, flags_with_option_word, flags_with_option, with_option_or_value_word}
-use Rattle.words_core.specs.Options.{OptionSpec, is_early_option_word, option_of_word}
+use Rattle.words_core.specs.Grammar.{applet_site, flags_with_options_before_applet, is_double_dash, is_option_or_double_dash, is_option_or_value, words_as_operands_from_place, reading_of_words_from_place, or_err_at, or_stop_at_unread_word, words_reading_from_parts, applet_site_of_word, applet_site_after_double_dash, with_operand_in_front, flags_with_option_word_if_one_command_kind, flags_with_option_if_one_command_kind, with_option_or_value_word}
+use Rattle.words_core.specs.Options.{OptionSpec, is_option_word_that_may_precede_applet, option_of_word}
 use Rattle.words_core.specs.Steps.{IsReadingStep}
 
 -- what is left of a list where an element stands
@@ -33,20 +33,20 @@ behind_front operands pushed reading word place at p e =
     ap (λ os. words_reading_from_parts reading.state os reading.unread) (pushed_front operands pushed reading.operands word place at p e)
 
 -- flags with an option that was found
-pub option_found : (options : List OptionSpec) (flags : Flags) (word : List ℕ) (found : Option OptionSpec) (result more : Option Flags) → found ≡ option_of_word options word → result ≡ option_and_then (flags_with_option flags) found → result ≡ more → flags_with_option_word options flags word ≡ more
-option_found options flags word found result more f r m = sym (ap (option_and_then (flags_with_option flags)) f) ∙ (sym r ∙ m)
+pub option_found : (options : List OptionSpec) (flags : Flags) (word : List ℕ) (found : Option OptionSpec) (result more : Option Flags) → found ≡ option_of_word options word → result ≡ option_and_then (flags_with_option_if_one_command_kind flags) found → result ≡ more → flags_with_option_word_if_one_command_kind options flags word ≡ more
+option_found options flags word found result more f r m = sym (ap (option_and_then (flags_with_option_if_one_command_kind flags)) f) ∙ (sym r ∙ m)
 
 -- the search for the applet
 pub site_ended : (words : List (List ℕ)) (i : ℕ) (word : List ℕ) → slice_get words i ≡ Some word → is_double_dash word ≡ true → applet_site (i + 1) (drop i words) ≡ applet_site_after_double_dash (i + 1 + 1) (drop (i + 1) words)
 site_ended words i word at e = rw (left_at words i word at) (rw e refl)
 
-pub site_named : (words : List (List ℕ)) (i : ℕ) (word : List ℕ) → slice_get words i ≡ Some word → is_double_dash word ≡ false → is_option word ≡ false → applet_site (i + 1) (drop i words) ≡ applet_site_of_word false (i + 1) word
+pub site_named : (words : List (List ℕ)) (i : ℕ) (word : List ℕ) → slice_get words i ≡ Some word → is_double_dash word ≡ false → is_option_or_double_dash word ≡ false → applet_site (i + 1) (drop i words) ≡ applet_site_of_word false (i + 1) word
 site_named words i word at e o = rw (left_at words i word at) (rw e (rw o refl))
 
-pub site_unread : (words : List (List ℕ)) (i : ℕ) (word : List ℕ) → slice_get words i ≡ Some word → is_double_dash word ≡ false → is_option word ≡ true → is_early_option_word word ≡ false → applet_site (i + 1) (drop i words) ≡ Err (i + 1)
+pub site_unread : (words : List (List ℕ)) (i : ℕ) (word : List ℕ) → slice_get words i ≡ Some word → is_double_dash word ≡ false → is_option_or_double_dash word ≡ true → is_option_word_that_may_precede_applet word ≡ false → applet_site (i + 1) (drop i words) ≡ Err (i + 1)
 site_unread words i word at e o y = rw (left_at words i word at) (rw e (rw o (rw y refl)))
 
-pub site_more : (words : List (List ℕ)) (i : ℕ) (word : List ℕ) → slice_get words i ≡ Some word → is_double_dash word ≡ false → is_option word ≡ true → is_early_option_word word ≡ true → applet_site (i + 1) (drop i words) ≡ applet_site (i + 1 + 1) (drop (i + 1) words)
+pub site_more : (words : List (List ℕ)) (i : ℕ) (word : List ℕ) → slice_get words i ≡ Some word → is_double_dash word ≡ false → is_option_or_double_dash word ≡ true → is_option_word_that_may_precede_applet word ≡ true → applet_site (i + 1) (drop i words) ≡ applet_site (i + 1 + 1) (drop (i + 1) words)
 site_more words i word at e o y = rw (left_at words i word at) (rw e (rw o (rw y refl)))
 
 -- the flags before the applet
@@ -56,13 +56,13 @@ taken_at (w ∷ words) zero i word l at = absurd (omega (arith, l))
 taken_at (w ∷ words) (suc count) zero word l at = at
 taken_at (w ∷ words) (suc count) (suc i) word l at = taken_at words count i word (omega (arith, l)) at
 
-pub early_ended : (options : List OptionSpec) (flags : Flags) (words : List (List ℕ)) (i : ℕ) (word : List ℕ) → slice_get words i ≡ Some word → is_double_dash word ≡ true → flags_with_early_options options flags (i + 1) (drop i words) ≡ Ok flags
+pub early_ended : (options : List OptionSpec) (flags : Flags) (words : List (List ℕ)) (i : ℕ) (word : List ℕ) → slice_get words i ≡ Some word → is_double_dash word ≡ true → flags_with_options_before_applet options flags (i + 1) (drop i words) ≡ Ok flags
 early_ended options flags words i word at e = rw (left_at words i word at) (rw e refl)
 
-pub early_more : (options : List OptionSpec) (flags : Flags) (words : List (List ℕ)) (i : ℕ) (word : List ℕ) (more : Option Flags) → slice_get words i ≡ Some word → is_double_dash word ≡ false → flags_with_option_word options flags word ≡ more → flags_with_early_options options flags (i + 1) (drop i words) ≡ or_err_at (i + 1) (λ m. flags_with_early_options options m (i + 1 + 1) (drop (i + 1) words)) more
+pub early_more : (options : List OptionSpec) (flags : Flags) (words : List (List ℕ)) (i : ℕ) (word : List ℕ) (more : Option Flags) → slice_get words i ≡ Some word → is_double_dash word ≡ false → flags_with_option_word_if_one_command_kind options flags word ≡ more → flags_with_options_before_applet options flags (i + 1) (drop i words) ≡ or_err_at (i + 1) (λ m. flags_with_options_before_applet options m (i + 1 + 1) (drop (i + 1) words)) more
 early_more options flags words i word more at e m = rw (left_at words i word at) (rw e (rw m refl))
 
-pub early_done : (options : List OptionSpec) (flags : Flags) (words : List (List ℕ)) (i : ℕ) → length words ≤ i → flags_with_early_options options flags (i + 1) (drop i words) ≡ Ok flags
+pub early_done : (options : List OptionSpec) (flags : Flags) (words : List (List ℕ)) (i : ℕ) → length words ≤ i → flags_with_options_before_applet options flags (i + 1) (drop i words) ≡ Ok flags
 early_done options flags words i l = rw (drop_all words i l) refl
   where
     drop_all : (ws : List (List ℕ)) (k : ℕ) → length ws ≤ k → drop k ws ≡ []

@@ -12,7 +12,7 @@ use Rattle.command_core.specs.Operands.{operand_at}
 use Rattle.words_core.specs.declared.next.NextWord.{NextWord}
 use Rattle.words_core.specs.declared.next.NextWord.TheVariants.{OptionOrCommand, OptionOrOperand, Value as NextValue, Operand as OperandAlone}
 use Rattle.words_core.specs.declared.reading.OptionState.{OptionState}
-use Rattle.words_core.specs.Grammar.{is_double_dash, is_option, is_option_or_value, next_word_of_command_line, next_word_after_option, next_word, next_word_after_words, words_as_operands_from_place, reading_of_words_from_place, or_stop_at_unread_word, words_reading_from_parts, with_operand_in_front, with_option_or_value_word}
+use Rattle.words_core.specs.Grammar.{is_double_dash, is_option_or_double_dash, is_option_or_value, next_word_of_command_line, next_word_after_option, next_word, next_word_after_words, words_as_operands_from_place, reading_of_words_from_place, or_stop_at_unread_word, words_reading_from_parts, with_operand_in_front, with_option_or_value_word}
 use Rattle.words_core.specs.Options.{options_of}
 use Rattle.words_core.proofs.Asked.{next_append, next_ended, next_operand, next_taken, operand_stays}
 use Rattle.words_core.proofs.AskedLines.{get_after, take_front}
@@ -22,7 +22,7 @@ use Rattle.words_core.proofs.GoneOn.{none_is, not_option}
 
 -- a word that is read as an operand, by what it could have been
 abbrev pub IsOperandNext : Applet → NextWord → List ℕ → Type 0
-IsOperandNext applet next text = (next ≡ OperandAlone applet) ⊎ ((next ≡ OptionOrOperand applet) × ((is_option text && not (is_double_dash text)) ≡ false))
+IsOperandNext applet next text = (next ≡ OperandAlone applet) ⊎ ((next ≡ OptionOrOperand applet) × ((is_option_or_double_dash text && not (is_double_dash text)) ≡ false))
 
 pub record IsOperandAt (applet : Applet) (words : List (List ℕ)) (o : Operand) : Type 0 where
   pub at : slice_get words (o.place - 1) ≡ Some o.text
@@ -69,7 +69,7 @@ operands_at applet state front (word ∷ words) n =
         | Some g ↦ λ w. on g (operands_at applet g (front ++ (word ∷ [])) words (next_one front word ∙ (ap (λ x. next_word x word) n ∙ next_taken applet state g (length front + 1) word t w)))
       ] refl
       | false ↦ λ t.
-          let parts = or_parts (is_some state.awaiting) (is_option word && not (is_double_dash word)) t in
+          let parts = or_parts (is_some state.awaiting) (is_option_or_double_dash word && not (is_double_dash word)) t in
           let none : state.awaiting ≡ None = none_is state.awaiting parts.0 in
           let free : next_word_of_command_line front ≡ OptionOrOperand applet = n ∙ ap (next_word_after_option applet) none in
           elim (is_double_dash word) as (λ b. is_double_dash word ≡ b → AreOperandsAt applet (front ++ (word ∷ words)) (if b then words_reading_from_parts state (words_as_operands_from_place (length front + 1 + 1) words) None else with_operand_in_front (operand_at (length front + 1) word) (reading_of_words_from_place (options_of applet) state (length front + 1 + 1) words)).operands) [
@@ -79,7 +79,7 @@ operands_at applet state front (word ∷ words) n =
                 (texts_at applet (front ++ (word ∷ [])) words (next_one front word ∙ (ap (λ x. next_word x word) free ∙ next_ended applet word e))))
             | false ↦ λ e. (
               operand_here applet front words word (inr (free, parts.1)),
-              on state (operands_at applet state (front ++ (word ∷ [])) words (next_one front word ∙ (ap (λ x. next_word x word) free ∙ (next_operand applet word e (not_option (is_option word) (is_double_dash word) e parts.1) ∙ ap (next_word_after_option applet) (sym none))))),
+              on state (operands_at applet state (front ++ (word ∷ [])) words (next_one front word ∙ (ap (λ x. next_word x word) free ∙ (next_operand applet word e (not_option (is_option_or_double_dash word) (is_double_dash word) e parts.1) ∙ ap (next_word_after_option applet) (sym none))))),
             )
           ] refl
     ] refl
@@ -132,12 +132,12 @@ unread_at applet state front (word ∷ words) place n u =
         | Some g ↦ λ w u. on g (λ v. unread_at applet g (front ++ (word ∷ [])) words place (next_one front word ∙ (ap (λ x. next_word x word) n ∙ next_taken applet state g (length front + 1) word t w)) v) u
       ] refl
       | false ↦ λ t.
-          let parts = or_parts (is_some state.awaiting) (is_option word && not (is_double_dash word)) t in
+          let parts = or_parts (is_some state.awaiting) (is_option_or_double_dash word && not (is_double_dash word)) t in
           let none : state.awaiting ≡ None = none_is state.awaiting parts.0 in
           let free : next_word_of_command_line front ≡ OptionOrOperand applet = n ∙ ap (next_word_after_option applet) none in
           elim (is_double_dash word) as (λ b. is_double_dash word ≡ b → (if b then words_reading_from_parts state (words_as_operands_from_place (length front + 1 + 1) words) None else with_operand_in_front (operand_at (length front + 1) word) (reading_of_words_from_place (options_of applet) state (length front + 1 + 1) words)).unread ≡ Some place → IsUnreadAt applet (front ++ (word ∷ words)) place (if b then words_reading_from_parts state (words_as_operands_from_place (length front + 1 + 1) words) None else with_operand_in_front (operand_at (length front + 1) word) (reading_of_words_from_place (options_of applet) state (length front + 1 + 1) words)).state) [
             | true ↦ λ e u. absurd (none-some place u)
-            | false ↦ λ e u. on state (λ v. unread_at applet state (front ++ (word ∷ [])) words place (next_one front word ∙ (ap (λ x. next_word x word) free ∙ (next_operand applet word e (not_option (is_option word) (is_double_dash word) e parts.1) ∙ ap (next_word_after_option applet) (sym none)))) v) u
+            | false ↦ λ e u. on state (λ v. unread_at applet state (front ++ (word ∷ [])) words place (next_one front word ∙ (ap (λ x. next_word x word) free ∙ (next_operand applet word e (not_option (is_option_or_double_dash word) (is_double_dash word) e parts.1) ∙ ap (next_word_after_option applet) (sym none)))) v) u
           ] refl
     ] refl u
   where
@@ -178,12 +178,12 @@ end_at applet state front (word ∷ words) n u =
         | Some g ↦ λ w u. on g (λ v. end_at applet g (front ++ (word ∷ [])) words (next_one front word ∙ (ap (λ x. next_word x word) n ∙ next_taken applet state g (length front + 1) word t w)) v) u
       ] refl
       | false ↦ λ t.
-          let parts = or_parts (is_some state.awaiting) (is_option word && not (is_double_dash word)) t in
+          let parts = or_parts (is_some state.awaiting) (is_option_or_double_dash word && not (is_double_dash word)) t in
           let none : state.awaiting ≡ None = none_is state.awaiting parts.0 in
           let free : next_word_of_command_line front ≡ OptionOrOperand applet = n ∙ ap (next_word_after_option applet) none in
           elim (is_double_dash word) as (λ b. is_double_dash word ≡ b → (if b then words_reading_from_parts state (words_as_operands_from_place (length front + 1 + 1) words) None else with_operand_in_front (operand_at (length front + 1) word) (reading_of_words_from_place (options_of applet) state (length front + 1 + 1) words)).unread ≡ None → IsFreeNext applet (next_word_of_command_line (front ++ (word ∷ words)))) [
             | true ↦ λ e u. inl (next_append OptionOrCommand front (word ∷ words) ∙ (ap (λ x. next_word_after_words (next_word x word) words) free ∙ (ap (λ x. next_word_after_words x words) (next_ended applet word e) ∙ operand_stays applet words)))
-            | false ↦ λ e u. on state (λ v. end_at applet state (front ++ (word ∷ [])) words (next_one front word ∙ (ap (λ x. next_word x word) free ∙ (next_operand applet word e (not_option (is_option word) (is_double_dash word) e parts.1) ∙ ap (next_word_after_option applet) (sym none)))) v) u
+            | false ↦ λ e u. on state (λ v. end_at applet state (front ++ (word ∷ [])) words (next_one front word ∙ (ap (λ x. next_word x word) free ∙ (next_operand applet word e (not_option (is_option_or_double_dash word) (is_double_dash word) e parts.1) ∙ ap (next_word_after_option applet) (sym none)))) v) u
           ] refl
     ] refl u
   where

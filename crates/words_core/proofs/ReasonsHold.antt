@@ -14,10 +14,10 @@ use Rattle.command_core.specs.declared.operands.OperandKind.TheVariants.{File}
 use Rattle.command_core.specs.declared.operands.OperandRule.{OperandRule}
 use Rattle.command_core.specs.declared.values.OptionValue.{OptionValue}
 use Rattle.command_core.specs.declared.values.ValueRule.{ValueRule}
-use Rattle.command_core.specs.Applets.{required_option_letter, operand_rule}
+use Rattle.command_core.specs.Applets.{required_option_letter, operand_rule_if_needed_kind_flag_given}
 use Rattle.command_core.specs.Flags.{has_flag, has_command_kind_flag, no_flags, with_flag}
-use Rattle.command_core.specs.Operands.{at_least, first_refused_operand, allows_one_more_operand, is_operand_of_kind, takes}
-use Rattle.command_core.specs.Values.{excludes, is_excluded_by_earlier_value, is_given, is_single_and_given, is_value_of_kind, is_required_value_missing, option_value_from_place_and_letter}
+use Rattle.command_core.specs.Operands.{at_least, place_of_first_refused_operand, allows_one_more_operand, is_operand_of_kind, takes}
+use Rattle.command_core.specs.Values.{excludes, is_excluded_by_earlier_value, is_given, is_single_and_given, is_value_of_kind, is_required_value_missing, option_value_from_place_letter_and_text}
 use Rattle.words_core.specs.declared.next.NextWord.{NextWord}
 use Rattle.words_core.specs.declared.next.NextWord.TheVariants.{OptionOrCommand, OptionOrOperand, Value as NextValue, Operand as OperandAlone}
 use Rattle.words_core.specs.declared.options.Meaning.{Meaning}
@@ -27,7 +27,7 @@ use Rattle.words_core.specs.declared.reading.Reading.{Reading}
 use Rattle.words_core.specs.declared.reading.Start.{Start}
 use Rattle.words_core.specs.declared.usage.UsageReason.{UsageReason}
 use Rattle.words_core.specs.declared.usage.UsageReason.TheVariants.{OptionRepeated, OperandBad, ScriptRepeated, SecondKind, TooManyOperands, ValueBad}
-use Rattle.words_core.specs.Grammar.{applet_site, spelled_command_by_start, command_of, command_from_end_place_and_reading, option_state_at_start, attached_value, is_double_dash, is_option, lacks_operand_or_kind_flag, lacks_operand_or_required_value, spelled_command, start_of_command_line, next_word_of_command_line, next_word_after_option, next_word_after_words, words_as_operands_from_place, option_name, reading_of_words_from_place, reading_of_rest_of_command_words, words_reading_from_parts, place_of_refused_operand, value_rule_of_meaning, option_state_from_parts, command_of_reading_with_end_place, with_flags_if_some, state_with_meaning, with_option_value, with_word_as_option_or_value}
+use Rattle.words_core.specs.Grammar.{applet_site, spelled_command_by_start, command_of, command_from_end_place_and_reading, option_state_at_start, value_in_long_or_short_option_word, is_double_dash, is_option_or_double_dash, lacks_operand_or_kind_flag, lacks_operand_kind_flag_or_required_option, spelled_command, start_of_command_line, next_word_of_command_line, next_word_after_option, next_word_after_words, words_as_operands_from_place, option_word_without_value, reading_of_words_from_place, reading_of_rest_of_command_words, words_reading_from_parts, place_of_first_operand_refused_by_rule, value_rule_of_meaning, option_state_from_parts, command_of_reading_with_end_place, with_flags_if_some, state_with_meaning, with_option_value, with_word_as_option_or_value}
 use Rattle.words_core.specs.Options.{OptionSpec, option_of_word, options_of}
 use Rattle.words_core.specs.Reasons.{IsUsageReason, IsValueRuleOfWord, HasOptionValue}
 use Rattle.words_core.specs.Usage.{early_reason, end_reason, line_reason, operand_rule_of_words, meaning_reason, missing_reason, operand_reason, option_reason, usage_reason_after_start, repeated_value_reason, usage_reason, value_reason, word_reason}
@@ -58,10 +58,10 @@ record IsRefused (applet : Applet) (words : List (List ℕ)) (rule : OperandRule
   less : count < end
   refuses : takes rule count word ≡ false
 
-refused_is : (applet : Applet) (words : List (List ℕ)) (rule : OperandRule) (before place : ℕ) (operands : List Operand) → AreOperandsAt applet words operands → first_refused_operand rule before operands ≡ Some place → IsRefused applet words rule (before + length operands) place
+refused_is : (applet : Applet) (words : List (List ℕ)) (rule : OperandRule) (before place : ℕ) (operands : List Operand) → AreOperandsAt applet words operands → place_of_first_refused_operand rule before operands ≡ Some place → IsRefused applet words rule (before + length operands) place
 refused_is applet words rule before place [] at h = absurd (none-some place h)
 refused_is applet words rule before place (o ∷ operands) at h =
-    elim (takes rule before o.text) as (λ b. takes rule before o.text ≡ b → (if b then first_refused_operand rule (before + 1) operands else Some o.place) ≡ Some place → IsRefused applet words rule (before + length (o ∷ operands)) place) [
+    elim (takes rule before o.text) as (λ b. takes rule before o.text ≡ b → (if b then place_of_first_refused_operand rule (before + 1) operands else Some o.place) ≡ Some place → IsRefused applet words rule (before + length (o ∷ operands)) place) [
       | true ↦ λ t h.
           let end : before + 1 + length operands ≡ before + length (o ∷ operands) = omega arith in
           subst (λ n. IsRefused applet words rule n place) end (refused_is applet words rule (before + 1) place operands at.1 h)
@@ -79,7 +79,7 @@ operand_why : (applet : Applet) (rule : Option OperandRule) (word : List ℕ) (n
 operand_why applet rule word next (inl e) = ap (word_reason rule word) e
 operand_why applet rule word next (inr e) =
     ap (word_reason rule word) e.0
-    ∙ ap (λ b. if b then option_reason word (option_of_word (options_of applet) (option_name word)) else operand_reason word rule) e.1
+    ∙ ap (λ b. if b then option_reason word (option_of_word (options_of applet) (option_word_without_value word)) else operand_reason word rule) e.1
 
 -- ---- values
 
@@ -227,7 +227,7 @@ module _ (words : List (List ℕ)) (start : Start) (s : start_of_command_line wo
           ] refl
 
   -- an option of the command that cannot be given
-  meaning_why : (place : ℕ) (word : List ℕ) (option : OptionSpec) → slice_get words (place - 1) ≡ Some word → option_of_word (options_of start.applet) (option_name word) ≡ Some option → (held : Option (List ℕ)) → attached_value word ≡ held → (meaning : Meaning) → option.meaning ≡ meaning
+  meaning_why : (place : ℕ) (word : List ℕ) (option : OptionSpec) → slice_get words (place - 1) ≡ Some word → option_of_word (options_of start.applet) (option_word_without_value word) ≡ Some option → (held : Option (List ℕ)) → value_in_long_or_short_option_word word ≡ held → (meaning : Meaning) → option.meaning ≡ meaning
       → state_with_meaning (reading_of_rest_of_command_words start words).state place held meaning ≡ None → IsUsageReason (meaning_reason held meaning) words place
   meaning_why place word option at o (Some text) h (Plain flag) m u = (word, at, (start, s, ((option, o, ap value_rule_of_meaning m), ap is_some h)))
   meaning_why place word option at o (Some text) h (Kind flag) m u = (word, at, (start, s, ((option, o, ap value_rule_of_meaning m), ap is_some h)))
@@ -240,8 +240,8 @@ module _ (words : List (List ℕ)) (start : Start) (s : start_of_command_line wo
     where
       no_value : (rule : ValueRule) (text : List ℕ) (place : ℕ) → with_option_value (reading_of_rest_of_command_words start words).state place text rule ≡ None → (is_value_of_kind rule.kind text && not (is_excluded_by_earlier_value rule text (reading_of_rest_of_command_words start words).state.values)) ≡ false
       no_value rule text place n =
-          elim (is_value_of_kind rule.kind text && not (is_excluded_by_earlier_value rule text (reading_of_rest_of_command_words start words).state.values)) as (λ b. (if b then Some (option_state_from_parts (reading_of_rest_of_command_words start words).state.flags ((reading_of_rest_of_command_words start words).state.values ++ (option_value_from_place_and_letter place rule.letter text ∷ [])) None) else None) ≡ None → b ≡ false) [
-            | true ↦ λ (k : Some (option_state_from_parts (reading_of_rest_of_command_words start words).state.flags ((reading_of_rest_of_command_words start words).state.values ++ (option_value_from_place_and_letter place rule.letter text ∷ [])) None) ≡ None). absurd (none-some (option_state_from_parts (reading_of_rest_of_command_words start words).state.flags ((reading_of_rest_of_command_words start words).state.values ++ (option_value_from_place_and_letter place rule.letter text ∷ [])) None) (sym k))
+          elim (is_value_of_kind rule.kind text && not (is_excluded_by_earlier_value rule text (reading_of_rest_of_command_words start words).state.values)) as (λ b. (if b then Some (option_state_from_parts (reading_of_rest_of_command_words start words).state.flags ((reading_of_rest_of_command_words start words).state.values ++ (option_value_from_place_letter_and_text place rule.letter text ∷ [])) None) else None) ≡ None → b ≡ false) [
+            | true ↦ λ (k : Some (option_state_from_parts (reading_of_rest_of_command_words start words).state.flags ((reading_of_rest_of_command_words start words).state.values ++ (option_value_from_place_letter_and_text place rule.letter text ∷ [])) None) ≡ None). absurd (none-some (option_state_from_parts (reading_of_rest_of_command_words start words).state.flags ((reading_of_rest_of_command_words start words).state.values ++ (option_value_from_place_letter_and_text place rule.letter text ∷ [])) None) (sym k))
             | false ↦ λ k. refl
           ] n
   meaning_why place word option at o None h (Plain flag) m u = absurd (none-some (option_state_from_parts (with_flag flag (reading_of_rest_of_command_words start words).state.flags) (reading_of_rest_of_command_words start words).state.values (reading_of_rest_of_command_words start words).state.awaiting) (sym u))
@@ -269,22 +269,22 @@ module _ (words : List (List ℕ)) (start : Start) (s : start_of_command_line wo
 
       no_value : (rule : ValueRule) → with_option_value (reading_of_rest_of_command_words start words).state place u.word rule ≡ None → (is_value_of_kind rule.kind u.word && not (is_excluded_by_earlier_value rule u.word (reading_of_rest_of_command_words start words).state.values)) ≡ false
       no_value rule n =
-          elim (is_value_of_kind rule.kind u.word && not (is_excluded_by_earlier_value rule u.word (reading_of_rest_of_command_words start words).state.values)) as (λ b. (if b then Some (option_state_from_parts (reading_of_rest_of_command_words start words).state.flags ((reading_of_rest_of_command_words start words).state.values ++ (option_value_from_place_and_letter place rule.letter u.word ∷ [])) None) else None) ≡ None → b ≡ false) [
-            | true ↦ λ (k : Some (option_state_from_parts (reading_of_rest_of_command_words start words).state.flags ((reading_of_rest_of_command_words start words).state.values ++ (option_value_from_place_and_letter place rule.letter u.word ∷ [])) None) ≡ None). absurd (none-some (option_state_from_parts (reading_of_rest_of_command_words start words).state.flags ((reading_of_rest_of_command_words start words).state.values ++ (option_value_from_place_and_letter place rule.letter u.word ∷ [])) None) (sym k))
+          elim (is_value_of_kind rule.kind u.word && not (is_excluded_by_earlier_value rule u.word (reading_of_rest_of_command_words start words).state.values)) as (λ b. (if b then Some (option_state_from_parts (reading_of_rest_of_command_words start words).state.flags ((reading_of_rest_of_command_words start words).state.values ++ (option_value_from_place_letter_and_text place rule.letter u.word ∷ [])) None) else None) ≡ None → b ≡ false) [
+            | true ↦ λ (k : Some (option_state_from_parts (reading_of_rest_of_command_words start words).state.flags ((reading_of_rest_of_command_words start words).state.values ++ (option_value_from_place_letter_and_text place rule.letter u.word ∷ [])) None) ≡ None). absurd (none-some (option_state_from_parts (reading_of_rest_of_command_words start words).state.flags ((reading_of_rest_of_command_words start words).state.values ++ (option_value_from_place_letter_and_text place rule.letter u.word ∷ [])) None) (sym k))
             | false ↦ λ k. refl
           ] n
 
-      unknown : option_of_word (options_of start.applet) (option_name u.word) ≡ None → IsUsageReason (option_reason u.word None) words place
+      unknown : option_of_word (options_of start.applet) (option_word_without_value u.word) ≡ None → IsUsageReason (option_reason u.word None) words place
       unknown o =
           let parts = start_parts words start s in
-          (u.word, u.at, (parts.site, parts.found, subst (λ (x : Start). option_of_word (options_of x.applet) (option_name u.word) ≡ None) (sym parts.same) o))
+          (u.word, u.at, (parts.site, parts.found, subst (λ (x : Start). option_of_word (options_of x.applet) (option_word_without_value u.word) ≡ None) (sym parts.same) o))
 
-      by_option : (reading_of_rest_of_command_words start words).state.awaiting ≡ None → (found : Option OptionSpec) → option_of_word (options_of start.applet) (option_name u.word) ≡ found → IsUsageReason (option_reason u.word found) words place
+      by_option : (reading_of_rest_of_command_words start words).state.awaiting ≡ None → (found : Option OptionSpec) → option_of_word (options_of start.applet) (option_word_without_value u.word) ≡ found → IsUsageReason (option_reason u.word found) words place
       by_option a None o = unknown o
       by_option a (Some option) o =
-          meaning_why place u.word option u.at o (attached_value u.word) refl option.meaning refl
+          meaning_why place u.word option u.at o (value_in_long_or_short_option_word u.word) refl option.meaning refl
           (sym (ap (with_word_as_option_or_value (options_of start.applet) (reading_of_rest_of_command_words start words).state place u.word) a
-          ∙ ap (option_and_then (λ (e : OptionSpec). state_with_meaning (reading_of_rest_of_command_words start words).state place (attached_value u.word) e.meaning)) o) ∙ u.unread)
+          ∙ ap (option_and_then (λ (e : OptionSpec). state_with_meaning (reading_of_rest_of_command_words start words).state place (value_in_long_or_short_option_word u.word) e.meaning)) o) ∙ u.unread)
 
       by_awaiting : (awaiting : Option ValueRule) → (reading_of_rest_of_command_words start words).state.awaiting ≡ awaiting → IsUsageReason (usage_reason words place) words place
       by_awaiting (Some rule) a =
@@ -293,24 +293,24 @@ module _ (words : List (List ℕ)) (start : Start) (s : start_of_command_line wo
           (value_why place u.word rule u.word u.at (inl a) (λ P p. inl (rule, a, p))
           (inl (no_value rule (sym (ap (with_word_as_option_or_value (options_of start.applet) (reading_of_rest_of_command_words start words).state place u.word) a) ∙ u.unread))))
       by_awaiting None a =
-          let option : (is_option u.word && not (is_double_dash u.word)) ≡ true = sym (ap (λ o. is_some o || (is_option u.word && not (is_double_dash u.word))) a) ∙ u.taken in
-          holds place (option_reason u.word (option_of_word (options_of start.applet) (option_name u.word)))
+          let option : (is_option_or_double_dash u.word && not (is_double_dash u.word)) ≡ true = sym (ap (λ o. is_some o || (is_option_or_double_dash u.word && not (is_double_dash u.word))) a) ∙ u.taken in
+          holds place (option_reason u.word (option_of_word (options_of start.applet) (option_word_without_value u.word)))
           (word_is place u.word (OptionOrOperand start.applet) u.at (u.next ∙ ap (next_word_after_option start.applet) a)
-          ∙ ap (λ b. if b then option_reason u.word (option_of_word (options_of start.applet) (option_name u.word)) else operand_reason u.word (operand_rule_of_words words start)) option)
-          (by_option a (option_of_word (options_of start.applet) (option_name u.word)) refl)
+          ∙ ap (λ b. if b then option_reason u.word (option_of_word (options_of start.applet) (option_word_without_value u.word)) else operand_reason u.word (operand_rule_of_words words start)) option)
+          (by_option a (option_of_word (options_of start.applet) (option_word_without_value u.word)) refl)
 
   unread_why : (place : ℕ) → IsUnreadAt start.applet words place (reading_of_rest_of_command_words start words).state → IsUsageReason (usage_reason words place) words place
   unread_why place (inl u) = word_why place u
   unread_why place (inr u) = subst (λ r. IsUsageReason r words place) (sym (end_is place (NextValue start.applet u.rule) u.end u.next)) (u.end, (start, s, ap is_some u.awaits))
 
   -- a word that is missing
-  missing_why : (place : ℕ) → place ≡ length words + 1 → lacks_operand_or_required_value start.applet (operand_rule_of_words words start) (reading_of_rest_of_command_words start words) ≡ true → IsUsageReason (missing_reason (required_option_letter start.applet) (operand_rule_of_words words start)) words place
+  missing_why : (place : ℕ) → place ≡ length words + 1 → lacks_operand_kind_flag_or_required_option start.applet (operand_rule_of_words words start) (reading_of_rest_of_command_words start words) ≡ true → IsUsageReason (missing_reason (required_option_letter start.applet) (operand_rule_of_words words start)) words place
   missing_why place e k = by_needed (required_option_letter start.applet) refl
     where
       operands_read : List Operand
       operands_read = (reading_of_rest_of_command_words start words).operands
 
-      needed_rule : (applet : Applet) (flags : Flags) (letter : ℕ) → required_option_letter applet ≡ Some letter → operand_rule applet flags ≡ Some (at_least 0 File)
+      needed_rule : (applet : Applet) (flags : Flags) (letter : ℕ) → required_option_letter applet ≡ Some letter → operand_rule_if_needed_kind_flag_given applet flags ≡ Some (at_least 0 File)
       needed_rule Mkndx flags letter n = refl
       needed_rule applet flags letter n = absurd (none-some letter n)
 
@@ -343,7 +343,7 @@ module _ (words : List (List ℕ)) (start : Start) (s : start_of_command_line wo
           (e, (start, s, (letter, n, not_given (is_given letter (reading_of_rest_of_command_words start words).state.values) none)))
       by_needed None n = by_rule n (operand_rule_of_words words start) refl
 
-  lacks_why : (place : ℕ) → place ≡ length words + 1 → (reading_of_rest_of_command_words start words).unread ≡ None → lacks_operand_or_required_value start.applet (operand_rule_of_words words start) (reading_of_rest_of_command_words start words) ≡ true → IsUsageReason (usage_reason words place) words place
+  lacks_why : (place : ℕ) → place ≡ length words + 1 → (reading_of_rest_of_command_words start words).unread ≡ None → lacks_operand_kind_flag_or_required_option start.applet (operand_rule_of_words words start) (reading_of_rest_of_command_words start words) ≡ true → IsUsageReason (usage_reason words place) words place
   lacks_why place e u k =
       elim (free u) as (λ _. IsUsageReason (usage_reason words place) words place) [
         | inl n ↦ subst (λ r. IsUsageReason r words place) (sym (end_is place (OperandAlone start.applet) e n)) (missing_why place e k)
@@ -353,20 +353,20 @@ module _ (words : List (List ℕ)) (start : Start) (s : start_of_command_line wo
   -- all that can be judged bad
   judged_why : (place : ℕ) → command_of_reading_with_end_place (length words + 1) start.applet (reading_of_rest_of_command_words start words) ≡ Err place → IsUsageReason (usage_reason words place) words place
   judged_why place h = elim (judged_at start.applet (reading_of_rest_of_command_words start words) (length words + 1) place h) as (λ _. IsUsageReason (usage_reason words place) words place) [
-    | inl first ↦ by_refused (place_of_refused_operand (operand_rule_of_words words start) (reading_of_rest_of_command_words start words).operands) refl first
-    | inr last ↦ (let none = both_none (place_of_refused_operand (operand_rule_of_words words start) (reading_of_rest_of_command_words start words).operands) (reading_of_rest_of_command_words start words).unread last.0 in
-        lacks_why place last.1 none.1 (lacking none.0 none.1 (lacks_operand_or_required_value start.applet (operand_rule_of_words words start) (reading_of_rest_of_command_words start words)) refl))
+    | inl first ↦ by_refused (place_of_first_operand_refused_by_rule (operand_rule_of_words words start) (reading_of_rest_of_command_words start words).operands) refl first
+    | inr last ↦ (let none = both_none (place_of_first_operand_refused_by_rule (operand_rule_of_words words start) (reading_of_rest_of_command_words start words).operands) (reading_of_rest_of_command_words start words).unread last.0 in
+        lacks_why place last.1 none.1 (lacking none.0 none.1 (lacks_operand_kind_flag_or_required_option start.applet (operand_rule_of_words words start) (reading_of_rest_of_command_words start words)) refl))
   ]
     where
-      by_rule : (rule : Option OperandRule) → operand_rule_of_words words start ≡ rule → place_of_refused_operand rule (reading_of_rest_of_command_words start words).operands ≡ Some place → IsUsageReason (usage_reason words place) words place
+      by_rule : (rule : Option OperandRule) → operand_rule_of_words words start ≡ rule → place_of_first_operand_refused_by_rule rule (reading_of_rest_of_command_words start words).operands ≡ Some place → IsUsageReason (usage_reason words place) words place
       by_rule None r e = absurd (none-some place e)
       by_rule (Some rule) r e = refused_why place rule r (refused_is start.applet words rule 0 place (reading_of_rest_of_command_words start words).operands operands e)
 
-      by_refused : (o : Option ℕ) → place_of_refused_operand (operand_rule_of_words words start) (reading_of_rest_of_command_words start words).operands ≡ o → option_or o (reading_of_rest_of_command_words start words).unread ≡ Some place → IsUsageReason (usage_reason words place) words place
+      by_refused : (o : Option ℕ) → place_of_first_operand_refused_by_rule (operand_rule_of_words words start) (reading_of_rest_of_command_words start words).operands ≡ o → option_or o (reading_of_rest_of_command_words start words).unread ≡ Some place → IsUsageReason (usage_reason words place) words place
       by_refused None e f = unread_why place (unread place f)
       by_refused (Some at) e f = by_rule (operand_rule_of_words words start) refl (e ∙ f)
 
-      lacking : place_of_refused_operand (operand_rule_of_words words start) (reading_of_rest_of_command_words start words).operands ≡ None → (reading_of_rest_of_command_words start words).unread ≡ None → (b : Bool) → lacks_operand_or_required_value start.applet (operand_rule_of_words words start) (reading_of_rest_of_command_words start words) ≡ b → lacks_operand_or_required_value start.applet (operand_rule_of_words words start) (reading_of_rest_of_command_words start words) ≡ true
+      lacking : place_of_first_operand_refused_by_rule (operand_rule_of_words words start) (reading_of_rest_of_command_words start words).operands ≡ None → (reading_of_rest_of_command_words start words).unread ≡ None → (b : Bool) → lacks_operand_kind_flag_or_required_option start.applet (operand_rule_of_words words start) (reading_of_rest_of_command_words start words) ≡ b → lacks_operand_kind_flag_or_required_option start.applet (operand_rule_of_words words start) (reading_of_rest_of_command_words start words) ≡ true
       lacking r u true k = k
       lacking r u false k = absurd (let good : Ok (command_from_end_place_and_reading (length words + 1) start.applet (reading_of_rest_of_command_words start words)) ≡ Err place = sym (judged_good start.applet (reading_of_rest_of_command_words start words) (length words + 1) r u k) ∙ h in cc)
 

@@ -11,12 +11,12 @@ use Rattle.command_core.specs.declared.operands.Operand.{Operand}
 use Rattle.command_core.specs.declared.operands.OperandRule.{OperandRule}
 use Rattle.command_core.specs.declared.values.OptionValue.{OptionValue}
 use Rattle.command_core.specs.declared.values.ValueRule.{ValueRule}
-use Rattle.command_core.specs.Applets.{operand_rule}
+use Rattle.command_core.specs.Applets.{operand_rule_if_needed_kind_flag_given}
 use Rattle.command_core.specs.Flags.{has_command_kind_flag}
-use Rattle.command_core.specs.Operands.{first_refused_operand}
+use Rattle.command_core.specs.Operands.{place_of_first_refused_operand}
 use Rattle.words_core.specs.declared.reading.Reading.{Reading}
 use Rattle.words_core.specs.declared.reading.Start.{Start}
-use Rattle.words_core.specs.Grammar.{spelled_command_by_start, command_of_reading_with_end_place, spelled_command, start_of_command_line, words_as_operands_from_place, reading_of_words_from_place, reading_of_rest_of_command_words, place_of_refused_operand}
+use Rattle.words_core.specs.Grammar.{spelled_command_by_start, command_of_reading_with_end_place, spelled_command, start_of_command_line, words_as_operands_from_place, reading_of_words_from_place, reading_of_rest_of_command_words, place_of_first_operand_refused_by_rule}
 use Rattle.words_core.specs.Kinds.{can_info_kind_follow, can_info_kind_follow_if_started, can_started_words_get_info_kind, is_info_applet}
 use Rattle.words_core.specs.Options.{OptionSpec, options_of}
 use Rattle.words_core.specs.Stuck.{have_options_ended}
@@ -61,7 +61,7 @@ pub record IsLonger (applet : Applet) (end : ℕ) (reading longer : Reading) : T
   pub unread : IsOpen end reading.unread
   pub new : List Operand
   pub operands : longer.operands ≡ reading.operands ++ new
-  pub rule : (rule : OperandRule) → operand_rule applet reading.state.flags ≡ Some rule → operand_rule applet longer.state.flags ≡ Some rule
+  pub rule : (rule : OperandRule) → operand_rule_if_needed_kind_flag_given applet reading.state.flags ≡ Some rule → operand_rule_if_needed_kind_flag_given applet longer.state.flags ≡ Some rule
 
 end_at : (end at : ℕ) (awaiting : Option ValueRule) → option_map (λ (rule : ValueRule). end) awaiting ≡ Some at → end ≤ at
 end_at end at None h = absurd (none-some at h)
@@ -96,20 +96,20 @@ longer_or_same words more start known k = by_going (from_going start words low)
           unread = λ at u. end_at end at reading.state.awaiting (sym on.unread ∙ u);
           new = (reading_of_words_from_place options reading.state end more).operands;
           operands = ap (λ (r : Reading). r.operands) (on.goes_on more);
-          rule = λ rule r. ap (λ (x : Reading). operand_rule start.applet x.state.flags) (on.goes_on more) ∙ rule_stays start.applet reading.state end more rule keeps r;
+          rule = λ rule r. ap (λ (x : Reading). operand_rule_if_needed_kind_flag_given start.applet x.state.flags) (on.goes_on more) ∙ rule_stays start.applet reading.state end more rule keeps r;
         })
     by_going (inr (inr off)) =
         inr (record {
           unread = λ at u. absurd (none-some at (sym off.unread ∙ u));
           new = words_as_operands_from_place end more;
           operands = ap (λ (r : Reading). r.operands) (off.goes_on more);
-          rule = λ rule r. ap (λ (x : Reading). operand_rule start.applet x.state.flags) (off.goes_on more) ∙ r;
+          rule = λ rule r. ap (λ (x : Reading). operand_rule_if_needed_kind_flag_given start.applet x.state.flags) (off.goes_on more) ∙ r;
         })
 
 -- ---- the first that offends
 
 abbrev pub first_of : Applet → Reading → Option ℕ
-first_of applet reading = option_or (place_of_refused_operand (operand_rule applet reading.state.flags) reading.operands) reading.unread
+first_of applet reading = option_or (place_of_first_operand_refused_by_rule (operand_rule_if_needed_kind_flag_given applet reading.state.flags) reading.operands) reading.unread
 
 -- an operand that offends before a place, where no word before it cannot be read
 alone : (end place : ℕ) (o unread : Option ℕ) → IsOpen end unread → place < end → option_or o unread ≡ Some place → o ≡ Some place
@@ -118,13 +118,13 @@ alone end place None unread open_from l h = absurd (omega (arith, open_from plac
 
 first_stays : (applet : Applet) (end : ℕ) (reading longer : Reading) (place : ℕ) → IsLonger applet end reading longer → place < end → first_of applet reading ≡ Some place → first_of applet longer ≡ Some place
 first_stays applet end reading longer place long l h =
-    by_rule (operand_rule applet reading.state.flags) refl (alone end place (place_of_refused_operand (operand_rule applet reading.state.flags) reading.operands) reading.unread long.unread l h)
+    by_rule (operand_rule_if_needed_kind_flag_given applet reading.state.flags) refl (alone end place (place_of_first_operand_refused_by_rule (operand_rule_if_needed_kind_flag_given applet reading.state.flags) reading.operands) reading.unread long.unread l h)
   where
-    by_rule : (rule : Option OperandRule) → operand_rule applet reading.state.flags ≡ rule → place_of_refused_operand rule reading.operands ≡ Some place → first_of applet longer ≡ Some place
+    by_rule : (rule : Option OperandRule) → operand_rule_if_needed_kind_flag_given applet reading.state.flags ≡ rule → place_of_first_operand_refused_by_rule rule reading.operands ≡ Some place → first_of applet longer ≡ Some place
     by_rule None r e = absurd (none-some place e)
     by_rule (Some rule) r e =
-        ap (λ o. option_or (place_of_refused_operand o longer.operands) longer.unread) (long.rule rule r)
-        ∙ ap (λ o. option_or o longer.unread) (ap (first_refused_operand rule 0) long.operands ∙ refused_append rule 0 place reading.operands long.new e)
+        ap (λ o. option_or (place_of_first_operand_refused_by_rule o longer.operands) longer.unread) (long.rule rule r)
+        ∙ ap (λ o. option_or o longer.unread) (ap (place_of_first_refused_operand rule 0) long.operands ∙ refused_append rule 0 place reading.operands long.new e)
 
 -- what is said of words is so from where their applet was found
 pub cannot_from : (words : List (List ℕ)) (start : Start) → can_info_kind_follow words ≡ false → start_of_command_line words ≡ Ok start → can_started_words_get_info_kind words start ≡ false

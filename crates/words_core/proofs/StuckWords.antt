@@ -14,17 +14,17 @@ use Rattle.command_core.specs.declared.values.OptionValue.{OptionValue}
 use Rattle.command_core.specs.declared.values.ValueKind.{ValueKind}
 use Rattle.command_core.specs.declared.values.ValueKind.TheVariants.{Script}
 use Rattle.command_core.specs.declared.values.ValueRule.{ValueRule}
-use Rattle.command_core.specs.Applets.{required_option_letter, operand_rule}
+use Rattle.command_core.specs.Applets.{required_option_letter, operand_rule_if_needed_kind_flag_given}
 use Rattle.command_core.specs.Command.{CommandLine}
 use Rattle.command_core.specs.Files.{is_file_argument}
 use Rattle.command_core.specs.Flags.{no_flags}
-use Rattle.command_core.specs.Values.{is_excluded_by_earlier_value, is_value_of_kind, is_required_value_missing, option_value_from_place_and_letter, script_file, script_type, script_types}
+use Rattle.command_core.specs.Values.{is_excluded_by_earlier_value, is_value_of_kind, is_required_value_missing, option_value_from_place_letter_and_text, script_file, script_type, script_types}
 use Rattle.words_core.specs.declared.reading.AppletSite.{AppletSite}
 use Rattle.words_core.specs.declared.reading.OptionState.{OptionState}
 use Rattle.words_core.specs.declared.reading.Reading.{Reading}
 use Rattle.words_core.specs.declared.reading.Start.{Start}
-use Rattle.words_core.specs.Grammar.{applet_site, spelled_command_by_start, spelled_command, command_from_end_place_and_reading, flags_with_early_options, is_double_dash, is_option, lacks_operand_or_kind_flag, lacks_operand_or_required_value, start_of_command_line, reading_of_words_from_place, or_err_at, reading_of_rest_of_command_words, words_reading_from_parts, place_of_refused_operand, applet_site_of_word, applet_site_after_double_dash, applet_site_from_parts, start_by_applet_site, start_with_early_flags, option_state_from_parts, unless_refused_at, command_of_reading_with_end_place, with_word_as_option_or_value}
-use Rattle.words_core.specs.Options.{OptionSpec, applet_of, applet_word, applets, is_early_option_word, options_of}
+use Rattle.words_core.specs.Grammar.{applet_site, spelled_command_by_start, spelled_command, command_from_end_place_and_reading, flags_with_options_before_applet, is_double_dash, is_option_or_double_dash, lacks_operand_or_kind_flag, lacks_operand_kind_flag_or_required_option, start_of_command_line, reading_of_words_from_place, or_err_at, reading_of_rest_of_command_words, words_reading_from_parts, place_of_first_operand_refused_by_rule, applet_site_of_word, applet_site_after_double_dash, applet_site_from_ended_read_applet, start_by_applet_site, start_with_flags_before_applet, option_state_from_parts, unless_refused_at, command_of_reading_with_end_place, with_word_as_option_or_value}
+use Rattle.words_core.specs.Options.{OptionSpec, applet_of, applet_word, applets, is_option_word_that_may_precede_applet, options_of}
 use Rattle.words_core.specs.Stuck.{are_stuck_by, awaits_impossible_value, has_script, have_options_ended, has_all_possible_values, is_stuck, is_stuck_by, is_required_option_missing, are_options_of}
 use Rattle.words_core.proofs.GoneOn.{IsRemovedPackage, from_going}
 use Rattle.words_core.proofs.KindsKept.{IsPlain, start_known}
@@ -41,17 +41,17 @@ IsBad applet reading = (end : ℕ) → (place : ℕ) × (command_of_reading_with
 pub unread_bad : (applet : Applet) (reading : Reading) (at : ℕ) → reading.unread ≡ Some at → IsBad applet reading
 unfolding command_of_reading_with_end_place
 unread_bad applet reading at u end =
-    let rest = if lacks_operand_or_required_value applet (operand_rule applet reading.state.flags) reading then Err end else Ok (command_from_end_place_and_reading end applet reading) in
-    elim (place_of_refused_operand (operand_rule applet reading.state.flags) reading.operands) as (λ o. (place : ℕ) × (unless_refused_at (option_or o reading.unread) rest ≡ Err place)) [
+    let rest = if lacks_operand_kind_flag_or_required_option applet (operand_rule_if_needed_kind_flag_given applet reading.state.flags) reading then Err end else Ok (command_from_end_place_and_reading end applet reading) in
+    elim (place_of_first_operand_refused_by_rule (operand_rule_if_needed_kind_flag_given applet reading.state.flags) reading.operands) as (λ o. (place : ℕ) × (unless_refused_at (option_or o reading.unread) rest ≡ Err place)) [
       | None ↦ (at, ap (λ x. unless_refused_at x rest) u)
       | Some place ↦ (place, refl)
     ]
 
 -- nor is what lacks an option
-pub lacks_by_option : (applet : Applet) (reading : Reading) → is_required_option_missing applet reading.state ≡ true → lacks_operand_or_required_value applet (operand_rule applet reading.state.flags) reading ≡ true
+pub lacks_by_option : (applet : Applet) (reading : Reading) → is_required_option_missing applet reading.state ≡ true → lacks_operand_kind_flag_or_required_option applet (operand_rule_if_needed_kind_flag_given applet reading.state.flags) reading ≡ true
 lacks_by_option applet reading h =
     let needed = is_required_value_missing (required_option_letter applet) reading.state.values in
-    elim (operand_rule applet reading.state.flags) as (λ r. (not (is_some r) || needed) ≡ true → (lacks_operand_or_kind_flag r reading.operands || needed) ≡ true) [
+    elim (operand_rule_if_needed_kind_flag_given applet reading.state.flags) as (λ r. (not (is_some r) || needed) ≡ true → (lacks_operand_or_kind_flag r reading.operands || needed) ≡ true) [
       | None ↦ λ h. refl
       | Some rule ↦ λ h. or_right (lacks_operand_or_kind_flag (Some rule) reading.operands) needed h
     ] h
@@ -63,7 +63,7 @@ bad_by (Some at) lacking end command e = (at, refl)
 pub lacking_bad : (applet : Applet) (reading : Reading) → is_required_option_missing applet reading.state ≡ true → IsBad applet reading
 unfolding command_of_reading_with_end_place
 lacking_bad applet reading h end =
-    bad_by (option_or (place_of_refused_operand (operand_rule applet reading.state.flags) reading.operands) reading.unread) (lacks_operand_or_required_value applet (operand_rule applet reading.state.flags) reading) end (command_from_end_place_and_reading end applet reading) (lacks_by_option applet reading h)
+    bad_by (option_or (place_of_first_operand_refused_by_rule (operand_rule_if_needed_kind_flag_given applet reading.state.flags) reading.operands) reading.unread) (lacks_operand_kind_flag_or_required_option applet (operand_rule_if_needed_kind_flag_given applet reading.state.flags) reading) end (command_from_end_place_and_reading end applet reading) (lacks_by_option applet reading h)
 
 -- a value of an option that can have no value more
 pub both_at : (p q : List ℕ → Bool) (xs : List (List ℕ)) → list_all p xs ≡ true → list_any q xs ≡ true → (x : List ℕ) × (p x ≡ true) × (q x ≡ true)
@@ -91,7 +91,7 @@ no_fit letter single kind values text h = absurd (false≢true h)
 pub awaited_whole : (options : List OptionSpec) (state : OptionState) (end : ℕ) (rule : ValueRule) (more : List (List ℕ)) → state.awaiting ≡ Some rule → has_all_possible_values rule.kind rule.letter state.values ≡ true → reading_of_words_from_place options state end more ≡ words_reading_from_parts state [] (Some end)
 awaited_whole options state end rule [] a f = ap (λ o. words_reading_from_parts state [] (option_map (λ (r : ValueRule). end) o)) a
 awaited_whole options state end rule (word ∷ words) a f =
-    let next : OptionState = option_state_from_parts state.flags (state.values ++ (option_value_from_place_and_letter end rule.letter word ∷ [])) None in
+    let next : OptionState = option_state_from_parts state.flags (state.values ++ (option_value_from_place_letter_and_text end rule.letter word ∷ [])) None in
     step_taken options state end word words None (awaited_taken state word rule a)
     (ap (with_word_as_option_or_value options state end word) a ∙ ap (λ b. if b then Some next else None) (no_fit rule.letter rule.single rule.kind state.values word f))
 
@@ -156,7 +156,7 @@ pub record IsNotFirst (words more : List (List ℕ)) (place : ℕ) (site : Apple
 named_later : (ended : Bool) (place at : ℕ) (words more : List (List ℕ)) (word : List ℕ) → at + length words ≤ place → IfOk (applet_site_of_word ended place word) (λ s. IsNotFirst words more at s)
 unfolding applet_site_of_word
 named_later ended place at words more word l =
-    elim (applet_of word) as (λ o. applet_of word ≡ o → IfOk (or_err_at place (λ applet. Ok (applet_site_from_parts ended place applet)) o) (λ s. IsNotFirst words more at s)) [
+    elim (applet_of word) as (λ o. applet_of word ≡ o → IfOk (or_err_at place (λ applet. Ok (applet_site_from_ended_read_applet ended place applet)) o) (λ s. IsNotFirst words more at s)) [
       | None ↦ λ e. tt
       | Some applet ↦ λ e. record { word = word; names = e; late = l }
     ] refl
@@ -170,10 +170,10 @@ any_later : (place at : ℕ) (words more : List (List ℕ)) (left : List (List �
 any_later place at words more [] l = tt
 any_later place at words more (word ∷ left) l =
     let next : at + length words ≤ place + 1 = omega arith in
-    elim (is_double_dash word) as (λ b. IfOk (if b then applet_site_after_double_dash (place + 1) left else if is_option word then (if is_early_option_word word then applet_site (place + 1) left else Err place) else applet_site_of_word false place word) (λ s. IsNotFirst words more at s)) [
+    elim (is_double_dash word) as (λ b. IfOk (if b then applet_site_after_double_dash (place + 1) left else if is_option_or_double_dash word then (if is_option_word_that_may_precede_applet word then applet_site (place + 1) left else Err place) else applet_site_of_word false place word) (λ s. IsNotFirst words more at s)) [
       | true ↦ end_later (place + 1) at words more left next
-      | false ↦ elim (is_option word) as (λ b. IfOk (if b then (if is_early_option_word word then applet_site (place + 1) left else Err place) else applet_site_of_word false place word) (λ s. IsNotFirst words more at s)) [
-        | true ↦ elim (is_early_option_word word) as (λ b. IfOk (if b then applet_site (place + 1) left else Err place) (λ s. IsNotFirst words more at s)) [
+      | false ↦ elim (is_option_or_double_dash word) as (λ b. IfOk (if b then (if is_option_word_that_may_precede_applet word then applet_site (place + 1) left else Err place) else applet_site_of_word false place word) (λ s. IsNotFirst words more at s)) [
+        | true ↦ elim (is_option_word_that_may_precede_applet word) as (λ b. IfOk (if b then applet_site (place + 1) left else Err place) (λ s. IsNotFirst words more at s)) [
           | true ↦ any_later (place + 1) at words more left next
           | false ↦ tt
         ]
@@ -194,8 +194,8 @@ site_later place (word ∷ words) more h =
     elim (is_double_dash word) as (λ b. is_double_dash word ≡ b → IfOk (applet_site place (word ∷ (words ++ more))) (λ s. IsNotFirst (word ∷ words) more place s)) [
       | true ↦ λ e. subst (λ r. IfOk r (λ s. IsNotFirst (word ∷ words) more place s)) (sym (seek_end place word (words ++ more) e))
           (end_site_later place word words more (sym (seek_end place word words e) ∙ h))
-      | false ↦ λ e. elim (is_option word) as (λ b. is_option word ≡ b → IfOk (applet_site place (word ∷ (words ++ more))) (λ s. IsNotFirst (word ∷ words) more place s)) [
-        | true ↦ λ o. elim (is_early_option_word word) as (λ b. is_early_option_word word ≡ b → IfOk (applet_site place (word ∷ (words ++ more))) (λ s. IsNotFirst (word ∷ words) more place s)) [
+      | false ↦ λ e. elim (is_option_or_double_dash word) as (λ b. is_option_or_double_dash word ≡ b → IfOk (applet_site place (word ∷ (words ++ more))) (λ s. IsNotFirst (word ∷ words) more place s)) [
+        | true ↦ λ o. elim (is_option_word_that_may_precede_applet word) as (λ b. is_option_word_that_may_precede_applet word ≡ b → IfOk (applet_site place (word ∷ (words ++ more))) (λ s. IsNotFirst (word ∷ words) more place s)) [
           | true ↦ λ y. subst (λ r. IfOk r (λ s. IsNotFirst (word ∷ words) more place s)) (sym (seek_early place word (words ++ more) e o y))
               (IfOk-weaker (applet_site (place + 1) (words ++ more)) (λ s. IsNotFirst words more (place + 1) s) (λ s. IsNotFirst (word ∷ words) more place s)
               (λ s later. record { word = later.word; names = later.names; late = omega (arith, later.late) })
@@ -223,19 +223,19 @@ no_applet_stays words more at s k =
           by_site (applet_site 1 (words ++ more)) refl (site_later 1 words more (s ∙ ap Err end)))
     ]
   where
-    by_flags : (site : AppletSite) → applet_site 1 (words ++ more) ≡ Ok site → (f : Result Flags ℕ) → flags_with_early_options (options_of site.applet) no_flags 1 words ≡ f → is_ok f ≡ false → length words ≤ site.read - 1 → (place : ℕ) × (spelled_command_by_start (words ++ more) (start_of_command_line (words ++ more)) ≡ Err place)
+    by_flags : (site : AppletSite) → applet_site 1 (words ++ more) ≡ Ok site → (f : Result Flags ℕ) → flags_with_options_before_applet (options_of site.applet) no_flags 1 words ≡ f → is_ok f ≡ false → length words ≤ site.read - 1 → (place : ℕ) × (spelled_command_by_start (words ++ more) (start_of_command_line (words ++ more)) ≡ Err place)
     by_flags site found (Ok flags) f n l = absurd (true≢false n)
     by_flags site found (Err place) f n l = (
       place,
       ap (λ r. spelled_command_by_start (words ++ more) (start_by_applet_site (words ++ more) r)) found
-          ∙ (ap (λ ws. spelled_command_by_start (words ++ more) (start_with_early_flags site (flags_with_early_options (options_of site.applet) no_flags 1 ws))) (take_more (site.read - 1) words more l)
-          ∙ ap (λ r. spelled_command_by_start (words ++ more) (start_with_early_flags site r)) (flags_offend (options_of site.applet) no_flags 1 place words (take (site.read - 1 - length words) more) f)),
+          ∙ (ap (λ ws. spelled_command_by_start (words ++ more) (start_with_flags_before_applet site (flags_with_options_before_applet (options_of site.applet) no_flags 1 ws))) (take_more (site.read - 1) words more l)
+          ∙ ap (λ r. spelled_command_by_start (words ++ more) (start_with_flags_before_applet site r)) (flags_offend (options_of site.applet) no_flags 1 place words (take (site.read - 1 - length words) more) f)),
     )
 
     by_site : (r : Result AppletSite ℕ) → applet_site 1 (words ++ more) ≡ r → IfOk r (λ x. IsNotFirst words more 1 x) → (place : ℕ) × (spelled_command_by_start (words ++ more) (start_of_command_line (words ++ more)) ≡ Err place)
     by_site (Err place) found later = (place, ap (λ r. spelled_command_by_start (words ++ more) (start_by_applet_site (words ++ more) r)) found)
     by_site (Ok site) found later =
-        by_flags site found (flags_with_early_options (options_of site.applet) no_flags 1 words) refl
+        by_flags site found (flags_with_options_before_applet (options_of site.applet) no_flags 1 words) refl
         (not_any (are_options_of words) applets (λ applet. bytes_eq (applet_word applet) later.word) site.applet k later.names)
         (omega (arith, later.late))
 

@@ -5,13 +5,13 @@ use Rattle.std.proofs.lemmas.Option.{none-some}
 use Rattle.command_core.specs.declared.command.Applet.{Applet}
 use Rattle.command_core.specs.declared.operands.Operand.{Operand}
 use Rattle.command_core.specs.declared.operands.OperandRule.{OperandRule}
-use Rattle.command_core.specs.Applets.{operand_rule}
+use Rattle.command_core.specs.Applets.{operand_rule_if_needed_kind_flag_given}
 use Rattle.command_core.specs.Command.{CommandLine}
-use Rattle.command_core.specs.Operands.{first_refused_operand, operand_at}
+use Rattle.command_core.specs.Operands.{place_of_first_refused_operand, operand_at}
 use Rattle.words_core.specs.declared.reading.OptionState.{OptionState}
 use Rattle.words_core.specs.declared.reading.Reading.{Reading}
 use Rattle.words_core.specs.declared.reading.Start.{Start}
-use Rattle.words_core.specs.Grammar.{spelled_command_by_start, spelled_command, command_from_end_place_and_reading, option_state_at_start, is_double_dash, is_option_or_value, lacks_operand_or_required_value, start_of_command_line, words_as_operands_from_place, reading_of_words_from_place, or_stop_at_unread_word, reading_of_rest_of_command_words, words_reading_from_parts, place_of_refused_operand, unless_refused_at, command_of_reading_with_end_place, with_operand_in_front, with_option_or_value_word}
+use Rattle.words_core.specs.Grammar.{spelled_command_by_start, spelled_command, command_from_end_place_and_reading, option_state_at_start, is_double_dash, is_option_or_value, lacks_operand_kind_flag_or_required_option, start_of_command_line, words_as_operands_from_place, reading_of_words_from_place, or_stop_at_unread_word, reading_of_rest_of_command_words, words_reading_from_parts, place_of_first_operand_refused_by_rule, unless_refused_at, command_of_reading_with_end_place, with_operand_in_front, with_option_or_value_word}
 use Rattle.words_core.specs.Kinds.{can_info_kind_follow, can_started_words_get_info_kind}
 use Rattle.words_core.specs.Options.{OptionSpec, options_of}
 use Rattle.words_core.proofs.KindsKept.{IsPlain, start_known}
@@ -79,18 +79,18 @@ from_added start words more l =
 
 -- what is judged good has a rule, and nothing of it offends
 abbrev pub IsGood : Applet → Reading → Type 0
-IsGood applet reading = (rule : OperandRule) × (operand_rule applet reading.state.flags ≡ Some rule) × (first_refused_operand rule 0 reading.operands ≡ None) × (reading.unread ≡ None)
+IsGood applet reading = (rule : OperandRule) × (operand_rule_if_needed_kind_flag_given applet reading.state.flags ≡ Some rule) × (place_of_first_refused_operand rule 0 reading.operands ≡ None) × (reading.unread ≡ None)
 
 pub good_of : (applet : Applet) (reading : Reading) (behind : ℕ) (command : CommandLine) → command_of_reading_with_end_place behind applet reading ≡ Ok command → IsGood applet reading
 unfolding command_of_reading_with_end_place
 good_of applet reading behind command h =
-    elim (operand_rule applet reading.state.flags) as (λ r. operand_rule applet reading.state.flags ≡ r → unless_refused_at (option_or (place_of_refused_operand r reading.operands) reading.unread) (if lacks_operand_or_required_value applet r reading then Err behind else Ok (command_from_end_place_and_reading behind applet reading)) ≡ Ok command → IsGood applet reading) [
+    elim (operand_rule_if_needed_kind_flag_given applet reading.state.flags) as (λ r. operand_rule_if_needed_kind_flag_given applet reading.state.flags ≡ r → unless_refused_at (option_or (place_of_first_operand_refused_by_rule r reading.operands) reading.unread) (if lacks_operand_kind_flag_or_required_option applet r reading then Err behind else Ok (command_from_end_place_and_reading behind applet reading)) ≡ Ok command → IsGood applet reading) [
       | None ↦ λ r. elim reading.unread as (λ u. unless_refused_at (option_or None u) (Err behind) ≡ Ok command → IsGood applet reading) [
         | None ↦ λ (e : Err behind ≡ Ok command). absurd (cc)
         | Some at ↦ λ (e : Err at ≡ Ok command). absurd (cc)
       ]
-      | Some rule ↦ λ r. elim (option_or (first_refused_operand rule 0 reading.operands) reading.unread) as (λ o. option_or (first_refused_operand rule 0 reading.operands) reading.unread ≡ o → unless_refused_at o (if lacks_operand_or_required_value applet (Some rule) reading then Err behind else Ok (command_from_end_place_and_reading behind applet reading)) ≡ Ok command → IsGood applet reading) [
-        | None ↦ λ o e. (let both = both_none (first_refused_operand rule 0 reading.operands) reading.unread o in (rule, r, both.0, both.1))
+      | Some rule ↦ λ r. elim (option_or (place_of_first_refused_operand rule 0 reading.operands) reading.unread) as (λ o. option_or (place_of_first_refused_operand rule 0 reading.operands) reading.unread ≡ o → unless_refused_at o (if lacks_operand_kind_flag_or_required_option applet (Some rule) reading then Err behind else Ok (command_from_end_place_and_reading behind applet reading)) ≡ Ok command → IsGood applet reading) [
+        | None ↦ λ o e. (let both = both_none (place_of_first_refused_operand rule 0 reading.operands) reading.unread o in (rule, r, both.0, both.1))
         | Some at ↦ λ o (e : Err at ≡ Ok command). absurd (cc)
       ] refl
     ] refl h
@@ -103,26 +103,26 @@ offends_after words more command place k c h =
       | Ok start ↦ λ s e. by_start start s e
     ] refl c
   where
-    rule_goes : (start : Start) → IsPlain start (1 + length words) → can_started_words_get_info_kind words start ≡ false → (rule : OperandRule) → operand_rule start.applet (reading_of_rest_of_command_words start words).state.flags ≡ Some rule → (reading_of_rest_of_command_words start words).unread ≡ None
-        → operand_rule start.applet (reading_of_rest_of_command_words start (words ++ more)).state.flags ≡ Some rule
+    rule_goes : (start : Start) → IsPlain start (1 + length words) → can_started_words_get_info_kind words start ≡ false → (rule : OperandRule) → operand_rule_if_needed_kind_flag_given start.applet (reading_of_rest_of_command_words start words).state.flags ≡ Some rule → (reading_of_rest_of_command_words start words).unread ≡ None
+        → operand_rule_if_needed_kind_flag_given start.applet (reading_of_rest_of_command_words start (words ++ more)).state.flags ≡ Some rule
     rule_goes start known fixed rule r u =
-        elim (longer_or_same words more start known fixed) as (λ _. operand_rule start.applet (reading_of_rest_of_command_words start (words ++ more)).state.flags ≡ Some rule) [
+        elim (longer_or_same words more start known fixed) as (λ _. operand_rule_if_needed_kind_flag_given start.applet (reading_of_rest_of_command_words start (words ++ more)).state.flags ≡ Some rule) [
           | inl same ↦ absurd (same.1 u)
           | inr long ↦ long.rule rule r
         ]
 
-    by_first : (start : Start) → IsPlain start (1 + length words) → can_started_words_get_info_kind words start ≡ false → IsGood start.applet (reading_of_rest_of_command_words start words) → option_or (place_of_refused_operand (operand_rule start.applet (reading_of_rest_of_command_words start (words ++ more)).state.flags) (reading_of_rest_of_command_words start (words ++ more)).operands) (reading_of_rest_of_command_words start (words ++ more)).unread ≡ Some place → length words < place
+    by_first : (start : Start) → IsPlain start (1 + length words) → can_started_words_get_info_kind words start ≡ false → IsGood start.applet (reading_of_rest_of_command_words start words) → option_or (place_of_first_operand_refused_by_rule (operand_rule_if_needed_kind_flag_given start.applet (reading_of_rest_of_command_words start (words ++ more)).state.flags) (reading_of_rest_of_command_words start (words ++ more)).operands) (reading_of_rest_of_command_words start (words ++ more)).unread ≡ Some place → length words < place
     by_first start known fixed good first =
         let low : start.read ≤ length words = omega (arith, known.read) in
         let longer = reading_of_rest_of_command_words start (words ++ more) in
         let add = from_added start words more low in
-        let rule_is : operand_rule start.applet longer.state.flags ≡ Some good.0 = rule_goes start known fixed good.0 good.1 good.3 in
-        let refused : first_refused_operand good.0 0 longer.operands ≡ first_refused_operand good.0 (0 + length (reading_of_rest_of_command_words start words).operands) add.new =
-        ap (first_refused_operand good.0 0) (add.operands good.3) ∙ refused_then good.0 0 (reading_of_rest_of_command_words start words).operands add.new good.2 in
-        elim (first_refused_operand good.0 (0 + length (reading_of_rest_of_command_words start words).operands) add.new) as (λ o. first_refused_operand good.0 (0 + length (reading_of_rest_of_command_words start words).operands) add.new ≡ o → option_or o longer.unread ≡ Some place → length words < place) [
+        let rule_is : operand_rule_if_needed_kind_flag_given start.applet longer.state.flags ≡ Some good.0 = rule_goes start known fixed good.0 good.1 good.3 in
+        let refused : place_of_first_refused_operand good.0 0 longer.operands ≡ place_of_first_refused_operand good.0 (0 + length (reading_of_rest_of_command_words start words).operands) add.new =
+        ap (place_of_first_refused_operand good.0 0) (add.operands good.3) ∙ refused_then good.0 0 (reading_of_rest_of_command_words start words).operands add.new good.2 in
+        elim (place_of_first_refused_operand good.0 (0 + length (reading_of_rest_of_command_words start words).operands) add.new) as (λ o. place_of_first_refused_operand good.0 (0 + length (reading_of_rest_of_command_words start words).operands) add.new ≡ o → option_or o longer.unread ≡ Some place → length words < place) [
           | None ↦ λ f e. (let behind : length words + 1 ≤ place = add.unread good.3 place e in omega arith)
           | Some at ↦ λ f (e : Some at ≡ Some place). (let is = refused_between good.0 (0 + length (reading_of_rest_of_command_words start words).operands) (length words + 1) (length words + 1 + length more) place add.new add.placed (f ∙ e) in omega (arith, is.0))
-        ] refl (ap (λ o. option_or o longer.unread) (sym refused) ∙ (ap (λ r. option_or (place_of_refused_operand r longer.operands) longer.unread) (sym rule_is) ∙ first))
+        ] refl (ap (λ o. option_or o longer.unread) (sym refused) ∙ (ap (λ r. option_or (place_of_first_operand_refused_by_rule r longer.operands) longer.unread) (sym rule_is) ∙ first))
 
     by_start : (start : Start) → start_of_command_line words ≡ Ok start → command_of_reading_with_end_place (length words + 1) start.applet (reading_of_rest_of_command_words start words) ≡ Ok command → length words < place
     by_start start s e =

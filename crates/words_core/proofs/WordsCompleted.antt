@@ -1,7 +1,7 @@
 -- Words that lack a word can be completed, unless they are stuck: where their applet was found.
 use Rattle.std.proofs.Common.{Bool, Err, List, None, Ok, Option, Some, [], ap, append-nil, arith, codes, drop, false, inl, inr, is_some, length, length-append, not, refl, subst, suc, sym, true, zero, ℕ, ◌++◌, ◌+◌, ◌-◌, ◌<◌, ◌∙◌, ◌∷◌, ◌≡◌, ◌≤◌, if◌then◌else◌}
 use Rattle.base_core.specs.Name.{is_name}
-use Rattle.dep_core.specs.Reading.{dependency_from_name, dependency_after_name, dependency_of}
+use Rattle.dep_core.specs.Reading.{dependency_from_name_onward, dependency_after_name, dependency_of}
 use Rattle.std.specs.List.{list_all, list_any}
 use Rattle.std.specs.Option.{option_or}
 use Rattle.std.specs.Prelude.{nat_lt, ◌&&◌, ◌==◌, ◌||◌}
@@ -24,16 +24,16 @@ use Rattle.command_core.specs.declared.values.TheConstants.{OUTPUT}
 use Rattle.command_core.specs.declared.values.ValueKind.{ValueKind}
 use Rattle.command_core.specs.declared.values.ValueKind.TheVariants.{Any as AnyText, File as FileName, Nonempty, Output, Script, Uncompressed}
 use Rattle.command_core.specs.declared.values.ValueRule.{ValueRule}
-use Rattle.command_core.specs.Applets.{info_operand_rule, required_option_letter, operand_rule, version_operand_rule}
+use Rattle.command_core.specs.Applets.{info_operand_rule, required_option_letter, operand_rule_if_needed_kind_flag_given, version_operand_rule}
 use Rattle.command_core.specs.Sound.{allowed_flags, may_have_flags, are_flags_allowed, has_at_most_one, is_count_within_limit}
 use Rattle.command_core.specs.Command.{CommandLine}
 use Rattle.command_core.specs.Flags.{has_flag, has_command_kind_flag, kinds, with_flag}
-use Rattle.command_core.specs.Operands.{at_least, exactly, first_refused_operand, is_operand_of_kind, operand_at, takes}
-use Rattle.command_core.specs.Values.{excludes, is_excluded_by_earlier_value, is_given, is_script_argument, is_value_of_kind, is_required_value_missing, option_value_from_place_and_letter, output_rule, script_type, script_types}
+use Rattle.command_core.specs.Operands.{at_least, exactly, place_of_first_refused_operand, is_operand_of_kind, operand_at, takes}
+use Rattle.command_core.specs.Values.{excludes, is_excluded_by_earlier_value, is_given, is_script_argument, is_value_of_kind, is_required_value_missing, option_value_from_place_letter_and_text, output_rule, script_type, script_types}
 use Rattle.words_core.specs.declared.reading.OptionState.{OptionState}
 use Rattle.words_core.specs.declared.reading.Reading.{Reading}
 use Rattle.words_core.specs.declared.reading.Start.{Start}
-use Rattle.words_core.specs.Grammar.{spelled_command_by_start, spelled_command, command_from_end_place_and_reading, attached_value, lacks_operand_or_required_value, start_of_command_line, words_as_operands_from_place, option_name, reading_of_words_from_place, reading_of_rest_of_command_words, words_reading_from_parts, place_of_refused_operand, option_state_from_parts, command_of_reading_with_end_place, with_operand_in_front, with_word_as_option_or_value}
+use Rattle.words_core.specs.Grammar.{spelled_command_by_start, spelled_command, command_from_end_place_and_reading, value_in_long_or_short_option_word, lacks_operand_kind_flag_or_required_option, start_of_command_line, words_as_operands_from_place, option_word_without_value, reading_of_words_from_place, reading_of_rest_of_command_words, words_reading_from_parts, place_of_first_operand_refused_by_rule, option_state_from_parts, command_of_reading_with_end_place, with_operand_in_front, with_word_as_option_or_value}
 use Rattle.words_core.specs.Options.{OptionSpec, common_options, options_of}
 use Rattle.words_core.specs.Stuck.{awaits_impossible_value, has_script, have_options_ended, has_all_possible_values, is_stuck, is_required_option_missing}
 use Rattle.words_core.proofs.GivenKept.{from_kept}
@@ -47,12 +47,12 @@ use Rattle.words_core.proofs.Sites.{start_stays}
 use Rattle.words_core.proofs.WhatIsRead.{no_more}
 
 -- operands that are taken, and more of them
-pub refused_then : (rule : OperandRule) (before : ℕ) (os more : List Operand) → first_refused_operand rule before os ≡ None → first_refused_operand rule before (os ++ more) ≡ first_refused_operand rule (before + length os) more
-refused_then rule before [] more h = (let same : before ≡ before + 0 = omega arith in ap (λ k. first_refused_operand rule k more) same)
+pub refused_then : (rule : OperandRule) (before : ℕ) (os more : List Operand) → place_of_first_refused_operand rule before os ≡ None → place_of_first_refused_operand rule before (os ++ more) ≡ place_of_first_refused_operand rule (before + length os) more
+refused_then rule before [] more h = (let same : before ≡ before + 0 = omega arith in ap (λ k. place_of_first_refused_operand rule k more) same)
 refused_then rule before (o ∷ os) more h =
     let same : before + 1 + length os ≡ before + length (o ∷ os) = omega arith in
-    elim (takes rule before o.text) as (λ b. (if b then first_refused_operand rule (before + 1) os else Some o.place) ≡ None → (if b then first_refused_operand rule (before + 1) (os ++ more) else Some o.place) ≡ first_refused_operand rule (before + length (o ∷ os)) more) [
-      | true ↦ λ (later : first_refused_operand rule (before + 1) os ≡ None). refused_then rule (before + 1) os more later ∙ ap (λ k. first_refused_operand rule k more) same
+    elim (takes rule before o.text) as (λ b. (if b then place_of_first_refused_operand rule (before + 1) os else Some o.place) ≡ None → (if b then place_of_first_refused_operand rule (before + 1) (os ++ more) else Some o.place) ≡ place_of_first_refused_operand rule (before + length (o ∷ os)) more) [
+      | true ↦ λ (later : place_of_first_refused_operand rule (before + 1) os ≡ None). refused_then rule (before + 1) os more later ∙ ap (λ k. place_of_first_refused_operand rule k more) same
       | false ↦ λ (here : Some o.place ≡ None). absurd (none-some o.place (sym here))
     ] h
 
@@ -60,7 +60,7 @@ pub one_more : (os : List Operand) (o : Operand) → nat_lt (length (os ++ (o �
 one_more [] o = refl
 one_more (p ∷ os) o = le-ltb (length (p ∷ (os ++ (o ∷ [])))) 1 (omega arith)
 
-pub judged_good : (applet : Applet) (reading : Reading) (end : ℕ) → place_of_refused_operand (operand_rule applet reading.state.flags) reading.operands ≡ None → reading.unread ≡ None → lacks_operand_or_required_value applet (operand_rule applet reading.state.flags) reading ≡ false → command_of_reading_with_end_place end applet reading ≡ Ok (command_from_end_place_and_reading end applet reading)
+pub judged_good : (applet : Applet) (reading : Reading) (end : ℕ) → place_of_first_operand_refused_by_rule (operand_rule_if_needed_kind_flag_given applet reading.state.flags) reading.operands ≡ None → reading.unread ≡ None → lacks_operand_kind_flag_or_required_option applet (operand_rule_if_needed_kind_flag_given applet reading.state.flags) reading ≡ false → command_of_reading_with_end_place end applet reading ≡ Ok (command_from_end_place_and_reading end applet reading)
 unfolding command_of_reading_with_end_place
 judged_good applet reading end taken u enough = rw taken (rw u (rw enough refl))
 
@@ -97,7 +97,7 @@ sample Number = codes "1"
 sample kind = codes "a"
 
 pub sample_fits : (kind : OperandKind) → is_operand_of_kind kind (sample kind) ≡ true
-unfolding dependency_of dependency_from_name dependency_after_name is_name is_utf8 chars encode
+unfolding dependency_of dependency_from_name_onward dependency_after_name is_name is_utf8 chars encode
 sample_fits File = refl
 sample_fits Any = refl
 sample_fits Dependency = refl
@@ -128,7 +128,7 @@ samples_read kind (suc count) options state place a =
     sample_read kind options state place (samples kind count) a ∙ ap (with_operand_in_front (operand_at place (sample kind))) (samples_read kind count options state (place + 1) a)
 
 -- there is room for so many
-pub samples_taken : (rule : OperandRule) (before place count : ℕ) → is_count_within_limit rule.most (before + count) ≡ true → first_refused_operand rule before (words_as_operands_from_place place (samples rule.kind count)) ≡ None
+pub samples_taken : (rule : OperandRule) (before place count : ℕ) → is_count_within_limit rule.most (before + count) ≡ true → place_of_first_refused_operand rule before (words_as_operands_from_place place (samples rule.kind count)) ≡ None
 samples_taken rule before place zero m = refl
 samples_taken rule before place (suc count) m =
     let here : before + suc count ≡ before + (count + 1) = omega arith in
@@ -168,16 +168,16 @@ version_possible flags =
       ]
     ]
 
-each_possible : (applet : Applet) (flags : Flags) → is_possible (operand_rule applet flags) ≡ true
+each_possible : (applet : Applet) (flags : Flags) → is_possible (operand_rule_if_needed_kind_flag_given applet flags) ≡ true
 each_possible Info flags = info_possible flags
 each_possible Version flags = version_possible flags
 each_possible applet flags = refl
 
-pub rule_possible : (applet : Applet) (flags : Flags) (rule : OperandRule) → operand_rule applet flags ≡ Some rule → IsPossible rule
+pub rule_possible : (applet : Applet) (flags : Flags) (rule : OperandRule) → operand_rule_if_needed_kind_flag_given applet flags ≡ Some rule → IsPossible rule
 rule_possible applet flags rule r = subst (λ o. is_possible o ≡ true) r (each_possible applet flags)
 
 -- as many as are still wanted fit behind those that are taken
-wanted_fit : (rule : OperandRule) (os : List Operand) → IsPossible rule → first_refused_operand rule 0 os ≡ None → is_count_within_limit rule.most (length os + (rule.least - length os)) ≡ true
+wanted_fit : (rule : OperandRule) (os : List Operand) → IsPossible rule → place_of_first_refused_operand rule 0 os ≡ None → is_count_within_limit rule.most (length os + (rule.least - length os)) ≡ true
 wanted_fit rule os p h = by_most rule.most refl
   where
     by_most : (most : Option ℕ) → rule.most ≡ most → is_count_within_limit most (length os + (rule.least - length os)) ≡ true
@@ -188,21 +188,21 @@ wanted_fit rule os p h = by_most rule.most refl
         le-leb (length os + (rule.least - length os)) most (omega arith)
 
 -- where no option is lacking, operands complete what was read
-pub can_have_texts : (applet : Applet) (state : OptionState) (os : List Operand) (at : ℕ) → is_required_option_missing applet state ≡ false → place_of_refused_operand (operand_rule applet state.flags) os ≡ None → CanHaveTexts applet state os at
-can_have_texts applet state os at k h = by_rule (operand_rule applet state.flags) refl k h
+pub can_have_texts : (applet : Applet) (state : OptionState) (os : List Operand) (at : ℕ) → is_required_option_missing applet state ≡ false → place_of_first_operand_refused_by_rule (operand_rule_if_needed_kind_flag_given applet state.flags) os ≡ None → CanHaveTexts applet state os at
+can_have_texts applet state os at k h = by_rule (operand_rule_if_needed_kind_flag_given applet state.flags) refl k h
   where
-    wanted_fit_at : (rule : OperandRule) (os : List Operand) → operand_rule applet state.flags ≡ Some rule → first_refused_operand rule 0 os ≡ None → is_count_within_limit rule.most (0 + length os + (rule.least - length os)) ≡ true
+    wanted_fit_at : (rule : OperandRule) (os : List Operand) → operand_rule_if_needed_kind_flag_given applet state.flags ≡ Some rule → place_of_first_refused_operand rule 0 os ≡ None → is_count_within_limit rule.most (0 + length os + (rule.least - length os)) ≡ true
     wanted_fit_at rule os r h =
         let same : 0 + length os + (rule.least - length os) ≡ length os + (rule.least - length os) = omega arith in
         ap (is_count_within_limit rule.most) same ∙ wanted_fit rule os (rule_possible applet state.flags rule r) h
 
-    by_rule : (o : Option OperandRule) → operand_rule applet state.flags ≡ o → (not (is_some o) || is_required_value_missing (required_option_letter applet) state.values) ≡ false → place_of_refused_operand o os ≡ None → CanHaveTexts applet state os at
+    by_rule : (o : Option OperandRule) → operand_rule_if_needed_kind_flag_given applet state.flags ≡ o → (not (is_some o) || is_required_value_missing (required_option_letter applet) state.values) ≡ false → place_of_first_operand_refused_by_rule o os ≡ None → CanHaveTexts applet state os at
     by_rule None r k h = absurd (true≢false k)
     by_rule (Some rule) r k h =
         let count : ℕ = rule.least - length os in
         let texts : List (List ℕ) = samples rule.kind count in
         let reading : Reading = with_texts state os at texts in
-        let taken : first_refused_operand rule 0 reading.operands ≡ None =
+        let taken : place_of_first_refused_operand rule 0 reading.operands ≡ None =
         refused_then rule 0 os (words_as_operands_from_place at texts) h
         ∙ samples_taken rule (0 + length os) at count (wanted_fit_at rule os r h) in
         let enough : rule.least ≤ length reading.operands =
@@ -210,8 +210,8 @@ can_have_texts applet state os at k h = by_rule (operand_rule applet state.flags
           texts,
           samples_read rule.kind count,
           λ end. judged_good applet reading end
-              (ap (λ o. place_of_refused_operand o reading.operands) r ∙ taken) refl
-              (ap (λ o. lacks_operand_or_required_value applet o reading) r ∙ or_from (nat_lt (length reading.operands) rule.least) (is_required_value_missing (required_option_letter applet) state.values) (le-ltb (length reading.operands) rule.least enough) k),
+              (ap (λ o. place_of_first_operand_refused_by_rule o reading.operands) r ∙ taken) refl
+              (ap (λ o. lacks_operand_kind_flag_or_required_option applet o reading) r ∙ or_from (nat_lt (length reading.operands) rule.least) (is_required_value_missing (required_option_letter applet) state.values) (le-ltb (length reading.operands) rule.least enough) k),
         )
 
 -- ---- values that can follow
@@ -262,9 +262,9 @@ fitting letter single Output values h = (codes "a", not_from_false _ (none_exclu
 fitting letter single Uncompressed values h = (codes "none", not_from_false _ (none_excluded letter Uncompressed (codes "none") values (λ a b. refl)))
 fitting letter single Script values h = (let some = some_fails (has_script letter values) is_its_script script_types all_scripts h in (a_script some.0, script_fits letter single values some.0 some.1 some.2))
 
-pub value_read : (options : List OptionSpec) (state : OptionState) (at : ℕ) (text : List ℕ) (rule : ValueRule) (more : List (List ℕ)) → state.awaiting ≡ Some rule → IsFitting rule state.values text → reading_of_words_from_place options state at (text ∷ more) ≡ reading_of_words_from_place options (option_state_from_parts state.flags (state.values ++ (option_value_from_place_and_letter at rule.letter text ∷ [])) None) (at + 1) more
+pub value_read : (options : List OptionSpec) (state : OptionState) (at : ℕ) (text : List ℕ) (rule : ValueRule) (more : List (List ℕ)) → state.awaiting ≡ Some rule → IsFitting rule state.values text → reading_of_words_from_place options state at (text ∷ more) ≡ reading_of_words_from_place options (option_state_from_parts state.flags (state.values ++ (option_value_from_place_letter_and_text at rule.letter text ∷ [])) None) (at + 1) more
 value_read options state at text rule more a f =
-    let next : OptionState = option_state_from_parts state.flags (state.values ++ (option_value_from_place_and_letter at rule.letter text ∷ [])) None in
+    let next : OptionState = option_state_from_parts state.flags (state.values ++ (option_value_from_place_letter_and_text at rule.letter text ∷ [])) None in
     step_taken options state at text more (Some next) (awaited_taken state text rule a)
     (ap (with_word_as_option_or_value options state at text) a ∙ ap (λ b. if b then Some next else None) f)
 
@@ -277,15 +277,15 @@ gone_on applet flags values os at more = behind os (reading_of_words_from_place 
 abbrev pub CanGoOn : Applet → Flags → List OptionValue → List Operand → ℕ → Type 0
 CanGoOn applet flags values os at = (more : List (List ℕ)) × IsJudgedGood applet (gone_on applet flags values os at more)
 
-pub output_read : (flags : Flags) (values : List OptionValue) (at : ℕ) → is_given OUTPUT values ≡ false → reading_of_words_from_place (options_of Mkndx) (option_state_from_parts flags values None) at (codes "-o" ∷ (codes "a" ∷ [])) ≡ words_reading_from_parts (option_state_from_parts flags (values ++ (option_value_from_place_and_letter (at + 1) OUTPUT (codes "a") ∷ [])) None) [] None
-unfolding common_options options_of option_name attached_value is_name is_utf8 chars encode
+pub output_read : (flags : Flags) (values : List OptionValue) (at : ℕ) → is_given OUTPUT values ≡ false → reading_of_words_from_place (options_of Mkndx) (option_state_from_parts flags values None) at (codes "-o" ∷ (codes "a" ∷ [])) ≡ words_reading_from_parts (option_state_from_parts flags (values ++ (option_value_from_place_letter_and_text (at + 1) OUTPUT (codes "a") ∷ [])) None) [] None
+unfolding common_options options_of option_word_without_value value_in_long_or_short_option_word is_name is_utf8 chars encode
 output_read flags values at g =
     step_taken (options_of Mkndx) (option_state_from_parts flags values None) at (codes "-o") (codes "a" ∷ []) (Some (option_state_from_parts flags values (Some output_rule))) refl
     (ap (λ b. if b then None else Some (option_state_from_parts flags values (Some output_rule))) g)
     ∙ value_read (options_of Mkndx) (option_state_from_parts flags values (Some output_rule)) (at + 1) (codes "a") output_rule [] refl
     (not_from_false _ (none_excluded OUTPUT Output (codes "a") values (λ a b. refl)))
 
-pub given_last : (place letter : ℕ) (text : List ℕ) (values : List OptionValue) → (letter == letter) ≡ true → is_given letter (values ++ (option_value_from_place_and_letter place letter text ∷ [])) ≡ true
+pub given_last : (place letter : ℕ) (text : List ℕ) (values : List OptionValue) → (letter == letter) ≡ true → is_given letter (values ++ (option_value_from_place_letter_and_text place letter text ∷ [])) ≡ true
 given_last place letter text [] e = rw e refl
 given_last place letter text (v ∷ vs) e = or_right (v.letter == letter) _ (given_last place letter text vs e)
 
@@ -305,20 +305,20 @@ version_kinds flags m t c =
     absent false d n h = refl
 
 -- no operand is lacking of `mkndx`
-index_good : (state : OptionState) (os : List Operand) → first_refused_operand (at_least 0 File) 0 os ≡ None → is_given OUTPUT state.values ≡ true → IsJudgedGood Mkndx (behind os (words_reading_from_parts state [] None))
+index_good : (state : OptionState) (os : List Operand) → place_of_first_refused_operand (at_least 0 File) 0 os ≡ None → is_given OUTPUT state.values ≡ true → IsJudgedGood Mkndx (behind os (words_reading_from_parts state [] None))
 index_good state os h g end = judged_good Mkndx (behind os (words_reading_from_parts state [] None)) end
-    (ap (first_refused_operand (at_least 0 File) 0) (append-nil os) ∙ h) refl
+    (ap (place_of_first_refused_operand (at_least 0 File) 0) (append-nil os) ∙ h) refl
     (or_from (nat_lt (length (os ++ [])) 0) (not (is_given OUTPUT state.values)) (le-ltb (length (os ++ [])) 0 (omega arith)) (not_from_true (is_given OUTPUT state.values) g))
 
-texts_taken : (before : ℕ) (operands : List Operand) → first_refused_operand (at_least 1 Any) before operands ≡ None
+texts_taken : (before : ℕ) (operands : List Operand) → place_of_first_refused_operand (at_least 1 Any) before operands ≡ None
 texts_taken before [] = refl
 texts_taken before (o ∷ os) = texts_taken (before + 1) os
 
 -- where an option is lacking, it completes what was read
-pub options_follow : (applet : Applet) (flags : Flags) (values : List OptionValue) (os : List Operand) (at : ℕ) → may_have_flags applet flags ≡ true → is_required_option_missing applet (option_state_from_parts flags values None) ≡ true → place_of_refused_operand (operand_rule applet flags) os ≡ None → CanGoOn applet flags values os at
-unfolding common_options options_of option_name attached_value
+pub options_follow : (applet : Applet) (flags : Flags) (values : List OptionValue) (os : List Operand) (at : ℕ) → may_have_flags applet flags ≡ true → is_required_option_missing applet (option_state_from_parts flags values None) ≡ true → place_of_first_operand_refused_by_rule (operand_rule_if_needed_kind_flag_given applet flags) os ≡ None → CanGoOn applet flags values os at
+unfolding common_options options_of option_word_without_value value_in_long_or_short_option_word
 options_follow Mkndx flags values os at m k h =
-    let more : List OptionValue = values ++ (option_value_from_place_and_letter (at + 1) OUTPUT (codes "a") ∷ []) in
+    let more : List OptionValue = values ++ (option_value_from_place_letter_and_text (at + 1) OUTPUT (codes "a") ∷ []) in
     (codes "-o" ∷ (codes "a" ∷ []), subst (λ r. IsJudgedGood Mkndx (behind os r)) (sym (output_read flags values at (not-true (is_given OUTPUT values) k))) (index_good (option_state_from_parts flags more None) os h (given_last (at + 1) OUTPUT (codes "a") values refl)))
 options_follow Version flags values os at m k h =
     let none = no_kind flags (lacks_kind flags k) in
@@ -347,7 +347,7 @@ options_follow Version flags values os at m k h =
     no_kind flags n = by_flags flags.test flags.check n
 options_follow applet flags values os at m k h = absurd (false≢true k)
 
-pub can_go_on : (applet : Applet) (flags : Flags) (values : List OptionValue) (os : List Operand) (at : ℕ) → may_have_flags applet flags ≡ true → place_of_refused_operand (operand_rule applet flags) os ≡ None → CanGoOn applet flags values os at
+pub can_go_on : (applet : Applet) (flags : Flags) (values : List OptionValue) (os : List Operand) (at : ℕ) → may_have_flags applet flags ≡ true → place_of_first_operand_refused_by_rule (operand_rule_if_needed_kind_flag_given applet flags) os ≡ None → CanGoOn applet flags values os at
 can_go_on applet flags values os at m h =
     elim (is_required_option_missing applet (option_state_from_parts flags values None)) as (λ b. is_required_option_missing applet (option_state_from_parts flags values None) ≡ b → CanGoOn applet flags values os at) [
       | true ↦ λ k. options_follow applet flags values os at m k h
@@ -361,10 +361,10 @@ abbrev pub CanBeCompleted : List (List ℕ) → Type 0
 CanBeCompleted words = (more : List (List ℕ)) × (command : CommandLine) × (spelled_command (words ++ more) ≡ Ok command)
 
 -- no operand offends where words offend at their end
-pub none_refused : (rule : Option OperandRule) (low end : ℕ) (operands : List Operand) (unread : Option ℕ) → AllBetween low end operands → IsJudgedAt end (option_or (place_of_refused_operand rule operands) unread) end → place_of_refused_operand rule operands ≡ None
+pub none_refused : (rule : Option OperandRule) (low end : ℕ) (operands : List Operand) (unread : Option ℕ) → AllBetween low end operands → IsJudgedAt end (option_or (place_of_first_operand_refused_by_rule rule operands) unread) end → place_of_first_operand_refused_by_rule rule operands ≡ None
 none_refused None low end operands unread p j = refl
 none_refused (Some rule) low end operands unread p j =
-    elim (first_refused_operand rule 0 operands) as (λ o. first_refused_operand rule 0 operands ≡ o → IsJudgedAt end (option_or o unread) end → o ≡ None) [
+    elim (place_of_first_refused_operand rule 0 operands) as (λ o. place_of_first_refused_operand rule 0 operands ≡ o → IsJudgedAt end (option_or o unread) end → o ≡ None) [
       | None ↦ λ f j. refl
       | Some at ↦ λ f j. absurd (elim j as (λ _. ⊥) [
         | inl e ↦ (let is = refused_between rule 0 low end end operands p (f ∙ e) in omega (arith, is.1))
@@ -373,7 +373,7 @@ none_refused (Some rule) low end operands unread p j =
     ] refl j
 
 -- a word that cannot be read offends before their end
-pub not_stopped : (rule : Option OperandRule) (end at : ℕ) (operands : List Operand) (unread : Option ℕ) → place_of_refused_operand rule operands ≡ None → unread ≡ Some at → at < end → IsJudgedAt end (option_or (place_of_refused_operand rule operands) unread) end → ⊥
+pub not_stopped : (rule : Option OperandRule) (end at : ℕ) (operands : List Operand) (unread : Option ℕ) → place_of_first_operand_refused_by_rule rule operands ≡ None → unread ≡ Some at → at < end → IsJudgedAt end (option_or (place_of_first_operand_refused_by_rule rule operands) unread) end → ⊥
 not_stopped rule end at operands unread r u l j =
     elim (subst (λ o. IsJudgedAt end o end) (ap (λ o. option_or o unread) r ∙ u) j) as (λ _. ⊥) [
       | inl e ↦ (let same : at ≡ end = same_Some at end e in omega arith)
@@ -409,11 +409,11 @@ completed_from words start k s h = by_going (from_going start words low)
     own : may_have_flags start.applet reading.state.flags ≡ true
     own = (from_kept start (1 + length words) words known).0
 
-    at_end : IsJudgedAt end (option_or (place_of_refused_operand (operand_rule start.applet reading.state.flags) reading.operands) reading.unread) end
+    at_end : IsJudgedAt end (option_or (place_of_first_operand_refused_by_rule (operand_rule_if_needed_kind_flag_given start.applet reading.state.flags) reading.operands) reading.unread) end
     at_end = judged_at start.applet reading end end h
 
-    taken : place_of_refused_operand (operand_rule start.applet reading.state.flags) reading.operands ≡ None
-    taken = none_refused (operand_rule start.applet reading.state.flags) (start.read + 1) end reading.operands reading.unread (from_placed start words low).operands at_end
+    taken : place_of_first_operand_refused_by_rule (operand_rule_if_needed_kind_flag_given start.applet reading.state.flags) reading.operands ≡ None
+    taken = none_refused (operand_rule_if_needed_kind_flag_given start.applet reading.state.flags) (start.read + 1) end reading.operands reading.unread (from_placed start words low).operands at_end
 
     free : ((ended && is_required_option_missing start.applet reading.state) ≡ false) × (awaits_impossible_value reading.state.awaiting reading.state.values ≡ false)
     free = or_parts (ended && is_required_option_missing start.applet reading.state) (awaits_impossible_value reading.state.awaiting reading.state.values) k
@@ -431,11 +431,11 @@ completed_from words start k s h = by_going (from_going start words low)
         complete can.0 (subst (λ r. IsJudgedGood start.applet r) (sym (on can.0 ∙ ap (λ o. behind reading.operands (reading_of_words_from_place options (option_state_from_parts reading.state.flags reading.state.values o) end can.0)) a)) can.1)
     by_awaiting (Some rule) a on =
         let text = fitting rule.letter rule.single rule.kind reading.state.values (ap (λ o. awaits_impossible_value o reading.state.values) (sym a) ∙ free.1) in
-        let can = can_go_on start.applet reading.state.flags (reading.state.values ++ (option_value_from_place_and_letter end rule.letter text.0 ∷ [])) reading.operands (end + 1) own taken in
+        let can = can_go_on start.applet reading.state.flags (reading.state.values ++ (option_value_from_place_letter_and_text end rule.letter text.0 ∷ [])) reading.operands (end + 1) own taken in
         complete (text.0 ∷ can.0) (subst (λ r. IsJudgedGood start.applet r) (sym (on (text.0 ∷ can.0) ∙ ap (behind reading.operands) (value_read options reading.state end text.0 rule can.0 a text.1))) can.1)
 
     by_going : IsRemovedPackage options end ended reading (λ more. reading_of_rest_of_command_words start (words ++ more)) → CanBeCompleted words
-    by_going (inl stopped) = absurd (not_stopped (operand_rule start.applet reading.state.flags) end stopped.0 reading.operands reading.unread taken stopped.1 stopped.2 at_end)
+    by_going (inl stopped) = absurd (not_stopped (operand_rule_if_needed_kind_flag_given start.applet reading.state.flags) end stopped.0 reading.operands reading.unread taken stopped.1 stopped.2 at_end)
     by_going (inr (inl on)) = by_awaiting reading.state.awaiting refl on.goes_on
     by_going (inr (inr off)) =
         let can = can_have_texts start.applet reading.state reading.operands end (ap (λ b. b && is_required_option_missing start.applet reading.state) (sym off.over) ∙ free.0) taken in

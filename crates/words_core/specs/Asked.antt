@@ -3,7 +3,7 @@
 -- with *command_of*.
 use Rattle.std.specs.Prelude.{◌≡◌, ℕ, ◌<◌, List, ◌∷◌, ◌++◌, length, Err, Some, IsTrue}
 use Rattle.command_core.specs.Command.{CommandLine}
-use Rattle.words_core.specs.Grammar.{help_or_version_command, spelled_command, next_word_of_command_line, can_be_option}
+use Rattle.words_core.specs.Grammar.{command_with_help_or_version_applet, spelled_command, next_word_of_command_line, can_be_option}
 use Rattle.words_core.specs.Options.{applet_of_help_or_version_option}
 
 -- a word of a command line asks for this command, help or the version: an option can be at its place, and no word
@@ -21,4 +21,4 @@ pub record IsHelpOrVersionAskedBy (words : List (List ℕ)) (command : CommandLi
   -- no word before it is wrong: an error in these words alone would be that a word is missing after them
   pub fine : (place : ℕ) → spelled_command before ≡ Err place → length before < place
   -- the command is the one that asks for help or for the version, with the topic of help
-  pub is : command ≡ help_or_version_command words command.applet
+  pub is : command ≡ command_with_help_or_version_applet words command.applet

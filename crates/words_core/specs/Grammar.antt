@@ -11,11 +11,11 @@ use Rattle.command_core.specs.declared.operands.Operand.{Operand}
 use Rattle.command_core.specs.declared.operands.OperandRule.{OperandRule}
 use Rattle.command_core.specs.declared.values.OptionValue.{OptionValue}
 use Rattle.command_core.specs.declared.values.ValueRule.{ValueRule}
-use Rattle.command_core.specs.Applets.{required_option_letter, operand_rule}
-use Rattle.command_core.specs.Command.{CommandLine, command_from_parts}
+use Rattle.command_core.specs.Applets.{required_option_letter, operand_rule_if_needed_kind_flag_given}
+use Rattle.command_core.specs.Command.{CommandLine, command_from_parts_and_end_place}
 use Rattle.command_core.specs.Flags.{has_flag, has_command_kind_flag, no_flags, with_flag}
-use Rattle.command_core.specs.Operands.{first_refused_operand, operand_at}
-use Rattle.command_core.specs.Values.{is_excluded_by_earlier_value, is_single_and_given, is_value_of_kind, is_required_value_missing, option_value_from_place_and_letter}
+use Rattle.command_core.specs.Operands.{place_of_first_refused_operand, operand_at}
+use Rattle.command_core.specs.Values.{is_excluded_by_earlier_value, is_single_and_given, is_value_of_kind, is_required_value_missing, option_value_from_place_letter_and_text}
 use Rattle.words_core.specs.declared.options.Meaning.{Meaning}
 use Rattle.words_core.specs.declared.options.Meaning.TheVariants.{Flag as Plain, Kind, Value}
 use Rattle.words_core.specs.declared.next.NextWord.{NextWord}
@@ -25,13 +25,13 @@ use Rattle.words_core.specs.declared.reading.OptionState.{OptionState}
 use Rattle.words_core.specs.declared.reading.Reading.{Reading}
 use Rattle.words_core.specs.declared.reading.Start.{Start}
 use Rattle.words_core.specs.declared.word.TheConstants.{EQUALS_SIGN}
-use Rattle.words_core.specs.Options.{OptionSpec, applet_of, applet_word, applet_of_help_or_version_option, is_early_option_word, option_of_word, options_of}
+use Rattle.words_core.specs.Options.{OptionSpec, applet_of, applet_word, applet_of_help_or_version_option, is_option_word_that_may_precede_applet, option_of_word, options_of}
 
 -- ---- a word
 
 -- whether a word is an option, or `--`: it has two or more bytes, the first of which is a dash
-abbrev pub is_option : List ℕ → Bool
-is_option word = nat_lt 1 (length word) && bytes_eq (take 1 word) (codes "-")
+abbrev pub is_option_or_double_dash : List ℕ → Bool
+is_option_or_double_dash word = nat_lt 1 (length word) && bytes_eq (take 1 word) (codes "-")
 
 -- whether a word is `--`, after which there are no options
 abbrev pub is_double_dash : List ℕ → Bool
@@ -39,15 +39,15 @@ is_double_dash word = bytes_eq word (codes "--")
 
 -- the word of the option alone: of `--name=value` the part before the first `=`, of `-xvalue` the first
 -- two bytes
-unfoldable pub option_name : List ℕ → List ℕ
-option_name word =
+unfoldable pub option_word_without_value : List ℕ → List ℕ
+option_word_without_value word =
     if bytes_eq (take 2 word) (codes "--") then before_first (λ b. b == EQUALS_SIGN) word else
     take 2 word
 
 -- the value that an option's word holds, if it holds one: the part after the first `=` of a long one,
 -- and after the first two bytes of a short one
-unfoldable pub attached_value : List ℕ → Option (List ℕ)
-attached_value word =
+unfoldable pub value_in_long_or_short_option_word : List ℕ → Option (List ℕ)
+value_in_long_or_short_option_word word =
     if bytes_eq (take 2 word) (codes "--") then
     option_map (λ i. drop (i + 1) word) (position (λ b. b == EQUALS_SIGN) word) else
     if nat_lt 2 (length word) then Some (drop 2 word) else
@@ -57,21 +57,21 @@ attached_value word =
 
 -- flags with the meaning of an option added. None if the option takes a value, or if it selects a kind of
 -- the command other than that of an earlier flag
-abbrev pub flags_with_meaning : Flags → Meaning → Option Flags
-flags_with_meaning flags (Plain flag) = Some (with_flag flag flags)
-flags_with_meaning flags (Kind flag) =
+abbrev pub flags_with_meaning_if_one_command_kind : Flags → Meaning → Option Flags
+flags_with_meaning_if_one_command_kind flags (Plain flag) = Some (with_flag flag flags)
+flags_with_meaning_if_one_command_kind flags (Kind flag) =
     if has_command_kind_flag flags && not (has_flag flag flags) then None else Some (with_flag flag flags)
-flags_with_meaning flags (Value rule) = None
+flags_with_meaning_if_one_command_kind flags (Value rule) = None
 
--- flags with an option added; None in the cases of *flags_with_meaning*
-abbrev pub flags_with_option : Flags → OptionSpec → Option Flags
-flags_with_option flags option = flags_with_meaning flags option.meaning
+-- flags with an option added; None in the cases of *flags_with_meaning_if_one_command_kind*
+abbrev pub flags_with_option_if_one_command_kind : Flags → OptionSpec → Option Flags
+flags_with_option_if_one_command_kind flags option = flags_with_meaning_if_one_command_kind flags option.meaning
 
 -- flags with the option that a word spells added; None if it spells no option, or in the cases of
--- *flags_with_meaning*
-abbrev pub flags_with_option_word : List OptionSpec → Flags → List ℕ → Option Flags
-flags_with_option_word options flags word =
-    option_and_then (flags_with_option flags) (option_of_word options word)
+-- *flags_with_meaning_if_one_command_kind*
+abbrev pub flags_with_option_word_if_one_command_kind : List OptionSpec → Flags → List ℕ → Option Flags
+flags_with_option_word_if_one_command_kind options flags word =
+    option_and_then (flags_with_option_if_one_command_kind flags) (option_of_word options word)
 
 -- ---- up to the applet
 
@@ -82,13 +82,13 @@ or_err_at place next (Some x) = next x
 
 -- the site of an applet: the applet, whether the options have ended before it, and how many words are
 -- read, including its own
-abbrev pub applet_site_from_parts : Bool → ℕ → Applet → AppletSite
-applet_site_from_parts ended place applet = record { applet = applet; ended = ended; read = place }
+abbrev pub applet_site_from_ended_read_applet : Bool → ℕ → Applet → AppletSite
+applet_site_from_ended_read_applet ended place applet = record { applet = applet; ended = ended; read = place }
 
 -- the site of the applet that the word at a place names, or this place if it names none
 unfoldable pub applet_site_of_word : Bool → ℕ → List ℕ → Result AppletSite ℕ
 applet_site_of_word ended place word =
-    or_err_at place (λ applet. Ok (applet_site_from_parts ended place applet)) (applet_of word)
+    or_err_at place (λ applet. Ok (applet_site_from_ended_read_applet ended place applet)) (applet_of word)
 
 -- the site of the applet that the first of these words, which follow `--`, names; `place` is the place of this first
 -- word
@@ -102,18 +102,18 @@ abbrev pub applet_site : ℕ → List (List ℕ) → Result AppletSite ℕ
 applet_site place [] = Err place
 applet_site place (word ∷ words) =
     if is_double_dash word then applet_site_after_double_dash (place + 1) words else
-    if is_option word then (if is_early_option_word word then applet_site
+    if is_option_or_double_dash word then (if is_option_word_that_may_precede_applet word then applet_site
     (place + 1) words else Err place) else
     applet_site_of_word false place word
 
 -- the flags of the words before the applet, added to `flags`, up to `--`; or the place of the first word for which
--- *flags_with_option_word* gives None. `place` is that of the first of these words
-abbrev pub flags_with_early_options : List OptionSpec → Flags → ℕ → List (List ℕ) → Result Flags ℕ
-flags_with_early_options options flags place [] = Ok flags
-flags_with_early_options options flags place (word ∷ words) =
+-- *flags_with_option_word_if_one_command_kind* gives None. `place` is that of the first of these words
+abbrev pub flags_with_options_before_applet : List OptionSpec → Flags → ℕ → List (List ℕ) → Result Flags ℕ
+flags_with_options_before_applet options flags place [] = Ok flags
+flags_with_options_before_applet options flags place (word ∷ words) =
     if is_double_dash word then Ok flags else
-    or_err_at place (λ more. flags_with_early_options options more (place + 1) words)
-    (flags_with_option_word options flags word)
+    or_err_at place (λ more. flags_with_options_before_applet options more (place + 1) words)
+    (flags_with_option_word_if_one_command_kind options flags word)
 
 -- the start of a command line: its applet, the applet's place, and the flags before it
 abbrev pub start_from_parts : AppletSite → Flags → Start
@@ -122,17 +122,17 @@ start_from_parts site flags =
 
 -- the start of a command line: the site of the applet with the flags before it; or the place of the first wrong word
 -- before it
-abbrev pub start_with_early_flags : AppletSite → Result Flags ℕ → Result Start ℕ
-start_with_early_flags site (Err place) = Err place
-start_with_early_flags site (Ok flags) = Ok (start_from_parts site flags)
+abbrev pub start_with_flags_before_applet : AppletSite → Result Flags ℕ → Result Start ℕ
+start_with_flags_before_applet site (Err place) = Err place
+start_with_flags_before_applet site (Ok flags) = Ok (start_from_parts site flags)
 
 -- the start of a command line, by the site of its applet among these words; or the first wrong place, if no applet or a
 -- wrong option before it was found
 abbrev pub start_by_applet_site : List (List ℕ) → Result AppletSite ℕ → Result Start ℕ
 start_by_applet_site words (Err place) = Err place
 start_by_applet_site words (Ok site) =
-    start_with_early_flags site
-    (flags_with_early_options (options_of site.applet) no_flags 1 (take (site.read - 1) words))
+    start_with_flags_before_applet site
+    (flags_with_options_before_applet (options_of site.applet) no_flags 1 (take (site.read - 1) words))
 
 -- the start of a command line: its applet and the flags before it; or the first wrong place up to the applet
 abbrev pub start_of_command_line : List (List ℕ) → Result Start ℕ
@@ -156,7 +156,7 @@ abbrev pub with_option_value : OptionState → ℕ → List ℕ → ValueRule �
 with_option_value state place text rule =
     if is_value_of_kind rule.kind text && not (is_excluded_by_earlier_value rule text state.values) then
     Some (option_state_from_parts state.flags
-    (state.values ++ (option_value_from_place_and_letter place rule.letter text ∷ [])) None) else
+    (state.values ++ (option_value_from_place_letter_and_text place rule.letter text ∷ [])) None) else
     None
 
 -- a state with an option that has values: with the value that its word holds; or, if the word holds none, one that
@@ -184,20 +184,20 @@ state_with_meaning state place held (Value rule) = with_value_option state place
 state_with_meaning state place (Some text) (Plain flag) = None
 state_with_meaning state place (Some text) (Kind flag) = None
 state_with_meaning state place None (Plain flag) =
-    with_flags_if_some state (flags_with_meaning state.flags (Plain flag))
+    with_flags_if_some state (flags_with_meaning_if_one_command_kind state.flags (Plain flag))
 state_with_meaning state place None (Kind flag) =
-    with_flags_if_some state (flags_with_meaning state.flags (Kind flag))
+    with_flags_if_some state (flags_with_meaning_if_one_command_kind state.flags (Kind flag))
 
 -- a state with the option that the word at a place spells; None if it spells none of these options, or the option may
 -- not be given so
 abbrev pub with_option_word : List OptionSpec → OptionState → ℕ → List ℕ → Option OptionState
 with_option_word options state place word =
-    option_and_then (λ (o : OptionSpec). state_with_meaning state place (attached_value word) o.meaning)
-    (option_of_word options (option_name word))
+    option_and_then (λ (o : OptionSpec). state_with_meaning state place (value_in_long_or_short_option_word word) o.meaning)
+    (option_of_word options (option_word_without_value word))
 
 -- whether a word is read as a value, since an option awaits one, or as an option
 abbrev pub is_option_or_value : OptionState → List ℕ → Bool
-is_option_or_value state word = is_some state.awaiting || (is_option word && not (is_double_dash word))
+is_option_or_value state word = is_some state.awaiting || (is_option_or_double_dash word && not (is_double_dash word))
 
 -- a state with the word at a place, by the option whose value is awaited, if one is: the word is its
 -- value, and otherwise an option; None if it cannot be read
@@ -269,9 +269,9 @@ reading_of_rest_of_command_words start words =
 
 -- the place of the first operand that the rule does not take. Without a rule, since the flag is missing that selects
 -- the kind of the command, no operand is wrong
-abbrev pub place_of_refused_operand : Option OperandRule → List Operand → Option ℕ
-place_of_refused_operand None operands = None
-place_of_refused_operand (Some rule) operands = first_refused_operand rule 0 operands
+abbrev pub place_of_first_operand_refused_by_rule : Option OperandRule → List Operand → Option ℕ
+place_of_first_operand_refused_by_rule None operands = None
+place_of_first_operand_refused_by_rule (Some rule) operands = place_of_first_refused_operand rule 0 operands
 
 -- whether there are fewer operands than the rule needs, or there is no rule, since the flag is missing that selects the
 -- kind of the command
@@ -281,15 +281,15 @@ lacks_operand_or_kind_flag (Some rule) operands = nat_lt (length operands) rule.
 
 -- whether a word is missing: an operand, the flag that selects the kind of the command, or the option with a value that
 -- the applet requires
-abbrev pub lacks_operand_or_required_value : Applet → Option OperandRule → Reading → Bool
-lacks_operand_or_required_value applet rule reading =
+abbrev pub lacks_operand_kind_flag_or_required_option : Applet → Option OperandRule → Reading → Bool
+lacks_operand_kind_flag_or_required_option applet rule reading =
     lacks_operand_or_kind_flag rule reading.operands
     || is_required_value_missing (required_option_letter applet) reading.state.values
 
 -- the command of a reading; `behind` is the place after the last word
 abbrev pub command_from_end_place_and_reading : ℕ → Applet → Reading → CommandLine
 command_from_end_place_and_reading behind applet reading =
-    command_from_parts applet reading.state.flags reading.operands reading.state.values behind
+    command_from_parts_and_end_place applet reading.state.flags reading.operands reading.state.values behind
 
 -- an error at the wrong place, if there is one, and otherwise this result
 abbrev pub unless_refused_at : Option ℕ → Result CommandLine ℕ → Result CommandLine ℕ
@@ -300,9 +300,9 @@ unless_refused_at (Some place) otherwise = Err place
 -- the place after the last word (`behind`) if a word is missing
 unfoldable pub command_of_reading_with_end_place : ℕ → Applet → Reading → Result CommandLine ℕ
 command_of_reading_with_end_place behind applet reading =
-    let rule = operand_rule applet reading.state.flags in
-    unless_refused_at (option_or (place_of_refused_operand rule reading.operands) reading.unread)
-    (if lacks_operand_or_required_value applet rule reading then Err behind else Ok
+    let rule = operand_rule_if_needed_kind_flag_given applet reading.state.flags in
+    unless_refused_at (option_or (place_of_first_operand_refused_by_rule rule reading.operands) reading.unread)
+    (if lacks_operand_kind_flag_or_required_option applet rule reading then Err behind else Ok
     (command_from_end_place_and_reading behind applet reading))
 
 -- the command of the words, by the start that was found in them; or the place of the first wrong word
@@ -329,7 +329,7 @@ value_rule_of_meaning (Value rule) = Some rule
 abbrev pub value_rule_of_word : List OptionSpec → List ℕ → Option ValueRule
 value_rule_of_word options word =
     option_and_then (λ (e : OptionSpec). value_rule_of_meaning e.meaning)
-    (option_of_word options (option_name word))
+    (option_of_word options (option_word_without_value word))
 
 -- a rule of values, unless the option's word holds the value, which is the first argument
 abbrev pub value_rule_unless_attached : Option (List ℕ) → Option ValueRule → Option ValueRule
@@ -339,7 +339,7 @@ value_rule_unless_attached (Some text) rule = None
 -- the rule of the values of the option that a word spells, if its value must be the next word
 abbrev pub awaited_rule : List OptionSpec → List ℕ → Option ValueRule
 awaited_rule options word =
-    value_rule_unless_attached (attached_value word) (value_rule_of_word options word)
+    value_rule_unless_attached (value_in_long_or_short_option_word word) (value_rule_of_word options word)
 
 -- what the word after an option of an applet can be; the rule is that of the option's value, if that must be the next
 -- word
@@ -349,20 +349,20 @@ next_word_after_option applet (Some rule) = NextValue applet rule
 
 -- what the word after the command can be: `next` says so for the applet that the command names; nothing can follow if
 -- it names none
-abbrev pub next_word_after_command : (Applet → NextWord) → Option Applet → NextWord
-next_word_after_command next None = Nothing
-next_word_after_command next (Some applet) = next applet
+abbrev pub next_word_of_applet_or_nothing : (Applet → NextWord) → Option Applet → NextWord
+next_word_of_applet_or_nothing next None = Nothing
+next_word_of_applet_or_nothing next (Some applet) = next applet
 
 -- what the word after `word` can be, by what `word` itself could be (the first argument)
 abbrev pub next_word : NextWord → List ℕ → NextWord
 next_word OptionOrCommand word =
     if is_double_dash word then CommandAlone else
-    if is_option word then OptionOrCommand else
-    next_word_after_command OptionOrOperand (applet_of word)
-next_word CommandAlone word = next_word_after_command OperandAlone (applet_of word)
+    if is_option_or_double_dash word then OptionOrCommand else
+    next_word_of_applet_or_nothing OptionOrOperand (applet_of word)
+next_word CommandAlone word = next_word_of_applet_or_nothing OperandAlone (applet_of word)
 next_word (OptionOrOperand applet) word =
     if is_double_dash word then OperandAlone applet else
-    if is_option word then next_word_after_option applet (awaited_rule (options_of applet) word) else
+    if is_option_or_double_dash word then next_word_after_option applet (awaited_rule (options_of applet) word) else
     OptionOrOperand applet
 next_word (NextValue applet rule) word = OptionOrOperand applet
 next_word (OperandAlone applet) word = OperandAlone applet
@@ -403,23 +403,23 @@ operands_of_help_or_version words Help = help_topic_operands (applet_site 1 word
 operands_of_help_or_version words applet = []
 
 -- the command with the applet `Help` or `ProgramVersion` that words ask for: without flags and values
-abbrev pub help_or_version_command : List (List ℕ) → Applet → CommandLine
-help_or_version_command words applet =
-    command_from_parts applet no_flags (operands_of_help_or_version words applet) [] (length words + 1)
+abbrev pub command_with_help_or_version_applet : List (List ℕ) → Applet → CommandLine
+command_with_help_or_version_applet words applet =
+    command_from_parts_and_end_place applet no_flags (operands_of_help_or_version words applet) [] (length words + 1)
 
 -- the command for the applet that the word at a place asks for; an error at this place if it asks for none
 abbrev pub help_or_version_or_err : List (List ℕ) → ℕ → Option Applet → Result CommandLine ℕ
 help_or_version_or_err words place None = Err place
-help_or_version_or_err words place (Some applet) = Ok (help_or_version_command words applet)
+help_or_version_or_err words place (Some applet) = Ok (command_with_help_or_version_applet words applet)
 
 -- the command that was spelled; otherwise the one that the first wrong word asks for, as `--help` does; otherwise an
 -- error at the place of this word
-abbrev pub spelled_command_or_help_or_version : List (List ℕ) → Result CommandLine ℕ → Result CommandLine ℕ
-spelled_command_or_help_or_version words (Ok command) = Ok command
-spelled_command_or_help_or_version words (Err place) =
+abbrev pub command_else_help_or_version_at_error : List (List ℕ) → Result CommandLine ℕ → Result CommandLine ℕ
+command_else_help_or_version_at_error words (Ok command) = Ok command
+command_else_help_or_version_at_error words (Err place) =
     help_or_version_or_err words place (help_or_version_option_at words place)
 
 -- the command that the words of a command line are; or the place of the first wrong word, or after the last word if a
 -- word is missing
 unfoldable pub command_of : List (List ℕ) → Result CommandLine ℕ
-command_of words = spelled_command_or_help_or_version words (spelled_command words)
+command_of words = command_else_help_or_version_at_error words (spelled_command words)

@@ -219,14 +219,14 @@ operand_help applet = []
 -- ---- the help of a command
 
 -- one way to call a command as a line, after a prefix
-abbrev pub usage_line : List ℕ → List ℕ → List ℕ
-usage_line prefix line = prefix ++ line ++ codes "\n"
+abbrev pub synopsis_line_with_prefix : List ℕ → List ℕ → List ℕ
+synopsis_line_with_prefix prefix line = prefix ++ line ++ codes "\n"
 
 -- how a command is called, a line each: the first one after this prefix, the others after seven spaces
 abbrev pub synopsis_text_with_first_prefix : List ℕ → List (List ℕ) → List ℕ
 synopsis_text_with_first_prefix prefix [] = []
 synopsis_text_with_first_prefix prefix (line ∷ lines) =
-    usage_line prefix line ++ synopsis_text_with_first_prefix (codes "       ")
+    synopsis_line_with_prefix prefix line ++ synopsis_text_with_first_prefix (codes "       ")
     lines
 
 -- the help of a command

@@ -12,11 +12,11 @@ use Rattle.command_core.specs.Command.{CommandLine}
 use Rattle.command_core.specs.Sound.{IsValidCommand}
 use Rattle.command_core.specs.Flags.{no_flags, with_flag}
 use Rattle.command_core.specs.Operands.{operand_at}
-use Rattle.command_core.specs.Values.{option_value_from_place_and_letter}
+use Rattle.command_core.specs.Values.{option_value_from_place_letter_and_text}
 use Rattle.words_core.specs.declared.options.Meaning.{Meaning}
 use Rattle.words_core.specs.declared.options.Meaning.TheVariants.{Flag as Plain, Kind, Value}
-use Rattle.words_core.specs.Grammar.{attached_value, is_double_dash, is_option, words_as_operands_from_place, option_name, value_rule_of_word, awaited_rule}
-use Rattle.words_core.specs.Options.{OptionSpec, applet_of, is_early_option_word, option_of_word, options_of}
+use Rattle.words_core.specs.Grammar.{value_in_long_or_short_option_word, is_double_dash, is_option_or_double_dash, words_as_operands_from_place, option_word_without_value, value_rule_of_word, awaited_rule}
+use Rattle.words_core.specs.Options.{OptionSpec, applet_of, is_option_word_that_may_precede_applet, option_of_word, options_of}
 
 -- the words that are neither options nor values, each with its place (`place` is that of the first word): all after
 -- `--`, and before it those that are neither. With a rule the first word is the value of the option with this rule
@@ -25,7 +25,7 @@ operand_words options rule place [] = []
 operand_words options (Some rule) place (word ∷ words) = operand_words options None (place + 1) words
 operand_words options None place (word ∷ words) =
     if is_double_dash word then words_as_operands_from_place (place + 1) words else
-    if is_option word then operand_words options (awaited_rule options word) (place + 1) words else
+    if is_option_or_double_dash word then operand_words options (awaited_rule options word) (place + 1) words else
     operand_at place word ∷ operand_words options None (place + 1) words
 
 -- the words that are options, up to `--`. With a rule the first word is the value of the option with this rule
@@ -34,7 +34,7 @@ words_that_are_options options rule [] = []
 words_that_are_options options (Some rule) (word ∷ words) = words_that_are_options options None words
 words_that_are_options options None (word ∷ words) =
     if is_double_dash word then [] else
-    if is_option word then word ∷ words_that_are_options options (awaited_rule options word) words else
+    if is_option_or_double_dash word then word ∷ words_that_are_options options (awaited_rule options word) words else
     words_that_are_options options None words
 
 -- the value that an option's word at a place holds, as a list: `rule` is that of the option's values, and the last
@@ -43,7 +43,7 @@ abbrev pub attached_values : ℕ → Option ValueRule → Option (List ℕ) → 
 attached_values place None held = []
 attached_values place (Some rule) None = []
 attached_values place (Some rule) (Some text) =
-    option_value_from_place_and_letter place rule.letter text ∷ []
+    option_value_from_place_letter_and_text place rule.letter text ∷ []
 
 -- the values of the options, each with the place of the word that holds it (`place` is that of the first word); None if
 -- one is missing. With a rule the first word is the value of the option with this rule
@@ -52,12 +52,12 @@ abbrev pub values_of : List OptionSpec → Option ValueRule → ℕ → List (Li
 values_of options None place [] = Some []
 values_of options (Some rule) place [] = None
 values_of options (Some rule) place (word ∷ words) =
-    option_map (λ values. option_value_from_place_and_letter place rule.letter word ∷ values)
+    option_map (λ values. option_value_from_place_letter_and_text place rule.letter word ∷ values)
     (values_of options None (place + 1) words)
 values_of options None place (word ∷ words) =
     if is_double_dash word then Some [] else
-    if is_option word then
-    option_map (λ values. attached_values place (value_rule_of_word options word) (attached_value word)
+    if is_option_or_double_dash word then
+    option_map (λ values. attached_values place (value_rule_of_word options word) (value_in_long_or_short_option_word word)
     ++ values)
     (values_of options (awaited_rule options word) (place + 1) words) else
     values_of options None (place + 1) words
@@ -77,12 +77,12 @@ abbrev pub flags_after : List OptionSpec → Flags → List (List ℕ) → Optio
 flags_after options flags [] = Some flags
 flags_after options flags (word ∷ words) =
     option_and_then (λ (e : OptionSpec). option_and_then (λ more. flags_after options more words)
-    (flags_with_held_meaning flags (attached_value word) e.meaning))
-    (option_of_word options (option_name word))
+    (flags_with_held_meaning flags (value_in_long_or_short_option_word word) e.meaning))
+    (option_of_word options (option_word_without_value word))
 
 -- whether a word may precede the applet: `--`, or one of the five options
 abbrev pub may_precede_applet : List ℕ → Bool
-may_precede_applet word = is_double_dash word || is_early_option_word word
+may_precede_applet word = is_double_dash word || is_option_word_that_may_precede_applet word
 
 -- The words of a command line are this command: the first word that is neither an option nor a value names the applet,
 -- and the other such words are the operands. The options are ones of the applet, and those before it may precede it.

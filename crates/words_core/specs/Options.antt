@@ -8,7 +8,7 @@ use Rattle.command_core.specs.declared.command.Applet.TheVariants.{Add, Del, Upg
 use Rattle.command_core.specs.declared.command.Flag.{Flag}
 use Rattle.command_core.specs.declared.command.Flag.TheVariants.{AllowUntrusted, NoScripts, Initdb, Simulate, Purge, Installed, Contents, Depends, WhoOwns, Test, Check}
 use Rattle.command_core.specs.declared.values.ValueRule.{ValueRule}
-use Rattle.command_core.specs.Values.{compression_rule, description_rule, files_rule, info_rule, output_rule, script_rule, trigger_rule}
+use Rattle.command_core.specs.Values.{compression_rule, description_rule, files_rule, info_rule, output_rule, script_rule, repeatable_nonempty_trigger_rule}
 use Rattle.words_core.specs.declared.options.Meaning.{Meaning}
 use Rattle.words_core.specs.declared.options.Meaning.TheVariants.{Flag as Plain, Kind, Value}
 
@@ -80,7 +80,7 @@ abbrev pub mkpkg_options : List OptionSpec
 mkpkg_options =
     value_option_of_long_and_short (codes "--info") (codes "-I") info_rule ∷
     (value_option_of_long_and_short (codes "--script") (codes "-s") script_rule ∷
-    (value_option_of_long_and_short (codes "--trigger") (codes "-t") trigger_rule ∷
+    (value_option_of_long_and_short (codes "--trigger") (codes "-t") repeatable_nonempty_trigger_rule ∷
     (value_option_of_long_and_short (codes "--files") (codes "-F") files_rule
     ∷ output_and_compression_options)))
 
@@ -116,14 +116,14 @@ option_of_word options word =
     find (λ (o : OptionSpec). bytes_eq o.long word || bytes_eq o.short word) options
 
 -- the words of the options that may precede the applet
-unfoldable pub early_option_words : List (List ℕ)
-early_option_words =
+unfoldable pub option_words_that_may_precede_applet : List (List ℕ)
+option_words_that_may_precede_applet =
     codes "--allow-untrusted" ∷ (codes "--no-scripts" ∷ (codes "--initdb" ∷ (codes "--simulate" ∷
     (codes "--purge" ∷ []))))
 
 -- whether a word is an option that may precede the applet
-abbrev pub is_early_option_word : List ℕ → Bool
-is_early_option_word word = list_any (λ early. bytes_eq early word) early_option_words
+abbrev pub is_option_word_that_may_precede_applet : List ℕ → Bool
+is_option_word_that_may_precede_applet word = list_any (λ early. bytes_eq early word) option_words_that_may_precede_applet
 
 -- the word of an applet; no word names `Help` and `ProgramVersion`, which options ask for
 abbrev pub applet_word : Applet → List ℕ

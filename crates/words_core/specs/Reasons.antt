@@ -18,8 +18,8 @@ use Rattle.words_core.specs.declared.reading.Reading.{Reading}
 use Rattle.words_core.specs.declared.reading.Start.{Start}
 use Rattle.words_core.specs.declared.usage.UsageReason.{UsageReason}
 use Rattle.words_core.specs.declared.usage.UsageReason.TheVariants.{CommandMissing, CommandUnknown, OptionEarly, OptionUnknown, OptionRepeated, SecondKind, ValueGiven, ValueMissing, ValueBad, ScriptRepeated, TooManyOperands, OperandBad, OperandMissing, KindMissing, OptionMissing}
-use Rattle.words_core.specs.Grammar.{applet_site, attached_value, is_option, start_of_command_line, option_name, reading_of_rest_of_command_words, value_rule_of_meaning}
-use Rattle.words_core.specs.Options.{OptionSpec, applet_of, is_early_option_word, option_of_word, options_of}
+use Rattle.words_core.specs.Grammar.{applet_site, value_in_long_or_short_option_word, is_option_or_double_dash, start_of_command_line, option_word_without_value, reading_of_rest_of_command_words, value_rule_of_meaning}
+use Rattle.words_core.specs.Options.{OptionSpec, applet_of, is_option_word_that_may_precede_applet, option_of_word, options_of}
 use Rattle.words_core.specs.Usage.{operand_rule_of_words}
 
 -- ---- the words
@@ -47,7 +47,7 @@ HasReading words P =
 -- a word spells an option of the applet, and P holds of the option's meaning
 abbrev pub HasOptionMeaning : Applet → List ℕ → (Meaning → Type 0) → Type 0
 HasOptionMeaning applet word P =
-    (option : OptionSpec) × (option_of_word (options_of applet) (option_name word) ≡ Some option)
+    (option : OptionSpec) × (option_of_word (options_of applet) (option_word_without_value word) ≡ Some option)
     × P option.meaning
 
 -- a rule is that of the option whose value is awaited, or of the option with values that a word spells
@@ -62,7 +62,7 @@ abbrev pub HasOptionValue : Start → Reading → List ℕ → (ValueRule → Li
 HasOptionValue start reading word P =
     ((rule : ValueRule) × (reading.state.awaiting ≡ Some rule) × P rule word)
     ⊎ HasOptionMeaning start.applet word (λ meaning. (rule : ValueRule) × (text : List ℕ)
-    × (meaning ≡ Value rule) × (attached_value word ≡ Some text) × P rule text)
+    × (meaning ≡ Value rule) × (value_in_long_or_short_option_word word ≡ Some text) × P rule text)
 
 -- the command has a rule of its operands, and P holds of this rule
 abbrev pub HasOperandRule : List (List ℕ) → Start → (OperandRule → Type 0) → Type 0
@@ -80,16 +80,16 @@ IsUsageReason CommandMissing words place =
 IsUsageReason CommandUnknown words place = HasWordAt words place (λ word. applet_of word ≡ None)
 -- the word at the place is an option or `--`, and none of the options that may precede the applet
 IsUsageReason OptionEarly words place =
-    HasWordAt words place (λ word. IsTrue (is_option word) × IsTrue (not (is_early_option_word word)))
+    HasWordAt words place (λ word. IsTrue (is_option_or_double_dash word) × IsTrue (not (is_option_word_that_may_precede_applet word)))
 -- the word at the place spells no option of the applet that was found
 IsUsageReason OptionUnknown words place =
     HasWordAt words place (λ word. HasApplet words (λ applet.
-    option_of_word (options_of applet) (option_name word) ≡ None))
+    option_of_word (options_of applet) (option_word_without_value word) ≡ None))
 -- the word at the place spells an option that takes no value, and holds a value
 IsUsageReason ValueGiven words place =
     HasWordAt words place (λ word. HasReading words (λ start reading.
     HasOptionMeaning start.applet word (λ meaning. value_rule_of_meaning meaning ≡ None)
-    × IsTrue (is_some (attached_value word))))
+    × IsTrue (is_some (value_in_long_or_short_option_word word))))
 -- the word at the place spells an option, or gives its value, that may be given once and has a value already
 IsUsageReason OptionRepeated words place =
     HasWordAt words place (λ word. HasReading words (λ start reading. (rule : ValueRule)

@@ -24,8 +24,8 @@ has_letter short (Value rule) = bytes_eq short (dash ∷ (rule.letter ∷ []))
 has_letter short meaning = true
 
 -- whether the values of an option, if it has values, are stored under the letter of its short word
-abbrev pub is_value_letter_that_of_short_word : OptionSpec → Bool
-is_value_letter_that_of_short_word option = has_letter option.short option.meaning
+abbrev pub are_values_stored_under_short_letter : OptionSpec → Bool
+are_values_stored_under_short_letter option = has_letter option.short option.meaning
 
 -- the line of help of a row of the table of help
 abbrev pub help_row_line : HelpRow → HelpLine

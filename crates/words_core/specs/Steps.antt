@@ -8,7 +8,7 @@ use Rattle.command_core.specs.declared.command.Flags.{Flags}
 use Rattle.command_core.specs.Sound.{may_have_flags, value_rules, are_allowed_values}
 use Rattle.words_core.specs.declared.reading.OptionState.{OptionState}
 use Rattle.words_core.specs.declared.reading.Reading.{Reading}
-use Rattle.words_core.specs.Grammar.{attached_value, option_name, value_rule_of_meaning, flags_with_option}
+use Rattle.words_core.specs.Grammar.{value_in_long_or_short_option_word, option_word_without_value, value_rule_of_meaning, flags_with_option_if_one_command_kind}
 use Rattle.words_core.specs.Options.{OptionSpec, option_of_word, options_of}
 
 -- a step of the reader, from the state `old` to the state `new`: if the word was read (true), `new` is the state that
@@ -36,8 +36,8 @@ has_no_values applet = list_all is_option_without_value (options_of applet)
 -- kind of the command other than that of an earlier flag
 abbrev pub flags_with_spelled_option : List OptionSpec → Flags → List ℕ → Option Flags
 flags_with_spelled_option options flags word =
-    if is_some (attached_value word) then None else
-    option_and_then (flags_with_option flags) (option_of_word options (option_name word))
+    if is_some (value_in_long_or_short_option_word word) then None else
+    option_and_then (flags_with_option_if_one_command_kind flags) (option_of_word options (option_word_without_value word))
 
 -- whether the flags decide which operands an applet takes
 abbrev pub operands_depend_on_flags : Applet → Bool

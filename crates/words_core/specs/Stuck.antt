@@ -10,20 +10,20 @@ use Rattle.command_core.specs.declared.values.OptionValue.{OptionValue}
 use Rattle.command_core.specs.declared.values.ValueKind.{ValueKind}
 use Rattle.command_core.specs.declared.values.ValueKind.TheVariants.{Script}
 use Rattle.command_core.specs.declared.values.ValueRule.{ValueRule}
-use Rattle.command_core.specs.Applets.{required_option_letter, operand_rule}
+use Rattle.command_core.specs.Applets.{required_option_letter, operand_rule_if_needed_kind_flag_given}
 use Rattle.command_core.specs.Flags.{no_flags}
 use Rattle.command_core.specs.Values.{is_required_value_missing, script_type, script_types}
 use Rattle.words_core.specs.declared.reading.AppletSite.{AppletSite}
 use Rattle.words_core.specs.declared.reading.OptionState.{OptionState}
 use Rattle.words_core.specs.declared.reading.Start.{Start}
-use Rattle.words_core.specs.Grammar.{applet_site, command_of, flags_with_early_options, is_double_dash, is_option, reading_of_rest_of_command_words, awaited_rule, start_by_applet_site}
+use Rattle.words_core.specs.Grammar.{applet_site, command_of, flags_with_options_before_applet, is_double_dash, is_option_or_double_dash, reading_of_rest_of_command_words, awaited_rule, start_by_applet_site}
 use Rattle.words_core.specs.Options.{OptionSpec, applets, options_of}
 
 -- ---- before the applet
 
 -- whether each of the words before an applet, up to `--`, is an option of it without a value
 abbrev pub are_options_of : List (List ℕ) → Applet → Bool
-are_options_of words applet = is_ok (flags_with_early_options (options_of applet) no_flags 1 words)
+are_options_of words applet = is_ok (flags_with_options_before_applet (options_of applet) no_flags 1 words)
 
 -- ---- after the applet
 
@@ -34,14 +34,14 @@ have_options_ended options rule [] = false
 have_options_ended options (Some rule) (word ∷ words) = have_options_ended options None words
 have_options_ended options None (word ∷ words) =
     if is_double_dash word then true else
-    if is_option word then have_options_ended options (awaited_rule options word) words else
+    if is_option_or_double_dash word then have_options_ended options (awaited_rule options word) words else
     have_options_ended options None words
 
 -- whether an option is missing: a flag that selects the kind of the command, or the option with a value that the applet
 -- requires
 abbrev pub is_required_option_missing : Applet → OptionState → Bool
 is_required_option_missing applet state =
-    not (is_some (operand_rule applet state.flags))
+    not (is_some (operand_rule_if_needed_kind_flag_given applet state.flags))
     || is_required_value_missing (required_option_letter applet) state.values
 
 -- whether the option with a letter was given a script of the type `t`

@@ -11,7 +11,7 @@ use Rattle.command_core.specs.declared.operands.OperandRule.{OperandRule}
 use Rattle.command_core.specs.declared.values.ValueKind.{ValueKind}
 use Rattle.command_core.specs.declared.values.ValueKind.TheVariants.{Any as AnyText, Nonempty, File as FileValue, Output, Uncompressed, Script}
 use Rattle.command_core.specs.declared.values.ValueRule.{ValueRule}
-use Rattle.command_core.specs.Applets.{required_option_letter, operand_rule}
+use Rattle.command_core.specs.Applets.{required_option_letter, operand_rule_if_needed_kind_flag_given}
 use Rattle.command_core.specs.Operands.{is_operand_of_kind}
 use Rattle.command_core.specs.Values.{is_value_of_kind}
 use Rattle.words_core.specs.declared.next.NextWord.{NextWord}
@@ -22,7 +22,7 @@ use Rattle.words_core.specs.declared.reading.AppletSite.{AppletSite}
 use Rattle.words_core.specs.declared.reading.Start.{Start}
 use Rattle.words_core.specs.declared.usage.UsageReason.{UsageReason}
 use Rattle.words_core.specs.declared.usage.UsageReason.TheVariants.{CommandMissing, CommandUnknown, OptionEarly, OptionUnknown, OptionRepeated, SecondKind, ValueGiven, ValueMissing, ValueBad, ScriptRepeated, TooManyOperands, OperandBad, OperandMissing, KindMissing, OptionMissing}
-use Rattle.words_core.specs.Grammar.{applet_site, attached_value, is_double_dash, is_option, start_of_command_line, next_word_of_command_line, option_name, reading_of_rest_of_command_words}
+use Rattle.words_core.specs.Grammar.{applet_site, value_in_long_or_short_option_word, is_double_dash, is_option_or_double_dash, start_of_command_line, next_word_of_command_line, option_word_without_value, reading_of_rest_of_command_words}
 use Rattle.words_core.specs.HelpTexts.{program_usage}
 use Rattle.words_core.specs.Options.{OptionSpec, applet_word, option_of_word, options_of}
 
@@ -49,7 +49,7 @@ meaning_reason None (Value rule) = OptionRepeated
 -- why a word is no option of the command, by the option that it spells, if it spells one
 abbrev pub option_reason : List ℕ → Option OptionSpec → UsageReason
 option_reason word None = OptionUnknown
-option_reason word (Some option) = meaning_reason (attached_value word) option.meaning
+option_reason word (Some option) = meaning_reason (value_in_long_or_short_option_word word) option.meaning
 
 -- why a word is no operand: it is none of the kind that the command takes, or one too many
 abbrev pub operand_reason : List ℕ → Option OperandRule → UsageReason
@@ -62,8 +62,8 @@ abbrev pub word_reason : Option OperandRule → List ℕ → NextWord → UsageR
 word_reason rule word OptionOrCommand = OptionUnknown
 word_reason rule word CommandAlone = CommandUnknown
 word_reason rule word (OptionOrOperand applet) =
-    if is_option word && not (is_double_dash word) then
-    option_reason word (option_of_word (options_of applet) (option_name word)) else
+    if is_option_or_double_dash word && not (is_double_dash word) then
+    option_reason word (option_of_word (options_of applet) (option_word_without_value word)) else
     operand_reason word rule
 word_reason rule word (NextValue applet value) = value_reason value word
 word_reason rule word (OperandAlone applet) = operand_reason word rule
@@ -91,7 +91,7 @@ line_reason applet rule next (Some word) = word_reason rule word next
 -- is one
 abbrev pub command_reason : NextWord → Option (List ℕ) → UsageReason
 command_reason next None = CommandMissing
-command_reason OptionOrCommand (Some word) = if is_option word then OptionEarly else CommandUnknown
+command_reason OptionOrCommand (Some word) = if is_option_or_double_dash word then OptionEarly else CommandUnknown
 command_reason next (Some word) = CommandUnknown
 
 -- why a place up to the command is wrong: no command was found; or one was, and the word there is none of its options
@@ -102,7 +102,7 @@ early_reason (Ok site) next word = OptionUnknown
 -- which operands the command that was found takes, under all flags that are read
 abbrev pub operand_rule_of_words : List (List ℕ) → Start → Option OperandRule
 operand_rule_of_words words start =
-    operand_rule start.applet (reading_of_rest_of_command_words start words).state.flags
+    operand_rule_if_needed_kind_flag_given start.applet (reading_of_rest_of_command_words start words).state.flags
 
 -- why a place offends, by the start (the applet and the flags before it) that was found in the words, if one was
 abbrev pub usage_reason_after_start : List (List ℕ) → ℕ → Result Start ℕ → UsageReason

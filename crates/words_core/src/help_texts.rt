@@ -1,7 +1,7 @@
 //! The texts of `--help` and `--version`, put together from the rows of `help_rows`. The texts are
 //! shown in `docs/commands.md`, "Help".
 ghost use Rattle.std.specs.Prelude.{◌≡◌, ◌≤◌, ◌++◌, IfOk, OnOk, codes, map};
-ghost use Rattle.words_core.specs.HelpTexts.{command_help, command_help_line, commands_text, common_options_text, first_steps_text, help_text, help_line_text, help_lines_text, program_help, program_usage, section_text, padding_to_column, help_topic_of, usage_line, synopsis_text_with_first_prefix, version_line};
+ghost use Rattle.words_core.specs.HelpTexts.{command_help, command_help_line, commands_text, common_options_text, first_steps_text, help_text, help_line_text, help_lines_text, program_help, program_usage, section_text, padding_to_column, help_topic_of, synopsis_line_with_prefix, synopsis_text_with_first_prefix, version_line};
 ghost use Rattle.words_core.specs.Rows.{help_row_line};
 
 use crate::help_rows::{
@@ -160,7 +160,7 @@ fn push_usage(text: &mut Vec<u8>, lines: &[&[u8]]) -> Result<(), AllocError>
 
 // Adds one way to call a command as a line, after the text `front`.
 fn push_usage_line(text: &mut Vec<u8>, front: &[u8], line: &[u8]) -> Result<(), AllocError>
-    ensures { OnOk result (text.new.items ≡ text.old.items ++ usage_line front.now line.now) }
+    ensures { OnOk result (text.new.items ≡ text.old.items ++ synopsis_line_with_prefix front.now line.now) }
 {
     text.extend_from_slice(front)?;
     text.extend_from_slice(line)?;

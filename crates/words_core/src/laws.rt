@@ -12,7 +12,7 @@ ghost use Rattle.words_core.specs.Options.{applets, common_options, own_options}
 ghost use Rattle.words_core.specs.Explained.{are_help_lines_of_options, are_applets_listed_in_help, help_and_version_options};
 ghost use Rattle.words_core.specs.HelpTexts.{common_option_help, option_help};
 ghost use Rattle.words_core.specs.Reasons.{IsUsageReason};
-ghost use Rattle.words_core.specs.Rows.{is_value_letter_that_of_short_word};
+ghost use Rattle.words_core.specs.Rows.{are_values_stored_under_short_letter};
 ghost use Rattle.words_core.specs.Usage.{usage_reason};
 ghost use Rattle.words_core.specs.Stuck.{is_command_line_stuck};
 
@@ -75,7 +75,7 @@ pub fn what_follows_a_command_offends_after_it()
 /// The letter under which the values of an option are stored is that of the option's short word.
 pub fn letters_are_those_of_short_words()
     ensures { (applet : Applet)
-        → IsTrue (list_all is_value_letter_that_of_short_word (own_options applet)) }
+        → IsTrue (list_all are_values_stored_under_short_letter (own_options applet)) }
 {}
 
 /// The reason that the line after a usage error gives is true, of the word at the place or of the

@@ -1,12 +1,12 @@
 //! What the next word of a command line can be, and what a word asks for if an option can be there:
 //! help, or the version of the program. The rules are in `docs/commands.md`, "Words" and "Help".
 ghost use Rattle.std.specs.Prelude.{◌≡◌, ◌+◌, ◌≤◌, IsTrue, length, take};
-ghost use Rattle.words_core.specs.Grammar.{help_or_version_option_at, is_option, next_word_of_command_line, next_word, awaited_rule, can_be_option};
+ghost use Rattle.words_core.specs.Grammar.{help_or_version_option_at, is_option_or_double_dash, next_word_of_command_line, next_word, awaited_rule, can_be_option};
 ghost use Rattle.words_core.specs.Options.{options_of};
 ghost use Rattle.words_core.specs.declared.next.NextWord.TheVariants.{OptionOrCommand, OptionOrOperand};
 
 use crate::options::{applet_of, applet_of_help_or_version_option, option_of_word};
-use crate::word::{attached_value, is_double_dash, is_option, option_name};
+use crate::word::{value_in_long_or_short_option_word, is_double_dash, is_option_or_double_dash, option_word_without_value};
 use base_core::Words;
 use command_core::{Applet, ValueRule};
 
@@ -65,7 +65,7 @@ fn after_start(word: &[u8]) -> NextWord
     if is_double_dash(word) {
         return NextWord::Command;
     }
-    if is_option(word) {
+    if is_option_or_double_dash(word) {
         return NextWord::OptionOrCommand;
     }
     match applet_of(word) {
@@ -82,7 +82,7 @@ fn after_applet(applet: Applet, word: &[u8]) -> NextWord
     if is_double_dash(word) {
         return NextWord::Operand(applet);
     }
-    if !is_option(word) {
+    if !is_option_or_double_dash(word) {
         return NextWord::OptionOrOperand(applet);
     }
     match awaited_rule(applet, word) {
@@ -94,13 +94,13 @@ fn after_applet(applet: Applet, word: &[u8]) -> NextWord
 // The rule of the values of the option that a word spells, if its value must be the next word. None
 // for a flag, and if the word itself holds the value.
 fn awaited_rule(applet: Applet, word: &[u8]) -> Option<ValueRule>
-    requires { IsTrue (is_option word.now) }
+    requires { IsTrue (is_option_or_double_dash word.now) }
     ensures { result ≡ awaited_rule (options_of applet) word.now }
 {
-    if attached_value(word).is_some() {
+    if value_in_long_or_short_option_word(word).is_some() {
         return None;
     }
-    match option_of_word(applet, option_name(word)) {
+    match option_of_word(applet, option_word_without_value(word)) {
         Some(option) => option.meaning.rule(),
         None => None,
     }

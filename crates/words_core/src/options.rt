@@ -4,8 +4,8 @@
 ghost use Rattle.std.specs.Prelude.{◌≡◌, ◌||◌, ◌++◌, map};
 ghost use Rattle.std.specs.Option.{option_and_then, option_map};
 ghost use Rattle.std.specs.Str.{bytes_eq};
-ghost use Rattle.words_core.specs.Grammar.{value_rule_of_meaning, flags_with_meaning, flags_with_option};
-ghost use Rattle.words_core.specs.Options.{applet_of, applet_word, applet_of_help_or_version_option, common_options, is_early_option_word, option_of_word, options_of, own_options};
+ghost use Rattle.words_core.specs.Grammar.{value_rule_of_meaning, flags_with_meaning_if_one_command_kind, flags_with_option_if_one_command_kind};
+ghost use Rattle.words_core.specs.Options.{applet_of, applet_word, applet_of_help_or_version_option, common_options, is_option_word_that_may_precede_applet, option_of_word, options_of, own_options};
 ghost use Rattle.words_core.specs.Rows.{option_spec};
 
 use command_core::{
@@ -277,9 +277,9 @@ pub(crate) fn applet_of(word: &[u8]) -> Option<Applet>
 }
 
 /// Whether a word is an option that may precede the applet.
-#[tactic(auto, unfolding(crate::specs::Options::early_option_words))]
-pub(crate) fn is_early_option_word(word: &[u8]) -> bool
-    ensures { result ≡ is_early_option_word word.now }
+#[tactic(auto, unfolding(crate::specs::Options::option_words_that_may_precede_applet))]
+pub(crate) fn is_option_word_that_may_precede_applet(word: &[u8]) -> bool
+    ensures { result ≡ is_option_word_that_may_precede_applet word.now }
 {
     is_among(&EARLY_WORDS, word)
 }
@@ -340,8 +340,8 @@ fn find_option(options: &[OptionRow], word: &[u8]) -> Option<OptionRow>
 }
 
 /// Flags with an option added. None if there is no option, or in the cases of `Meaning::with`.
-pub(crate) fn flags_with_option_word(flags: Flags, option: Option<OptionRow>) -> Option<Flags>
-    ensures { result ≡ option_and_then (flags_with_option flags) (option_map option_spec option) }
+pub(crate) fn flags_with_option_word_if_one_command_kind(flags: Flags, option: Option<OptionRow>) -> Option<Flags>
+    ensures { result ≡ option_and_then (flags_with_option_if_one_command_kind flags) (option_map option_spec option) }
 {
     option?.meaning.with(flags)
 }
@@ -370,7 +370,7 @@ impl Meaning {
     /// The flags with that of an option with this meaning added. None if the option takes a value,
     /// or if it selects a kind of the command other than that of an earlier flag.
     pub(crate) fn with(self, flags: Flags) -> Option<Flags>
-        ensures { result ≡ flags_with_meaning flags self }
+        ensures { result ≡ flags_with_meaning_if_one_command_kind flags self }
     {
         match self {
             Meaning::Flag(flag) => Some(flags.with(flag)),

@@ -4,7 +4,7 @@ ghost use Rattle.std.specs.Prelude.{◌≡◌, IfOk, IfErr, IsTrue, OnErr};
 ghost use Rattle.std.specs.Result.{is_ok};
 ghost use Rattle.command_core.specs.Sound.{is_valid_command};
 ghost use Rattle.words_core.specs.Faults.{HasStartIfOutOfMemory, IsWordsFault};
-ghost use Rattle.words_core.specs.Grammar.{applet_site, help_or_version_command, command_of, command_of_reading_with_end_place, spelled_command, start_of_command_line, help_topic_operands};
+ghost use Rattle.words_core.specs.Grammar.{applet_site, command_with_help_or_version_applet, command_of, command_of_reading_with_end_place, spelled_command, start_of_command_line, help_topic_operands};
 ghost use Rattle.words_core.specs.Steps.{IsSoundReading};
 
 use crate::next::help_or_version_option_at;
@@ -73,7 +73,7 @@ fn read_asked(alloc: Global, words: &Words, place: u32) -> Result<Command, Words
     let Some(applet) = help_or_version_option_at(words, place) else {
         return Err(WordsFault::Usage { place });
     };
-    match help_or_version_command(alloc, words, applet) {
+    match command_with_help_or_version_applet(alloc, words, applet) {
         Ok(command) => Ok(command),
         Err(_) => Err(WordsFault::Memory),
     }
@@ -81,13 +81,13 @@ fn read_asked(alloc: Global, words: &Words, place: u32) -> Result<Command, Words
 
 // The command `Help` or `ProgramVersion` that words ask for: without flags and values. Its operands
 // are those of `topic`.
-fn help_or_version_command(
+fn command_with_help_or_version_applet(
     alloc: Global,
     words: &Words,
     applet: Applet,
 ) -> Result<Command, AllocError>
-    requires { IsTrue (is_valid_command (help_or_version_command words.now applet)) }
-    ensures ok { IfOk result (λ command. command ≡ help_or_version_command words.now applet) }
+    requires { IsTrue (is_valid_command (command_with_help_or_version_applet words.now applet)) }
+    ensures ok { IfOk result (λ command. command ≡ command_with_help_or_version_applet words.now applet) }
     // Memory runs out only for the operand of `Help`, and so only if an applet was found.
     ensures memory { OnErr result (IsTrue (is_ok (applet_site 1 words.now))) }
 {
@@ -151,7 +151,7 @@ fn judge(applet: Applet, reading: Reading, behind: u32) -> Result<Command, Words
         return Err(WordsFault::Usage { place });
     };
     // The operands that were read precede the word that could not be read.
-    if let Some(place) = rule.first_refused_operand(&reading.operands) {
+    if let Some(place) = rule.place_of_first_refused_operand(&reading.operands) {
         return Err(WordsFault::Usage { place });
     }
     if let Some(place) = reading.unread {

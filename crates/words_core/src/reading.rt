@@ -6,15 +6,15 @@ ghost use Rattle.std.specs.Option.{option_map};
 ghost use Rattle.command_core.specs.Applets.{required_option_letter};
 ghost use Rattle.command_core.specs.Flags.{no_flags};
 ghost use Rattle.command_core.specs.Values.{is_required_value_missing};
-ghost use Rattle.words_core.specs.Grammar.{applet_site, flags_with_early_options, option_state_at_start, is_option, is_option_or_value, start_of_command_line, words_as_operands_from_place, reading_of_words_from_place, reading_of_rest_of_command_words, words_reading_from_parts, reading_at_end_of_words, applet_site_of_word, applet_site_after_double_dash, with_flags_if_some, flags_with_meaning, state_with_meaning, with_value_option, with_option_word, with_option_value, with_option_or_value_word};
+ghost use Rattle.words_core.specs.Grammar.{applet_site, flags_with_options_before_applet, option_state_at_start, is_option_or_double_dash, is_option_or_value, start_of_command_line, words_as_operands_from_place, reading_of_words_from_place, reading_of_rest_of_command_words, words_reading_from_parts, reading_at_end_of_words, applet_site_of_word, applet_site_after_double_dash, with_flags_if_some, flags_with_meaning_if_one_command_kind, state_with_meaning, with_value_option, with_option_word, with_option_value, with_option_or_value_word};
 ghost use Rattle.words_core.specs.Options.{options_of};
 ghost use Rattle.words_core.specs.Steps.{IsReadingStep};
 
 use crate::options::{
-    Meaning, applet_of, flags_with_option_word, is_early_option_word, option_of_word,
+    Meaning, applet_of, flags_with_option_word_if_one_command_kind, is_option_word_that_may_precede_applet, option_of_word,
 };
 use crate::word::{
-    MOST_PLACES, attached_value, is_double_dash, is_option, option_name, place_after_word,
+    MOST_PLACES, value_in_long_or_short_option_word, is_double_dash, is_option_or_double_dash, option_word_without_value, place_after_word,
 };
 use base_core::Words;
 use command_core::{Applet, Flags, Operands, ValueRule, Values};
@@ -72,11 +72,11 @@ pub(crate) fn find_applet(words: &Words) -> Result<AppletSite, u32>
         if is_double_dash(word) {
             return applet_after_end(words, i + 1);
         }
-        if !is_option(word) {
+        if !is_option_or_double_dash(word) {
             // The first word that is no option must name the applet.
             return applet_at(word, false, i);
         }
-        if !is_early_option_word(word) {
+        if !is_option_word_that_may_precede_applet(word) {
             return Err(place_after_word(i));
         }
     }
@@ -122,7 +122,7 @@ fn read_early(words: &Words, site: &AppletSite) -> Result<Flags, u32>
     // The place after the last word is a number of 32 bits.
     requires few { length words.now < MOST_PLACES }
     ensures { result
-        ≡ flags_with_early_options (options_of site.now.applet) no_flags 1 (take
+        ≡ flags_with_options_before_applet (options_of site.now.applet) no_flags 1 (take
         (site.now.read - 1) words.now) }
 {
     let mut flags = Flags::none();
@@ -132,7 +132,7 @@ fn read_early(words: &Words, site: &AppletSite) -> Result<Flags, u32>
             return Ok(flags);
         }
         // The word must be an option of this applet that takes no value.
-        match flags_with_option_word(flags, option_of_word(site.applet, word)) {
+        match flags_with_option_word_if_one_command_kind(flags, option_of_word(site.applet, word)) {
             Some(more) => flags = more,
             None => return Err(place_after_word(i)),
         }
@@ -170,7 +170,7 @@ impl OptionState {
     fn expects(&self, word: &[u8]) -> bool
         ensures { result ≡ is_option_or_value self.now word.now }
     {
-        self.awaiting.is_some() || (is_option(word) && !is_double_dash(word))
+        self.awaiting.is_some() || (is_option_or_double_dash(word) && !is_double_dash(word))
     }
 
     // Reads the word at a place: the awaited value, or an option. Returns false if the word cannot
@@ -201,12 +201,12 @@ impl OptionState {
     // Reads the option that the word at a place is. Returns false if it cannot be read, and then
     // nothing changes.
     fn read_option(&mut self, applet: Applet, place: u32, word: &[u8]) -> Result<bool, AllocError>
-        requires { IsTrue (is_option word.now) }
+        requires { IsTrue (is_option_or_double_dash word.now) }
         ensures { IfOk result (λ good. IsReadingStep good self.old self.new (with_option_word
             (options_of applet) self.old place word.now)) }
     {
-        match option_of_word(applet, option_name(word)) {
-            Some(option) => self.read_meaning(place, attached_value(word), option.meaning),
+        match option_of_word(applet, option_word_without_value(word)) {
+            Some(option) => self.read_meaning(place, value_in_long_or_short_option_word(word), option.meaning),
             None => Ok(false),
         }
     }
@@ -235,7 +235,7 @@ impl OptionState {
     // the command and an earlier option has selected another kind.
     fn read_flag(&mut self, meaning: Meaning) -> bool
         ensures { IsReadingStep result self.old self.new (with_flags_if_some self.old
-            (flags_with_meaning self.old.flags meaning)) }
+            (flags_with_meaning_if_one_command_kind self.old.flags meaning)) }
     {
         match meaning.with(self.flags) {
             Some(flags) => {

@@ -4,7 +4,7 @@ ghost use Rattle.std.specs.Prelude.{◌≡◌, ◌-◌, ◌+◌, ◌<◌, ◌≤
 ghost use Rattle.std.specs.Option.{option_map};
 ghost use Rattle.base_core.specs.Sink.{sink_before_and_after};
 ghost use Rattle.base_core.specs.Write.{Writes};
-ghost use Rattle.words_core.specs.Grammar.{applet_site, option_state_at_start, is_option, start_of_command_line, next_word_of_command_line, reading_of_words_from_place, reading_of_rest_of_command_words};
+ghost use Rattle.words_core.specs.Grammar.{applet_site, option_state_at_start, is_option_or_double_dash, start_of_command_line, next_word_of_command_line, reading_of_words_from_place, reading_of_rest_of_command_words};
 ghost use Rattle.words_core.specs.Options.{options_of};
 ghost use Rattle.words_core.specs.Rows.{option_spec};
 ghost use Rattle.words_core.specs.Steps.{operands_depend_on_flags, flags_with_spelled_option, has_no_values};
@@ -13,10 +13,10 @@ ghost use Rattle.words_core.specs.Usage.{space_before_help_topic, help_topic_wor
 
 use crate::help_rows::PROGRAM_USAGE;
 use crate::next::{NextWord, next_word_of_command_line};
-use crate::options::{Meaning, OptionRow, applet_word, flags_with_option_word, option_of_word};
+use crate::options::{Meaning, OptionRow, applet_word, flags_with_option_word_if_one_command_kind, option_of_word};
 use crate::reading::{Start, find_applet, read_start};
 use crate::usage_texts::{description_of_expected_kind, reason_text};
-use crate::word::{attached_value, is_double_dash, is_option, option_name};
+use crate::word::{value_in_long_or_short_option_word, is_double_dash, is_option_or_double_dash, option_word_without_value};
 use base_core::{Sink, SinkFault, Words, write_all};
 use command_core::{Applet, Flags, OperandKind, OperandRule, ValueKind, ValueRule};
 use itoa::Buffer;
@@ -117,7 +117,7 @@ fn command_reason(next: NextWord, word: Option<&[u8]>) -> UsageReason
         return UsageReason::CommandMissing;
     };
     match next {
-        NextWord::OptionOrCommand if is_option(word) => UsageReason::OptionEarly,
+        NextWord::OptionOrCommand if is_option_or_double_dash(word) => UsageReason::OptionEarly,
         _ => UsageReason::CommandUnknown,
     }
 }
@@ -179,13 +179,13 @@ fn word_reason(rule: Option<OperandRule>, word: &[u8], next: NextWord) -> UsageR
 fn free_reason(applet: Applet, rule: Option<OperandRule>, word: &[u8]) -> UsageReason
     ensures { result ≡ word_reason rule word.now (OptionOrOperand applet) }
 {
-    if !is_option(word) {
+    if !is_option_or_double_dash(word) {
         return operand_reason(word, rule);
     }
     if is_double_dash(word) {
         return operand_reason(word, rule);
     }
-    option_reason(word, option_of_word(applet, option_name(word)))
+    option_reason(word, option_of_word(applet, option_word_without_value(word)))
 }
 
 // Why a word cannot be read as an option, by the option of the command that it spells, if it spells
@@ -194,7 +194,7 @@ fn option_reason(word: &[u8], option: Option<OptionRow>) -> UsageReason
     ensures { result ≡ option_reason word.now (option_map option_spec option) }
 {
     match option {
-        Some(option) => meaning_reason(attached_value(word), option.meaning),
+        Some(option) => meaning_reason(value_in_long_or_short_option_word(word), option.meaning),
         None => UsageReason::OptionUnknown,
     }
 }
@@ -294,7 +294,7 @@ fn flags_behind(words: &Words, start: &Start) -> Flags
             return flags;
         }
         // The word is an operand.
-        if !is_option(word) {
+        if !is_option_or_double_dash(word) {
             continue;
         }
         // An option that cannot be read ends the reading.
@@ -309,13 +309,13 @@ fn flags_behind(words: &Words, start: &Start) -> Flags
 // Flags with the option that a word spells added. None if it spells no flag of the command, holds a
 // value, or selects a kind of the command other than that of an earlier flag.
 fn flags_with_held_meaning(applet: Applet, flags: Flags, word: &[u8]) -> Option<Flags>
-    requires { IsTrue (is_option word.now) }
+    requires { IsTrue (is_option_or_double_dash word.now) }
     ensures { result ≡ flags_with_spelled_option (options_of applet) flags word.now }
 {
-    if attached_value(word).is_some() {
+    if value_in_long_or_short_option_word(word).is_some() {
         return None;
     }
-    flags_with_option_word(flags, option_of_word(applet, option_name(word)))
+    flags_with_option_word_if_one_command_kind(flags, option_of_word(applet, option_word_without_value(word)))
 }
 
 // ---- the line

@@ -4,7 +4,7 @@
 ghost use Rattle.std.specs.Prelude.{◌≡◌, ◌+◌, ◌==◌, ◌<◌, IsTrue, drop};
 ghost use Rattle.std.specs.List.{position};
 ghost use Rattle.std.specs.Option.{option_map};
-ghost use Rattle.words_core.specs.Grammar.{attached_value, is_double_dash, is_option, option_name};
+ghost use Rattle.words_core.specs.Grammar.{value_in_long_or_short_option_word, is_double_dash, is_option_or_double_dash, option_word_without_value};
 
 /// 2^32 - 1: places count from 1 in 32 bits, and the one after the last word needs one too, so that
 /// this many words are too many (`docs/commands.md`, "Answers and statuses").
@@ -15,8 +15,8 @@ const EQUALS_SIGN: u8 = b'=';
 
 /// Whether a word is an option, or the end of the options: two or more bytes that begin with a
 /// dash.
-pub(crate) fn is_option(word: &[u8]) -> bool
-    ensures { result ≡ is_option word.now }
+pub(crate) fn is_option_or_double_dash(word: &[u8]) -> bool
+    ensures { result ≡ is_option_or_double_dash word.now }
 {
     word.len() > 1 && word.starts_with(b"-".as_slice())
 }
@@ -37,10 +37,10 @@ fn equals_sign(word: &[u8]) -> Option<usize>
 
 /// The word of the option alone: of `--name=value` the part before the first `=`, of `-xvalue` the
 /// first two bytes.
-#[tactic(auto, unfolding(crate::specs::Grammar::option_name))]
-pub(crate) fn option_name(word: &[u8]) -> &[u8]
-    requires { IsTrue (is_option word.now) }
-    ensures { result.now ≡ option_name word.now }
+#[tactic(auto, unfolding(crate::specs::Grammar::option_word_without_value))]
+pub(crate) fn option_word_without_value(word: &[u8]) -> &[u8]
+    requires { IsTrue (is_option_or_double_dash word.now) }
+    ensures { result.now ≡ option_word_without_value word.now }
 {
     if !word.starts_with(b"--".as_slice()) {
         return &word[..2];
@@ -53,9 +53,9 @@ pub(crate) fn option_name(word: &[u8]) -> &[u8]
 
 /// The value that an option's word holds, if it holds one: the part after the first `=` of a long
 /// one, and after the letter of a short one.
-#[tactic(auto, unfolding(crate::specs::Grammar::attached_value))]
-pub(crate) fn attached_value(word: &[u8]) -> Option<&[u8]>
-    ensures { option_map (λ text. text.now) result ≡ attached_value word.now }
+#[tactic(auto, unfolding(crate::specs::Grammar::value_in_long_or_short_option_word))]
+pub(crate) fn value_in_long_or_short_option_word(word: &[u8]) -> Option<&[u8]>
+    ensures { option_map (λ text. text.now) result ≡ value_in_long_or_short_option_word word.now }
 {
     if word.starts_with(b"--".as_slice()) {
         return long_value(word);

@@ -4,15 +4,15 @@ use Rattle.std.specs.Prelude.{slice_get, nat_lt, if◌then◌else◌}
 use Rattle.std.specs.List.{list_any}
 use Rattle.std.proofs.lemmas.Bool.{ltb-false}
 use Rattle.engine_core.specs.adb_fields.FirstPair.{IsIn}
-use Rattle.engine_core.specs.adb_fields.Repeated.{entries_at, list_of}
+use Rattle.engine_core.specs.adb_fields.Repeated.{entries_of_field_at_index, list_of}
 use Rattle.engine_core.specs.adb_schema.Soundness.{container_fault_except_contents, payload_in, root_value_of_payload}
-use Rattle.adb_view.specs.FieldIndexes.{INDEX_PACKAGES}
-use Rattle.adb_view.specs.Values.{entries_in, entry_in}
+use Rattle.adb_view.specs.FieldIndexes.{INDEX_PACKAGES_INDEX}
+use Rattle.adb_view.specs.Values.{entries_in, entry_at_index}
 use Rattle.adb_view.specs.declared.tables.Which.TheVariants.{Index}
 use Rattle.adb_view.specs.Plain.{Plain, Plains, none, more}
 use Rattle.base_core.specs.declared.cause.Cause.{Cause}
-use Rattle.engine_core.specs.candidate_core.Candidates.{Candidate, as_installed, candidate_of, candidates_of_index, is_same_package}
-use Rattle.engine_core.specs.candidate_core.Rank.{SealedPool, UpgradedNames, sealed_pool_from_parts}
+use Rattle.engine_core.specs.candidate_core.Candidates.{Candidate, as_installed, candidate_of, candidates_of_index, is_repository_package_same_as_installed}
+use Rattle.engine_core.specs.candidate_core.Rank.{SelectionProblem, UpgradedNames, selection_problem_from_parts}
 use Rattle.engine_core.specs.candidate_core.declared.candidate_list.TheConstants.{MOST_CANDIDATES}
 use Rattle.engine_core.specs.change_inputs.Candidates.{candidates_of_repositories_from, candidates_of, installed_candidate, root_pool}
 use Rattle.engine_core.specs.change_inputs.Chains.{and_then, unless_cause}
@@ -87,7 +87,7 @@ module _ (read : Reads) where
     pub file : List ℕ
     pub is_index : read (n + place) repository.path ≡ Some file
     pub info : Plain
-    pub has : IsIn info (entries_at INDEX_PACKAGES (root_value_of_payload Index (payload_in file)))
+    pub has : IsIn info (entries_of_field_at_index INDEX_PACKAGES_INDEX (root_value_of_payload Index (payload_in file)))
     pub is : c ≡ candidate_of info (Some (m + place)) repository.tag false
 
   later : (n m : ℕ) (x : Repository) (rs : List Repository) (c : Candidate) → IsFromOne (suc n) (m + 1) rs c → IsFromOne n m (x ∷ rs) c
@@ -109,8 +109,8 @@ module _ (read : Reads) where
   from_one n m [] values c are here = absurd here
   from_one n m (x ∷ rs) [] c are here = absurd are
   from_one n m (x ∷ rs) (value ∷ values) c are here =
-      elim (in_append c (candidates_of_index m x.tag (entries_in (entry_in value INDEX_PACKAGES))) (candidates_of_repositories_from (m + 1) rs values) here) [
-        | inl first ↦ (let found = of_index m x.tag (entries_in (entry_in value INDEX_PACKAGES)) c first in
+      elim (in_append c (candidates_of_index m x.tag (entries_in (entry_at_index value INDEX_PACKAGES_INDEX))) (candidates_of_repositories_from (m + 1) rs values) here) [
+        | inl first ↦ (let found = of_index m x.tag (entries_in (entry_at_index value INDEX_PACKAGES_INDEX)) c first in
             let k : n + 0 ≡ n = omega arith in
             let j : m ≡ m + 0 = omega arith in
             record {
@@ -120,14 +120,14 @@ module _ (read : Reads) where
               file = are.0.0;
               is_index = ap (λ i. read i x.path) k ∙ are.0.1;
               info = found.0;
-              has = subst (λ (v : Plain). IsIn found.0 (entries_at INDEX_PACKAGES v)) are.0.2 found.1;
+              has = subst (λ (v : Plain). IsIn found.0 (entries_of_field_at_index INDEX_PACKAGES_INDEX v)) are.0.2 found.1;
               is = found.2 ∙ ap (λ i. candidate_of found.0 (Some i) x.tag false) j;
             })
         | inr behind ↦ later n m x rs c (from_one (suc n) (m + 1) rs values c are.1 behind)
       ]
 
   from_all : (n m : ℕ) (rs : List Repository) (values : List Plain) → AreValues n rs values → (place : ℕ) (repository : Repository) (info : Plain) (file : List ℕ) → slice_get rs place ≡ Some repository
-      → read (n + place) repository.path ≡ Some file → IsIn info (entries_at INDEX_PACKAGES (root_value_of_payload Index (payload_in file)))
+      → read (n + place) repository.path ≡ Some file → IsIn info (entries_of_field_at_index INDEX_PACKAGES_INDEX (root_value_of_payload Index (payload_in file)))
       → IsIn (candidate_of info (Some (m + place)) repository.tag false) (candidates_of_repositories_from m rs values)
   from_all n m [] values are place repository info file listed found has = absurd (cc (listed))
   from_all n m (x ∷ rs) [] are place repository info file listed found has = absurd are
@@ -138,16 +138,16 @@ module _ (read : Reads) where
       let both : Some are.0.0 ≡ Some file = sym are.0.1 ∙ (ap (λ i. read i x.path) (sym k) ∙ (ap (λ (r : Repository). read (n + 0) r.path) same ∙ found)) in
       let one : are.0.0 ≡ file = cc in
       let value_is : root_value_of_payload Index (payload_in file) ≡ value = ap (λ f. root_value_of_payload Index (payload_in f)) (sym one) ∙ sym are.0.2 in
-      let here = in_index m x.tag (entries_in (entry_in value INDEX_PACKAGES)) info (subst (λ (v : Plain). IsIn info (entries_at INDEX_PACKAGES v)) value_is has) in
+      let here = in_index m x.tag (entries_in (entry_at_index value INDEX_PACKAGES_INDEX)) info (subst (λ (v : Plain). IsIn info (entries_of_field_at_index INDEX_PACKAGES_INDEX v)) value_is has) in
       let named : candidate_of info (Some m) x.tag false ≡ candidate_of info (Some (m + 0)) repository.tag false =
       ap (λ i. candidate_of info (Some i) x.tag false) j ∙ ap (λ (r : Repository). candidate_of info (Some (m + 0)) r.tag false) same in
-      in_left (candidate_of info (Some (m + 0)) repository.tag false) (candidates_of_index m x.tag (entries_in (entry_in value INDEX_PACKAGES))) (candidates_of_repositories_from (m + 1) rs values)
-      (subst (λ (c : Candidate). IsIn c (candidates_of_index m x.tag (entries_in (entry_in value INDEX_PACKAGES)))) named here)
+      in_left (candidate_of info (Some (m + 0)) repository.tag false) (candidates_of_index m x.tag (entries_in (entry_at_index value INDEX_PACKAGES_INDEX))) (candidates_of_repositories_from (m + 1) rs values)
+      (subst (λ (c : Candidate). IsIn c (candidates_of_index m x.tag (entries_in (entry_at_index value INDEX_PACKAGES_INDEX)))) named here)
   from_all n m (x ∷ rs) (value ∷ values) are (suc place) repository info file listed found has =
       let k : suc n + place ≡ n + suc place = omega arith in
       let j : (m + 1) + place ≡ m + suc place = omega arith in
       let behind = from_all (suc n) (m + 1) rs values are.1 place repository info file listed (ap (λ i. read i repository.path) k ∙ found) has in
-      in_right (candidate_of info (Some (m + suc place)) repository.tag false) (candidates_of_index m x.tag (entries_in (entry_in value INDEX_PACKAGES))) (candidates_of_repositories_from (m + 1) rs values)
+      in_right (candidate_of info (Some (m + suc place)) repository.tag false) (candidates_of_index m x.tag (entries_in (entry_at_index value INDEX_PACKAGES_INDEX))) (candidates_of_repositories_from (m + 1) rs values)
       (subst (λ i. IsIn (candidate_of info (Some i) repository.tag false) (candidates_of_repositories_from (m + 1) rs values)) j behind)
 
   -- ---- with the installed packages
@@ -172,7 +172,7 @@ module _ (read : Reads) where
           info = f.info;
           indexed = record { listed = f.listed; file = f.file; is_index = f.is_index; has = f.has };
           is = named ∙ ap (λ t. candidate_of f.info (Some (1 + f.place)) f.repository.tag t) (sym (ap (λ (x : Candidate). x.installed) named));
-          counts = (λ on. (is.1.0, is.1.1, ap (is_same_package (installed_candidate is.1.0)) is.0 ∙ is.1.2), λ same. ap (λ (x : Candidate). x.installed) named);
+          counts = (λ on. (is.1.0, is.1.1, ap (is_repository_package_same_as_installed (installed_candidate is.1.0)) is.0 ∙ is.1.2), λ same. ap (λ (x : Candidate). x.installed) named);
         }
     of_one was c f (inr is) =
         let named : c ≡ candidate_of f.info (Some (1 + f.place)) f.repository.tag false = is.0 ∙ f.is in
@@ -183,22 +183,22 @@ module _ (read : Reads) where
           info = f.info;
           indexed = record { listed = f.listed; file = f.file; is_index = f.is_index; has = f.has };
           is = named ∙ ap (λ t. candidate_of f.info (Some (1 + f.place)) f.repository.tag t) (sym off);
-          counts = (λ on. absurd (true≢false (sym on ∙ off)), λ same. absurd (true≢false (sym same.2 ∙ (ap (is_same_package (installed_candidate same.0)) is.0 ∙ is.1 same.0 same.1))));
+          counts = (λ on. absurd (true≢false (sym on ∙ off)), λ same. absurd (true≢false (sym same.2 ∙ (ap (is_repository_package_same_as_installed (installed_candidate same.0)) is.0 ∙ is.1 same.0 same.1))));
         }
 
     -- an installed package is the same as none that no index has
-    none_else : (pkg : Plain) → list_any (is_same_package (installed_candidate pkg)) offers ≡ false → (other : Candidate) → IsIn other (candidates_of inputs) → is_same_package (installed_candidate pkg) other ≡ false
-    none_else pkg alone other here = by (is_same_package (installed_candidate pkg) other) refl (all_back packages offers other here)
+    none_else : (pkg : Plain) → list_any (is_repository_package_same_as_installed (installed_candidate pkg)) offers ≡ false → (other : Candidate) → IsIn other (candidates_of inputs) → is_repository_package_same_as_installed (installed_candidate pkg) other ≡ false
+    none_else pkg alone other here = by (is_repository_package_same_as_installed (installed_candidate pkg) other) refl (all_back packages offers other here)
       where
-        still : (was : Candidate) → IsIn was offers → IsCounted packages was other → is_same_package (installed_candidate pkg) other ≡ true → is_same_package (installed_candidate pkg) was ≡ true
-        still was at (inl is) e = sym (ap (is_same_package (installed_candidate pkg)) is.0) ∙ e
-        still was at (inr is) e = sym (ap (is_same_package (installed_candidate pkg)) is.0) ∙ e
+        still : (was : Candidate) → IsIn was offers → IsCounted packages was other → is_repository_package_same_as_installed (installed_candidate pkg) other ≡ true → is_repository_package_same_as_installed (installed_candidate pkg) was ≡ true
+        still was at (inl is) e = sym (ap (is_repository_package_same_as_installed (installed_candidate pkg)) is.0) ∙ e
+        still was at (inr is) e = sym (ap (is_repository_package_same_as_installed (installed_candidate pkg)) is.0) ∙ e
 
-        by : (t : Bool) → is_same_package (installed_candidate pkg) other ≡ t
-            → ((was : Candidate) × IsIn was offers × IsCounted packages was other) ⊎ ((p : Plain) × IsIn p packages × (other ≡ installed_candidate p) × (list_any (is_same_package (installed_candidate p)) offers ≡ false)) → t ≡ false
+        by : (t : Bool) → is_repository_package_same_as_installed (installed_candidate pkg) other ≡ t
+            → ((was : Candidate) × IsIn was offers × IsCounted packages was other) ⊎ ((p : Plain) × IsIn p packages × (other ≡ installed_candidate p) × (list_any (is_repository_package_same_as_installed (installed_candidate p)) offers ≡ false)) → t ≡ false
         by false e from = refl
-        by true e (inl from) = absurd (true≢false (sym (in_any (is_same_package (installed_candidate pkg)) offers from.0 from.1 (still from.0 from.1 from.2 e)) ∙ alone))
-        by true e (inr apart) = absurd (true≢false (sym e ∙ ap (is_same_package (installed_candidate pkg)) apart.2))
+        by true e (inl from) = absurd (true≢false (sym (in_any (is_repository_package_same_as_installed (installed_candidate pkg)) offers from.0 from.1 (still from.0 from.1 from.2 e)) ∙ alone))
+        by true e (inr apart) = absurd (true≢false (sym e ∙ ap (is_repository_package_same_as_installed (installed_candidate pkg)) apart.2))
 
     each_is : (c : Candidate) → IsIn c (candidates_of inputs) → IsOfIndex inputs read c ⊎ IsInstalledAlone inputs (candidates_of inputs) c
     each_is c here = elim (all_back packages offers c here) [
@@ -207,7 +207,7 @@ module _ (read : Reads) where
         pkg = alone.0;
         installed = alone.1;
         is = alone.2;
-        alone = λ other at. ap (λ (x : Candidate). is_same_package x other) alone.2 ∙ none_else alone.0 alone.3 other at;
+        alone = λ other at. ap (λ (x : Candidate). is_repository_package_same_as_installed x other) alone.2 ∙ none_else alone.0 alone.3 other at;
       })
     ]
 
@@ -245,17 +245,17 @@ candidates_are command read inputs e =
     (are_candidates read (inputs_from_parts root.0 indexes.0) (are_values read first_index_read_number 1 root.0.repositories files.0 indexes.0 files.1 files.2))
 
 -- the candidates of a pool are not too many, and its world is the new one
-pub record IsRootPool (inputs : Inputs) (upgraded : UpgradedNames) (pool : SealedPool) : Type 0 where
-  pub is : pool ≡ sealed_pool_from_parts (candidates_of inputs) inputs.root.new_world upgraded
+pub record IsRootPool (inputs : Inputs) (upgraded : UpgradedNames) (pool : SelectionProblem) : Type 0 where
+  pub is : pool ≡ selection_problem_from_parts (candidates_of inputs) inputs.root.new_world upgraded
   pub few : length (candidates_of inputs) ≤ MOST_CANDIDATES
 
-pub root_pool_is : (inputs : Inputs) (upgraded : UpgradedNames) (pool : SealedPool) → root_pool inputs upgraded ≡ Ok pool → IsRootPool inputs upgraded pool
+pub root_pool_is : (inputs : Inputs) (upgraded : UpgradedNames) (pool : SelectionProblem) → root_pool inputs upgraded ≡ Ok pool → IsRootPool inputs upgraded pool
 unfolding root_pool
 root_pool_is inputs upgraded pool e = by (nat_lt MOST_CANDIDATES (length (candidates_of inputs))) refl e
   where
     by : (t : Bool) → nat_lt MOST_CANDIDATES (length (candidates_of inputs)) ≡ t
-        → (if t then Err (TooMany (MOST_CANDIDATES + 1)) else Ok (sealed_pool_from_parts (candidates_of inputs) inputs.root.new_world upgraded)) ≡ Ok pool → IsRootPool inputs upgraded pool
+        → (if t then Err (TooMany (MOST_CANDIDATES + 1)) else Ok (selection_problem_from_parts (candidates_of inputs) inputs.root.new_world upgraded)) ≡ Ok pool → IsRootPool inputs upgraded pool
     by true t e = absurd (cc (e))
     by false t e =
-        let same : sealed_pool_from_parts (candidates_of inputs) inputs.root.new_world upgraded ≡ pool = cc in
+        let same : selection_problem_from_parts (candidates_of inputs) inputs.root.new_world upgraded ≡ pool = cc in
         record { is = sym same; few = ltb-false _ _ t }

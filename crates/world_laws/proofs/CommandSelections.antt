@@ -5,7 +5,7 @@ use Rattle.std.specs.Str.{bytes_eq}
 use Rattle.std.proofs.lemmas.Slice.Eq.{bytes_eq-Decides}
 use Rattle.engine_core.specs.adb_fields.FirstPair.{IsIn}
 use Rattle.engine_core.specs.candidate_core.Candidates.{Candidate}
-use Rattle.engine_core.specs.candidate_core.Rank.{SealedPool, is_upgraded}
+use Rattle.engine_core.specs.candidate_core.Rank.{SelectionProblem, is_upgraded}
 use Rattle.engine_core.specs.change_inputs.Candidates.{candidates_of}
 use Rattle.engine_core.specs.change_inputs.Chains.{and_then}
 use Rattle.engine_core.specs.change_inputs.Inputs.{Inputs, inputs_of}
@@ -59,7 +59,7 @@ upgrades other operands name = (λ e. absurd (cc (e)), λ none. absurd none)
 -- ---- what a command chooses from
 
 module _ (command : CommandLine) (read : Reads) where
-  pool_of : (inputs : Inputs) (pool : SealedPool) → inputs_of command read ≡ Ok inputs → pool_of_inputs command inputs ≡ Ok pool → IsCommandPool command read pool
+  pool_of : (inputs : Inputs) (pool : SelectionProblem) → inputs_of command read ≡ Ok inputs → pool_of_inputs command inputs ≡ Ok pool → IsCommandPool command read pool
   pool_of inputs pool found e =
       let upgraded = names_to_upgrade command.applet command.operands in
       let is = root_pool_is inputs upgraded pool e in
@@ -72,7 +72,7 @@ module _ (command : CommandLine) (read : Reads) where
         upgraded = upgrades command.applet command.operands;
       })
 
-  pub pool_chosen : (pool : SealedPool) → pool_of_command command read ≡ Ok pool → IsCommandPool command read pool
+  pub pool_chosen : (pool : SelectionProblem) → pool_of_command command read ≡ Ok pool → IsCommandPool command read pool
   pool_chosen pool e = let inputs = and_then_ok (inputs_of command read) (pool_of_inputs command) pool e in pool_of inputs.0 pool inputs.1 inputs.2
 
 -- ---- what it selects
@@ -80,14 +80,14 @@ module _ (command : CommandLine) (read : Reads) where
 module _ (command : CommandLine) (read : Reads) where
   -- a first selection is what is selected
   record IsTaken (s : InputsAndReplacement) : Type 0 where
-    pub pool : SealedPool
+    pub pool : SelectionProblem
     pub trace : List ℕ
     pub first : IsFirstPreferredSelection pool trace
     pub selected : candidates_at pool trace ≡ s.replacement.selected
     pub candidates : pool.candidates ≡ candidates_of s.inputs
     pub world : pool.world ≡ s.inputs.root.new_world
 
-  taken_by : (inputs : Inputs) (pool : SealedPool) (place : Option ℕ) (chosen : Option (List ℕ)) (s : InputsAndReplacement) → pool_of_inputs command inputs ≡ Ok pool
+  taken_by : (inputs : Inputs) (pool : SelectionProblem) (place : Option ℕ) (chosen : Option (List ℕ)) (s : InputsAndReplacement) → pool_of_inputs command inputs ≡ Ok pool
       → IsPreferredChoiceUnlessRefused (Ok pool) chosen → unless_unknown_operand place (selected_from_pool_by_choice command inputs pool chosen) ≡ Ok s → IsTaken s
   taken_by inputs pool (Some place) chosen s is choice e = absurd (cc (e))
   taken_by inputs pool None None s is choice e = absurd (cc (e))
@@ -100,8 +100,8 @@ module _ (command : CommandLine) (read : Reads) where
         trace = trace;
         first = choice;
         selected = refl;
-        candidates = ap (λ (p : SealedPool). p.candidates) root.is;
-        world = ap (λ (p : SealedPool). p.world) root.is;
+        candidates = ap (λ (p : SelectionProblem). p.candidates) root.is;
+        world = ap (λ (p : SelectionProblem). p.world) root.is;
       })
 
   taken : (chosen : Option (List ℕ)) (s : InputsAndReplacement) → IsPreferredChoiceUnlessRefused (pool_of_command command read) chosen → selected_from_reads_by_choice command read chosen ≡ Ok s → IsTaken s
@@ -109,7 +109,7 @@ module _ (command : CommandLine) (read : Reads) where
       let inputs = and_then_ok (inputs_of command read) (selected_from_inputs_by_choice command chosen) s e in
       let pool = and_then_ok (pool_of_inputs command inputs.0) (λ pool. unless_unknown_operand (unknown_operand_place command.applet inputs.0 command.operands) (selected_from_pool_by_choice command inputs.0 pool chosen)) s inputs.2 in
       let is : pool_of_command command read ≡ Ok pool.0 = ap (λ (r : Result Inputs Refusal). and_then r (pool_of_inputs command)) inputs.1 ∙ pool.1 in
-      taken_by inputs.0 pool.0 (unknown_operand_place command.applet inputs.0 command.operands) chosen s pool.1 (subst (λ (r : Result SealedPool Refusal). IsPreferredChoiceUnlessRefused r chosen) is choice) pool.2
+      taken_by inputs.0 pool.0 (unknown_operand_place command.applet inputs.0 command.operands) chosen s pool.1 (subst (λ (r : Result SelectionProblem Refusal). IsPreferredChoiceUnlessRefused r chosen) is choice) pool.2
 
   pub satisfies : (chosen : Option (List ℕ)) (s : InputsAndReplacement) → IsPreferredChoiceUnlessRefused (pool_of_command command read) chosen → selected_from_reads_by_choice command read chosen ≡ Ok s
       → SatisfyWorld (candidates_of s.inputs) s.inputs.root.new_world s.replacement.selected

@@ -4,7 +4,7 @@ use Rattle.std.specs.List.{list_any}
 use Rattle.std.proofs.lemmas.Bool.{or_cases, or_left, or_right}
 use Rattle.engine_core.specs.adb_fields.FirstPair.{IsIn}
 use Rattle.adb_view.specs.Plain.{Plain}
-use Rattle.engine_core.specs.candidate_core.Candidates.{Candidate, as_installed, marked_installed_where_same_as, is_same_package, with_installed_marked_or_added}
+use Rattle.engine_core.specs.candidate_core.Candidates.{Candidate, as_installed, marked_installed_where_same_as, is_repository_package_same_as_installed, with_installed_marked_or_added}
 use Rattle.engine_core.specs.change_inputs.Candidates.{installed_candidate, with_all_installed}
 
 -- ---- lists
@@ -52,7 +52,7 @@ no_any test xs none = by (list_any test xs) refl
 -- ---- one installed package
 
 abbrev is_same : Plain → Candidate → Bool
-is_same pkg c = is_same_package (installed_candidate pkg) c
+is_same pkg c = is_repository_package_same_as_installed (installed_candidate pkg) c
 
 -- how a candidate counts, as one of an index by whether it is the installed package
 abbrev counted : Plain → Candidate → Candidate
@@ -166,7 +166,7 @@ all_there (pkg ∷ pkgs) cs was here =
 
 -- each installed package is one, or a candidate counts for it
 abbrev pub IsCountedFor : Plain → Candidate → Type 0
-IsCountedFor pkg c = (c.installed ≡ true) × ((c ≡ installed_candidate pkg) ⊎ (is_same_package (installed_candidate pkg) c ≡ true))
+IsCountedFor pkg c = (c.installed ≡ true) × ((c ≡ installed_candidate pkg) ⊎ (is_repository_package_same_as_installed (installed_candidate pkg) c ≡ true))
 
 counted_for : (pkgs : List Plain) (pkg : Plain) (was c : Candidate) → IsIn pkg pkgs → is_same pkg was ≡ true → IsCounted pkgs was c → IsCountedFor pkg c
 counted_for pkgs pkg was c here e (inl is) = (ap (λ (x : Candidate). x.installed) is.0, inr (ap (is_same pkg) is.0 ∙ e))

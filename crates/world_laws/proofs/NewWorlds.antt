@@ -14,9 +14,9 @@ use Rattle.command_core.specs.declared.command.Applet.TheVariants as Applets
 use Rattle.command_core.specs.declared.operands.Operand.{Operand}
 use Rattle.dep_core.specs.Dependency.{Dependency}
 use Rattle.dep_core.specs.Reading.{dependency_of}
-use Rattle.dep_core.specs.World.{IsWorld, is_in_order, world_with_dependency_set, world_without_name}
+use Rattle.dep_core.specs.World.{IsWorldSortedByName, is_in_order, world_with_dependency_put_in_name_order, world_without_name}
 use Rattle.dep_core.proofs.ReadOut.{read-out}
-use Rattle.dep_core.proofs.Worlds.{IsWorld-world_with_dependency_set, IsWorld-without, cmp-equal, is_behind}
+use Rattle.dep_core.proofs.Worlds.{IsWorldSortedByName-world_with_dependency_put_in_name_order, IsWorldSortedByName-without, cmp-equal, is_behind}
 use Rattle.dep_core.proofs.Places.{in_order}
 use Rattle.base_core.specs.ByteOrder.{bytes_cmp}
 use Rattle.base_core.proofs.Orderings.{is_less, names_total}
@@ -69,12 +69,12 @@ tail_in_order e rest h = (and_parts (list_all (is_behind e.name) rest) (is_in_or
 abbrev pub IsNewOr : Dependency → List Dependency → Dependency → Type 0
 IsNewOr d w x = (x ≡ d) ⊎ (IsIn x w × (x.name ≢ d.name))
 
-pub entry_to : (d : Dependency) (w : List Dependency) (x : Dependency) → is_in_order w ≡ true → IsIn x (world_with_dependency_set d w) → IsNewOr d w x
+pub entry_to : (d : Dependency) (w : List Dependency) (x : Dependency) → is_in_order w ≡ true → IsIn x (world_with_dependency_put_in_name_order d w) → IsNewOr d w x
 entry_to d [] x h (inl is) = inl is
 entry_to d [] x h (inr none) = absurd none
 entry_to d (e ∷ rest) x h here = by (bytes_cmp d.name e.name) refl here (entry_to d rest x (tail_in_order e rest h))
   where
-    by : (o : Ordering) → bytes_cmp d.name e.name ≡ o → IsIn x (match_ordering o (d ∷ (e ∷ rest)) (d ∷ rest) (e ∷ world_with_dependency_set d rest)) → (IsIn x (world_with_dependency_set d rest) → IsNewOr d rest x) → IsNewOr d (e ∷ rest) x
+    by : (o : Ordering) → bytes_cmp d.name e.name ≡ o → IsIn x (match_ordering o (d ∷ (e ∷ rest)) (d ∷ rest) (e ∷ world_with_dependency_put_in_name_order d rest)) → (IsIn x (world_with_dependency_put_in_name_order d rest) → IsNewOr d rest x) → IsNewOr d (e ∷ rest) x
     by Less c (inl is) more = inl is
     by Less c (inr stood) more = inr (stood, before_other d.name e rest x c h stood)
     by Equal c (inl is) more = inl is
@@ -86,12 +86,12 @@ entry_to d (e ∷ rest) x h here = by (bytes_cmp d.name e.name) refl here (entry
       | inr stood ↦ inr (inr stood.0, stood.1)
     ]
 
-pub entry_from : (d : Dependency) (w : List Dependency) (x : Dependency) → IsNewOr d w x → IsIn x (world_with_dependency_set d w)
+pub entry_from : (d : Dependency) (w : List Dependency) (x : Dependency) → IsNewOr d w x → IsIn x (world_with_dependency_put_in_name_order d w)
 entry_from d [] x (inl is) = inl is
 entry_from d [] x (inr stood) = absurd stood.0
 entry_from d (e ∷ rest) x here = by (bytes_cmp d.name e.name) refl here (entry_from d rest x)
   where
-    by : (o : Ordering) → bytes_cmp d.name e.name ≡ o → IsNewOr d (e ∷ rest) x → (IsNewOr d rest x → IsIn x (world_with_dependency_set d rest)) → IsIn x (match_ordering o (d ∷ (e ∷ rest)) (d ∷ rest) (e ∷ world_with_dependency_set d rest))
+    by : (o : Ordering) → bytes_cmp d.name e.name ≡ o → IsNewOr d (e ∷ rest) x → (IsNewOr d rest x → IsIn x (world_with_dependency_put_in_name_order d rest)) → IsIn x (match_ordering o (d ∷ (e ∷ rest)) (d ∷ rest) (e ∷ world_with_dependency_put_in_name_order d rest))
     by Less c (inl is) more = inl is
     by Less c (inr stood) more = inr stood.0
     by Equal c (inl is) more = inl is
@@ -165,7 +165,7 @@ abbrev StandsAfter : List Operand → List Dependency → Dependency → Type 0
 StandsAfter os w x = AddedIn os x ⊎ (IsIn x w × IsDependencyOfNoOperand x.name os)
 
 abbrev put_in : Option Dependency → List Dependency → List Dependency
-put_in said w = option_map_or (λ d. world_with_dependency_set d w) said w
+put_in said w = option_map_or (λ d. world_with_dependency_put_in_name_order d w) said w
 
 said_by : (o p : Operand) (d : Dependency) (said : Option Dependency) → dependency_of o.text ≡ said → p ≡ o → dependency_of p.text ≡ Some d → said ≡ Some d
 said_by o p d said e at says = sym e ∙ (ap (λ (q : Operand). dependency_of q.text) (sym at) ∙ says)
@@ -174,15 +174,15 @@ none_more : (o : Operand) (os : List Operand) (name : List ℕ) (said : Option D
 none_more o os name said e first none p d (inl at) says = first d (said_by o p d said e at says)
 none_more o os name said e first none p d (inr behind) says = none p d behind says
 
-is_put : (o : Operand) (w : List Dependency) → IsWorld w → (said : Option Dependency) → dependency_of o.text ≡ said → IsWorld (put_in said w)
+is_put : (o : Operand) (w : List Dependency) → IsWorldSortedByName w → (said : Option Dependency) → dependency_of o.text ≡ said → IsWorldSortedByName (put_in said w)
 is_put o w h None e = h
-is_put o w h (Some d) e = IsWorld-world_with_dependency_set d w (read-out o.text d e).0 h
+is_put o w h (Some d) e = IsWorldSortedByName-world_with_dependency_put_in_name_order d w (read-out o.text d e).0 h
 
-pub world_added : (os : List Operand) (w : List Dependency) → IsWorld w → IsWorld (world_with_operands os w)
+pub world_added : (os : List Operand) (w : List Dependency) → IsWorldSortedByName w → IsWorldSortedByName (world_with_operands os w)
 world_added [] w h = h
 world_added (o ∷ os) w h = world_added os (put_in (dependency_of o.text) w) (is_put o w h (dependency_of o.text) refl)
 
-stands_to : (os : List Operand) (w : List Dependency) (x : Dependency) → IsWorld w → IsIn x (world_with_operands os w) → StandsAfter os w x
+stands_to : (os : List Operand) (w : List Dependency) (x : Dependency) → IsWorldSortedByName w → IsIn x (world_with_operands os w) → StandsAfter os w x
 stands_to [] w x h here = inr (here, λ p d none. absurd none)
 stands_to (o ∷ os) w x h here = by (dependency_of o.text) refl here (λ said e. stands_to os (put_in said w) x (is_put o w h said e))
   where
@@ -220,9 +220,9 @@ stands_from (o ∷ os) w x here = by (dependency_of o.text) refl here (λ said. 
 
 -- ---- `del`, operand by operand
 
-pub world_left : (os : List Operand) (w : List Dependency) → IsWorld w → IsWorld (world_without_operands os w)
+pub world_left : (os : List Operand) (w : List Dependency) → IsWorldSortedByName w → IsWorldSortedByName (world_without_operands os w)
 world_left [] w h = h
-world_left (o ∷ os) w h = world_left os (world_without_name o.text w) (IsWorld-without o.text w h)
+world_left (o ∷ os) w h = world_left os (world_without_name o.text w) (IsWorldSortedByName-without o.text w h)
 
 others_to : (os : List Operand) (w : List Dependency) (x : Dependency) → IsIn x (world_without_operands os w) → IsIn x w × IsNoOperand x.name os
 others_to [] w x here = (here, λ p none. absurd none)
@@ -242,7 +242,7 @@ others_from (o ∷ os) w x stood none =
 
 -- ---- each applet
 
-holds_added : (os : List Operand) (w : List Dependency) → IsWorld w → IsWorldAfterAdd os w (world_with_operands os w)
+holds_added : (os : List Operand) (w : List Dependency) → IsWorldSortedByName w → IsWorldAfterAdd os w (world_with_operands os w)
 holds_added os w h = record {
   world = world_added os w h;
   entries = λ d. (
@@ -257,13 +257,13 @@ holds_added os w h = record {
   );
 }
 
-holds_others : (os : List Operand) (w : List Dependency) → IsWorld w → IsWorldAfterDel os w (world_without_operands os w)
+holds_others : (os : List Operand) (w : List Dependency) → IsWorldSortedByName w → IsWorldAfterDel os w (world_without_operands os w)
 holds_others os w h = record {
   world = world_left os w h;
   entries = λ d. (λ here. others_to os w d here, λ stood. others_from os w d stood.0 stood.1);
 }
 
-pub holds_asked : (applet : Applet) (os : List Operand) (w : List Dependency) → IsWorld w → IsWorldAfterApplet applet os w (new_world applet os w)
+pub holds_asked : (applet : Applet) (os : List Operand) (w : List Dependency) → IsWorldSortedByName w → IsWorldAfterApplet applet os w (new_world applet os w)
 holds_asked Applets.Add os w h = holds_added os w h
 holds_asked Applets.Del os w h = holds_others os w h
 holds_asked other os w h = refl

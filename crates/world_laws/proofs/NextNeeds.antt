@@ -10,7 +10,7 @@ use Rattle.base_core.specs.ByteOrder.{bytes_cmp, precedes}
 use Rattle.base_core.proofs.Orderings.{names_total}
 use Rattle.engine_core.specs.candidate_core.Candidates.{Candidate, Need, entry, named, is_eligible_with_positive_install_if}
 use Rattle.engine_core.specs.candidate_core.Options.{IsIn}
-use Rattle.engine_core.specs.candidate_core.Rank.{SealedPool, meets_at}
+use Rattle.engine_core.specs.candidate_core.Rank.{SelectionProblem, meets_at}
 use Rattle.engine_core.specs.search_tables.Selection.{depends_at, install_if_applies, is_met, is_unmet, least_name, lesser_name, names_whose_install_if_applies, next_need, positive_needs, needs_of_world_and_chosen}
 use Rattle.engine_core.proofs.search_tables.PoolFacts.{any_in, filter_in, in_filter, in_map, least_in, least_none, map_in, in_any}
 use Rattle.world_laws.specs.NextNeed.{AreMetByChoices, AreDependenciesOfEachMet, IsAskedByInstallIf, IsFirstOfChoices, IsFirstUnmet, IsMetByChoice, IsNextNeedOrNone}
@@ -78,7 +78,7 @@ all_in test [] x h here = absurd here
 all_in test (y ∷ ys) x h (inl is) = ap test is ∙ (and_parts (test y) (list_all test ys) h).0
 all_in test (y ∷ ys) x h (inr more) = all_in test ys x (and_parts (test y) (list_all test ys) h).1 more
 
-module _ (pool : SealedPool) (chosen : List ℕ) where
+module _ (pool : SelectionProblem) (chosen : List ℕ) where
   met : (need : Need) → is_met pool chosen need ≡ true → IsMetByChoice pool chosen need
   met need e = any_in (λ c. meets_at pool c need) chosen e
 

@@ -8,7 +8,7 @@ use Rattle.base_core.specs.ByteOrder.{bytes_cmp}
 use Rattle.base_core.proofs.Orderings.{names_total}
 use Rattle.engine_core.specs.candidate_core.Candidates.{Need, entry, named}
 use Rattle.engine_core.specs.candidate_core.Options.{IsIn}
-use Rattle.engine_core.specs.candidate_core.Rank.{SealedPool}
+use Rattle.engine_core.specs.candidate_core.Rank.{SelectionProblem}
 use Rattle.engine_core.specs.search_tables.Selection.{depends_at}
 use Rattle.world_laws.specs.NextNeed.{AreMetByChoices, AreDependenciesOfEachMet, IsFirstByInstallIf, IsFirstOfChoices, IsFirstUnmet, IsMetByChoice, IsNextNeed, IsNextNeedOrNone}
 
@@ -33,7 +33,7 @@ lt_equal Less h k = absurd (cc (h))
 lt_equal Equal h k = refl
 lt_equal Greater h k = absurd (cc (k))
 
-module _ (pool : SealedPool) (chosen : List ℕ) where
+module _ (pool : SelectionProblem) (chosen : List ℕ) where
   abbrev IsDone : Dependency → Type 0
   IsDone d = d.conflict ≡ false → IsMetByChoice pool chosen (entry d)
 

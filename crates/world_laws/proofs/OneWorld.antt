@@ -5,7 +5,7 @@ use Rattle.command_core.specs.declared.command.Applet.{Applet}
 use Rattle.command_core.specs.declared.command.Applet.TheVariants as Applets
 use Rattle.command_core.specs.declared.operands.Operand.{Operand}
 use Rattle.dep_core.specs.Dependency.{Dependency}
-use Rattle.dep_core.specs.World.{IsWorld, is_in_order}
+use Rattle.dep_core.specs.World.{IsWorldSortedByName, is_in_order}
 use Rattle.dep_core.proofs.Places.{in_order}
 use Rattle.world_laws.specs.NewWorld.{IsWorldAfterApplet}
 use Rattle.world_laws.proofs.NewWorlds.{after_other, other_less, tail_in_order, behind_first}
@@ -37,7 +37,7 @@ same_entries (x ∷ a) (y ∷ b) h k all back =
     ap (λ (e : Dependency). e ∷ a) same ∙ ap (λ (l : List Dependency). y ∷ l) rest
 
 -- by what each entry is known by
-by_entries : (IsOne : Dependency → Type 0) (a b : List Dependency) → IsWorld a → IsWorld b → ((d : Dependency) → IsIn d a ↔ IsOne d) → ((d : Dependency) → IsIn d b ↔ IsOne d) → a ≡ b
+by_entries : (IsOne : Dependency → Type 0) (a b : List Dependency) → IsWorldSortedByName a → IsWorldSortedByName b → ((d : Dependency) → IsIn d a ↔ IsOne d) → ((d : Dependency) → IsIn d b ↔ IsOne d) → a ≡ b
 unfolding AllOf
 by_entries IsOne a b h k f g =
     same_entries a b (in_order a h) (in_order b k) (λ d here. (g d).1 ((f d).0 here)) (λ d here. (f d).1 ((g d).0 here))

@@ -6,9 +6,9 @@ use Rattle.std.specs.List.{filter, filter_map, list_all}
 use Rattle.std.proofs.lemmas.Bool.{and_from, and_parts, eqb-false, eqb-true, not_from_false}
 use Rattle.std.proofs.lemmas.Slice.Eq.{bytes_eq-Decides}
 use Rattle.dep_core.specs.Dependency.{Dependency}
-use Rattle.engine_core.specs.candidate_core.Candidates.{Candidate, Need, entry, named, is_eligible_with_positive_install_if, is_allowed_by_tags_of_world, is_barred_by_world, is_eligible, meets_dependency, meets_need, occupies_name}
+use Rattle.engine_core.specs.candidate_core.Candidates.{Candidate, Need, entry, named, is_eligible_with_positive_install_if, is_allowed_by_tags_of_world, is_barred_by_world, is_eligible, meets_dependency, meets_dependency_or_has_package_name, occupies_name}
 use Rattle.engine_core.specs.candidate_core.Options.{IsIn}
-use Rattle.engine_core.specs.candidate_core.Rank.{SealedPool, candidate_at, candidate_at_passes, meets_at}
+use Rattle.engine_core.specs.candidate_core.Rank.{SelectionProblem, candidate_at, candidate_at_passes, meets_at}
 use Rattle.engine_core.specs.package_changes.Placed.{candidates_at}
 use Rattle.engine_core.specs.search_tables.Selection.{IsBestMember, IsSatisfying, IsRestOfSelectionWalkAfterChosen, is_conflict_of_first_met_by_second, depends_at, install_if_applies, is_met, names_whose_install_if_applies, next_need, positive_needs}
 use Rattle.engine_core.proofs.search_tables.PoolFacts.{any_in, in_filter, in_map}
@@ -19,7 +19,7 @@ use Rattle.world_laws.proofs.InstalledCounted as Lists
 
 -- ---- candidates at places
 
-pub at_in : (pool : SealedPool) (places : List ℕ) (place : ℕ) (c : Candidate) → IsIn place places → candidate_at pool place ≡ Some c → IsIn c (candidates_at pool places)
+pub at_in : (pool : SelectionProblem) (places : List ℕ) (place : ℕ) (c : Candidate) → IsIn place places → candidate_at pool place ≡ Some c → IsIn c (candidates_at pool places)
 at_in pool [] place c here e = absurd here
 at_in pool (p ∷ places) place c here e = by (candidate_at pool p) refl here (λ behind. at_in pool places place c behind e)
   where
@@ -30,10 +30,10 @@ at_in pool (p ∷ places) place c here e = by (candidate_at pool p) refl here (�
     by (Some d) f (inr behind) more = rw f (inr (more behind))
 
 -- a place of some leads to the candidate
-abbrev pub IsLedTo : SealedPool → Candidate → List ℕ → Type 0
+abbrev pub IsLedTo : SelectionProblem → Candidate → List ℕ → Type 0
 IsLedTo pool c places = (place : ℕ) × IsIn place places × (candidate_at pool place ≡ Some c)
 
-pub in_at : (pool : SealedPool) (places : List ℕ) (c : Candidate) → IsIn c (candidates_at pool places) → IsLedTo pool c places
+pub in_at : (pool : SelectionProblem) (places : List ℕ) (c : Candidate) → IsIn c (candidates_at pool places) → IsLedTo pool c places
 in_at pool [] c here = absurd here
 in_at pool (p ∷ places) c here = by (candidate_at pool p) refl (λ behind. in_at pool places c behind)
   where
@@ -44,10 +44,10 @@ in_at pool (p ∷ places) c here = by (candidate_at pool p) refl (λ behind. in_
     by None f more = further (more (rw f at here))
     by (Some d) f more = elim (rw f at here) [ inl is ↦ (p, inl refl, f ∙ ap Some (sym is)) | inr behind ↦ further (more behind) ]
 
-pub test_at : (pool : SealedPool) (test : Candidate → Bool) (place : ℕ) (c : Candidate) → candidate_at pool place ≡ Some c → candidate_at_passes pool test place ≡ test c
+pub test_at : (pool : SelectionProblem) (test : Candidate → Bool) (place : ℕ) (c : Candidate) → candidate_at pool place ≡ Some c → candidate_at_passes pool test place ≡ test c
 test_at pool test place c e = ap (λ o. option_map_or test o false) e
 
-pub at_test : (pool : SealedPool) (test : Candidate → Bool) (place : ℕ) → candidate_at_passes pool test place ≡ true → (c : Candidate) × (candidate_at pool place ≡ Some c) × (test c ≡ true)
+pub at_test : (pool : SelectionProblem) (test : Candidate → Bool) (place : ℕ) → candidate_at_passes pool test place ≡ true → (c : Candidate) × (candidate_at pool place ≡ Some c) × (test c ≡ true)
 at_test pool test place e = by (candidate_at pool place) refl
   where
     by : (o : Option Candidate) → candidate_at pool place ≡ o → (c : Candidate) × (candidate_at pool place ≡ Some c) × (test c ≡ true)
@@ -56,20 +56,20 @@ at_test pool test place e = by (candidate_at pool place) refl
 
 -- ---- a satisfying selection
 
-module _ (pool : SealedPool) (trace : List ℕ) (are : IsSatisfying pool trace) where
+module _ (pool : SelectionProblem) (trace : List ℕ) (are : IsSatisfying pool trace) where
   abbrev packages : List Candidate
   packages = candidates_at pool trace
 
   one_met : (d : Dependency) → is_met pool trace (entry d) ≡ true → IsMetByOne packages d
   one_met d e =
       let one = any_in (λ c. meets_at pool c (entry d)) trace e in
-      let c = at_test pool (meets_need (entry d)) one.0 one.2 in
+      let c = at_test pool (meets_dependency_or_has_package_name (entry d)) one.0 one.2 in
       (c.0, at_in pool trace one.0 c.0 one.1 c.1, c.2)
 
   met_one : (d : Dependency) → IsMetByOne packages d → is_met pool trace (entry d) ≡ true
   met_one d one =
       let place = in_at pool trace one.0 one.1 in
-      Lists.in_any (λ c. meets_at pool c (entry d)) trace place.0 place.1 (test_at pool (meets_need (entry d)) place.0 one.0 place.2 ∙ one.2)
+      Lists.in_any (λ c. meets_at pool c (entry d)) trace place.0 place.1 (test_at pool (meets_dependency_or_has_package_name (entry d)) place.0 one.0 place.2 ∙ one.2)
 
   as_need : (d : Dependency) (deps : List Dependency) → IsIn d deps → d.conflict ≡ false → IsIn (entry d) (positive_needs deps)
   as_need d deps here off =
@@ -131,7 +131,7 @@ module _ (pool : SealedPool) (trace : List ℕ) (are : IsSatisfying pool trace) 
       let applies : install_if_applies pool trace c ≡ true = and_from (is_eligible_with_positive_install_if pool.world c) (list_all (λ (d : Dependency). is_met pool trace (entry d)) c.install_if) h.usable (all_met c.install_if h.met) in
       let name_in : IsIn c.name (names_whose_install_if_applies pool trace) = in_map (λ (x : Candidate). x.name) c (filter (install_if_applies pool trace) pool.candidates) (in_filter (install_if_applies pool trace) c pool.candidates h.is_candidate applies) in
       let one = any_in (λ k. meets_at pool k (named c.name)) trace (are.asked_met c.name name_in) in
-      let other = at_test pool (meets_need (named c.name)) one.0 one.2 in
+      let other = at_test pool (meets_dependency_or_has_package_name (named c.name)) one.0 one.2 in
       (other.0, at_in pool trace one.0 other.0 one.1 other.1, sym ((bytes_eq-Decides c.name other.0.name).0 other.2))
 
   at_is_in : (cs : List Candidate) (place : ℕ) (c : Candidate) → slice_get cs place ≡ Some c → IsIn c cs
@@ -160,14 +160,14 @@ module _ (pool : SealedPool) (trace : List ℕ) (are : IsSatisfying pool trace) 
 
   met_of : (chosen : List ℕ) (d : Dependency) → AreOfTrace chosen → IsMetByChoice pool chosen (entry d) → IsMetByOne packages d
   met_of chosen d of_trace met =
-      let c = at_test pool (meets_need (entry d)) met.0 met.2 in
+      let c = at_test pool (meets_dependency_or_has_package_name (entry d)) met.0 met.2 in
       (c.0, at_in pool trace met.0 c.0 (of_trace met.0 met.1) c.1, c.2)
 
   unmet_in : (chosen : List ℕ) (deps : List Dependency) (d : Dependency) → IsFirstUnmet pool chosen deps d → IsIn d deps
   unmet_in chosen deps d f = subst (IsIn d) (sym f.located) (in_right d f.front (d ∷ f.behind) (inl refl))
 
   -- a choice for the next need behind some choices
-  needed_next : (chosen : List ℕ) (need : Need) (c : Candidate) → AreOfTrace chosen → IsNextNeedOrNone pool chosen (Some need) → meets_need need c ≡ true → IsNeededByWorldOrPackages pool.candidates pool.world packages c
+  needed_next : (chosen : List ℕ) (need : Need) (c : Candidate) → AreOfTrace chosen → IsNextNeedOrNone pool chosen (Some need) → meets_dependency_or_has_package_name need c ≡ true → IsNeededByWorldOrPackages pool.candidates pool.world packages c
   needed_next chosen (entry d) c of_trace (inl f) meets = inl (d, unmet_in chosen pool.world d f, f.positive, meets)
   needed_next chosen (entry d) c of_trace (inr f) meets =
       let choice_in : IsIn f.1.choice chosen = subst (IsIn f.1.choice) (sym f.1.located) (in_right f.1.choice f.1.front (f.1.choice ∷ f.1.behind) (inl refl)) in
@@ -198,7 +198,7 @@ module _ (pool : SealedPool) (trace : List ℕ) (are : IsSatisfying pool trace) 
     needed_from chosen (p ∷ rest) of_trace walk place c (inl is) e =
         let best : IsBestMember pool trace walk.0 p = walk.2 in
         let at : candidate_at pool p ≡ Some c = ap (candidate_at pool) (sym is) ∙ e in
-        needed_next chosen walk.0 c of_trace (subst (IsNextNeedOrNone pool chosen) walk.1 (next chosen)) (sym (test_at pool (meets_need walk.0) p c at) ∙ best.1)
+        needed_next chosen walk.0 c of_trace (subst (IsNextNeedOrNone pool chosen) walk.1 (next chosen)) (sym (test_at pool (meets_dependency_or_has_package_name walk.0) p c at) ∙ best.1)
     needed_from chosen (p ∷ rest) of_trace walk place c (inr behind) e =
         let best : IsBestMember pool trace walk.0 p = walk.2 in
         needed_from (chosen ++ p ∷ []) rest (more_of chosen p of_trace best.0) walk.3 place c behind e

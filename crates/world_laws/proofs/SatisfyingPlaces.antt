@@ -6,9 +6,9 @@ use Rattle.std.proofs.lemmas.Bool.{and_from, and_parts, or_left, not-true, not_f
 use Rattle.std.proofs.lemmas.Slice.Eq.{bytes_eq-Decides}
 use Rattle.base_core.proofs.AtName.{own_name}
 use Rattle.dep_core.specs.Dependency.{Dependency}
-use Rattle.engine_core.specs.candidate_core.Candidates.{Candidate, Need, entry, is_name_occupied_by_provides_entry, named, is_eligible_with_positive_install_if, is_allowed_by_tags_of_world, is_barred_by_world, is_eligible, meets_dependency, meets_need, occupies_name}
+use Rattle.engine_core.specs.candidate_core.Candidates.{Candidate, Need, entry, is_name_occupied_by_provides_entry, named, is_eligible_with_positive_install_if, is_allowed_by_tags_of_world, is_barred_by_world, is_eligible, meets_dependency, meets_dependency_or_has_package_name, occupies_name}
 use Rattle.engine_core.specs.candidate_core.Options.{IsIn}
-use Rattle.engine_core.specs.candidate_core.Rank.{SealedPool, candidate_at, candidate_at_passes, is_eligible_at, meets_at}
+use Rattle.engine_core.specs.candidate_core.Rank.{SelectionProblem, candidate_at, candidate_at_passes, is_eligible_at, meets_at}
 use Rattle.engine_core.proofs.candidate_core.Places.{place_of}
 use Rattle.engine_core.specs.package_changes.Placed.{candidates_at}
 use Rattle.engine_core.specs.search_tables.Selection.{AreDistinct, IsSatisfying, is_conflict_of_first_met_by_second, depends_at, install_if_applies, is_met, names_whose_install_if_applies, positive_needs}
@@ -22,7 +22,7 @@ use Rattle.world_laws.proofs.SatisfiedWorlds.{IsLedTo, at_in, in_at, test_at}
 occupies : (name : List ℕ) (c : Candidate) → bytes_eq name c.name ≡ true → occupies_name name c ≡ true
 occupies name c e = or_left (bytes_eq name c.name) (list_any (is_name_occupied_by_provides_entry name) c.provides) e
 
-module _ (pool : SealedPool) (packages : List Candidate) (are : SatisfyWorld pool.candidates pool.world packages) where
+module _ (pool : SelectionProblem) (packages : List Candidate) (are : SatisfyWorld pool.candidates pool.world packages) where
   -- ---- a place for each package
 
   -- these are places of some packages: each once, each leads to a package, each package is led to, and
@@ -103,13 +103,13 @@ module _ (pool : SealedPool) (packages : List Candidate) (are : SatisfyWorld poo
     met : (d : Dependency) → IsMetByOne packages d → is_met pool places (entry d) ≡ true
     met d one =
         let led = p.all one.0 one.1 in
-        in_any (λ c. meets_at pool c (entry d)) places led.0 led.1 (test_at pool (meets_need (entry d)) led.0 one.0 led.2 ∙ one.2)
+        in_any (λ c. meets_at pool c (entry d)) places led.0 led.1 (test_at pool (meets_dependency_or_has_package_name (entry d)) led.0 one.0 led.2 ∙ one.2)
 
     one_met : (d : Dependency) → is_met pool places (entry d) ≡ true → IsMetByOne packages d
     one_met d e =
         let one = any_in (λ c. meets_at pool c (entry d)) places e in
         let q = p.each one.0 one.1 in
-        (q.0, q.1, sym (test_at pool (meets_need (entry d)) one.0 q.0 q.2) ∙ one.2)
+        (q.0, q.1, sym (test_at pool (meets_dependency_or_has_package_name (entry d)) one.0 q.0 q.2) ∙ one.2)
 
     need_met : (deps : List Dependency) (need : Need) → ((d : Dependency) → IsIn d deps → d.conflict ≡ false → IsMetByOne packages d) → IsIn need (positive_needs deps) → is_met pool places need ≡ true
     need_met deps need met_of at =
@@ -174,7 +174,7 @@ module _ (pool : SealedPool) (packages : List Candidate) (are : SatisfyWorld poo
     name_met : (name : List ℕ) (c : Candidate) → IsIn c packages → name ≡ c.name → is_met pool places (named name) ≡ true
     name_met name c here is =
         let led = p.all c here in
-        in_any (λ k. meets_at pool k (named name)) places led.0 led.1 (test_at pool (meets_need (named name)) led.0 c led.2 ∙ (bytes_eq-Decides name c.name).1 is)
+        in_any (λ k. meets_at pool k (named name)) places led.0 led.1 (test_at pool (meets_dependency_or_has_package_name (named name)) led.0 c led.2 ∙ (bytes_eq-Decides name c.name).1 is)
 
     asked_met : (name : List ℕ) → IsIn name (names_whose_install_if_applies pool places) → is_met pool places (named name) ≡ true
     asked_met name at =

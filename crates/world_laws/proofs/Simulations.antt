@@ -19,7 +19,7 @@ use Rattle.engine_core.specs.make_info.Reads.{Reads}
 use Rattle.engine_core.specs.package_changes.Changes.{Replacement, changes_of}
 use Rattle.engine_core.specs.package_changes.Report.{candidate_installed_size, simulated_report, lines_on_names_that_stay}
 use Rattle.engine_core.specs.path_clashes.Clash.{NamePair}
-use Rattle.engine_core.specs.candidate_core.Rank.{SealedPool}
+use Rattle.engine_core.specs.candidate_core.Rank.{SelectionProblem}
 use Rattle.report_core.specs.Reports.{change_lines, report_line, bytes_and_package_count_text}
 use Rattle.report_core.specs.declared.refusal.Refusal.{Refusal}
 use Rattle.world_laws.specs.Simulation.{ReportBeginsWithSimulationExceptLastLine, with_simulation}
@@ -50,7 +50,7 @@ IsMadeKnown = (inputs : Inputs) (r : Replacement) (wishes : ChangeWishes) (read 
 
 -- one thing is chosen
 abbrev pub IsOneChoice : Type 0
-IsOneChoice = (pool : Result SealedPool Refusal) (a b : Option (List ℕ)) → IsPreferredChoiceUnlessRefused pool a → IsPreferredChoiceUnlessRefused pool b → a ≡ b
+IsOneChoice = (pool : Result SelectionProblem Refusal) (a b : Option (List ℕ)) → IsPreferredChoiceUnlessRefused pool a → IsPreferredChoiceUnlessRefused pool b → a ≡ b
 
 -- both commands select alike
 selects_alike : (command : CommandLine) (read : Reads) (chosen : Option (List ℕ)) → selected_from_reads_by_choice (with_simulation command) read chosen ≡ selected_from_reads_by_choice command read chosen
@@ -76,7 +76,7 @@ by_selected known command read files other clash s simulation done real e d =
 
 module _ (one : IsOneChoice) (command : CommandLine) (read : Reads) (files : Files) (expected chosen : Option (List ℕ)) (other clash : Option NamePair) where
   chosen_alike : IsPreferredChoiceUnlessRefused (pool_of_command (with_simulation command) read) expected → IsPreferredChoiceUnlessRefused (pool_of_command command read) chosen → expected ≡ chosen
-  chosen_alike a b = one (pool_of_command command read) expected chosen (subst (λ (p : Result SealedPool Refusal). IsPreferredChoiceUnlessRefused p expected) (pool_alike command read) a) b
+  chosen_alike a b = one (pool_of_command command read) expected chosen (subst (λ (p : Result SelectionProblem Refusal). IsPreferredChoiceUnlessRefused p expected) (pool_alike command read) a) b
 
   pub foretold : IsMadeKnown → (simulation done : ChangeDone) → command.flags.simulate ≡ false
       → IsPreferredChoiceUnlessRefused (pool_of_command (with_simulation command) read) expected → IsPreferredChoiceUnlessRefused (pool_of_command command read) chosen

@@ -2,7 +2,7 @@
 use Rattle.std.proofs.Common.{◌≡◌, ◌↔◌, ℕ, Bool, true, false, List, [], ◌∷◌, Option, Some, None, Result, Ok, Err, refl, ap, sym, subst, ◌∙◌}
 use Rattle.std.specs.Prelude.{◌+◌, nat_lt, length, if◌then◌else◌}
 use Rattle.base_core.specs.declared.cause.Cause.{Cause}
-use Rattle.engine_core.specs.candidate_core.Rank.{SealedPool, UpgradedNames, sealed_pool_from_parts}
+use Rattle.engine_core.specs.candidate_core.Rank.{SelectionProblem, UpgradedNames, selection_problem_from_parts}
 use Rattle.engine_core.specs.candidate_core.declared.candidate_list.TheConstants.{MOST_CANDIDATES}
 use Rattle.engine_core.specs.adb_schema.Soundness.{container_fault_except_contents, payload_in, root_value_of_payload}
 use Rattle.adb_view.specs.declared.tables.Which.TheVariants.{Idb, Index}
@@ -35,16 +35,16 @@ use Rattle.world_laws.proofs.SatisfyingPlaces.{selection_of}
 
 -- ---- a pool
 
-pub none_of_pool : (pool : SealedPool) → IsPreferredChoice pool None ↔ IsUnsatisfiable pool.candidates pool.world
+pub none_of_pool : (pool : SelectionProblem) → IsPreferredChoice pool None ↔ IsUnsatisfiable pool.candidates pool.world
 none_of_pool pool = (
   λ none packages are. (let found = selection_of pool packages are in none found.0 found.1),
   λ unsatisfiable selection is. unsatisfiable (candidates_at pool selection) (satisfied pool selection is),
 )
 
-none_of_inputs : (inputs : Inputs) (upgraded : UpgradedNames) (pool : SealedPool) → root_pool inputs upgraded ≡ Ok pool → IsPreferredChoice pool None ↔ IsUnsatisfiable (candidates_of inputs) inputs.root.new_world
+none_of_inputs : (inputs : Inputs) (upgraded : UpgradedNames) (pool : SelectionProblem) → root_pool inputs upgraded ≡ Ok pool → IsPreferredChoice pool None ↔ IsUnsatisfiable (candidates_of inputs) inputs.root.new_world
 none_of_inputs inputs upgraded pool e =
-    let is : pool ≡ sealed_pool_from_parts (candidates_of inputs) inputs.root.new_world upgraded = (root_pool_is inputs upgraded pool e).is in
-    subst (λ (p : SealedPool). IsPreferredChoice pool None ↔ IsUnsatisfiable p.candidates p.world) is (none_of_pool pool)
+    let is : pool ≡ selection_problem_from_parts (candidates_of inputs) inputs.root.new_world upgraded = (root_pool_is inputs upgraded pool e).is in
+    subst (λ (p : SelectionProblem). IsPreferredChoice pool None ↔ IsUnsatisfiable p.candidates p.world) is (none_of_pool pool)
 
 -- ---- no input is refused so
 
@@ -120,13 +120,13 @@ module _ (command : CommandLine) (read : Reads) where
   unfolding root_pool
   pool_other inputs = by (nat_lt MOST_CANDIDATES (length (candidates_of inputs)))
     where
-      by : (t : Bool) → IsOther (if t then Err (TooMany (MOST_CANDIDATES + 1)) else Ok (sealed_pool_from_parts (candidates_of inputs) inputs.root.new_world (names_to_upgrade command.applet command.operands)))
+      by : (t : Bool) → IsOther (if t then Err (TooMany (MOST_CANDIDATES + 1)) else Ok (selection_problem_from_parts (candidates_of inputs) inputs.root.new_world (names_to_upgrade command.applet command.operands)))
       by true e = cc (e)
       by false e = cc (e)
 
   -- ---- a command
 
-  pub none_for : (inputs : Inputs) (pool : SealedPool) → inputs_of command read ≡ Ok inputs → pool_of_command command read ≡ Ok pool → IsPreferredChoice pool None ↔ IsUnsatisfiable (candidates_of inputs) inputs.root.new_world
+  pub none_for : (inputs : Inputs) (pool : SelectionProblem) → inputs_of command read ≡ Ok inputs → pool_of_command command read ≡ Ok pool → IsPreferredChoice pool None ↔ IsUnsatisfiable (candidates_of inputs) inputs.root.new_world
   none_for inputs pool e f =
       none_of_inputs inputs (names_to_upgrade command.applet command.operands) pool (sym (ap (λ (r : Result Inputs Refusal). and_then r (pool_of_inputs command)) e) ∙ f)
 
@@ -137,13 +137,13 @@ module _ (command : CommandLine) (read : Reads) where
   pub refused : (chosen : Option (List ℕ)) → IsPreferredChoiceUnlessRefused (pool_of_command command read) chosen → selected_from_reads_by_choice command read chosen ≡ Err Unsatisfied → HasNone
   refused chosen choice e = by (inputs_of command read) refl choice e
     where
-      by_chosen : (inputs : Inputs) → inputs_of command read ≡ Ok inputs → (pool : SealedPool) → pool_of_inputs command inputs ≡ Ok pool → (place : Option ℕ) (chosen : Option (List ℕ)) → IsPreferredChoice pool chosen
+      by_chosen : (inputs : Inputs) → inputs_of command read ≡ Ok inputs → (pool : SelectionProblem) → pool_of_inputs command inputs ≡ Ok pool → (place : Option ℕ) (chosen : Option (List ℕ)) → IsPreferredChoice pool chosen
           → unless_unknown_operand place (selected_from_pool_by_choice command inputs pool chosen) ≡ Err Unsatisfied → HasNone
       by_chosen inputs is pool made (Some place) chosen choice e = absurd (cc (e))
       by_chosen inputs is pool made None (Some trace) choice e = absurd (cc (e))
       by_chosen inputs is pool made None None choice e = (inputs, is, (none_of_inputs inputs (names_to_upgrade command.applet command.operands) pool made).0 choice)
 
-      by_pool : (inputs : Inputs) → inputs_of command read ≡ Ok inputs → (made : Result SealedPool Refusal) → pool_of_inputs command inputs ≡ made → IsPreferredChoiceUnlessRefused made chosen
+      by_pool : (inputs : Inputs) → inputs_of command read ≡ Ok inputs → (made : Result SelectionProblem Refusal) → pool_of_inputs command inputs ≡ made → IsPreferredChoiceUnlessRefused made chosen
           → and_then made (λ pool. unless_unknown_operand (unknown_operand_place command.applet inputs command.operands) (selected_from_pool_by_choice command inputs pool chosen)) ≡ Err Unsatisfied → HasNone
       by_pool inputs is (Err refusal) made choice e = let same : refusal ≡ Unsatisfied = cc in absurd (pool_other inputs (made ∙ ap (λ r. Err r) same))
       by_pool inputs is (Ok pool) made choice e = by_chosen inputs is pool made (unknown_operand_place command.applet inputs command.operands) chosen choice e
@@ -152,9 +152,9 @@ module _ (command : CommandLine) (read : Reads) where
       by (Err refusal) is choice e = let same : refusal ≡ Unsatisfied = cc in absurd (inputs_other (is ∙ ap (λ r. Err r) same))
       by (Ok inputs) is choice e = by_pool inputs is (pool_of_inputs command inputs) refl choice e
 
-  pub refuses : (chosen : Option (List ℕ)) (inputs : Inputs) (pool : SealedPool) → IsPreferredChoiceUnlessRefused (pool_of_command command read) chosen → inputs_of command read ≡ Ok inputs → pool_of_command command read ≡ Ok pool
+  pub refuses : (chosen : Option (List ℕ)) (inputs : Inputs) (pool : SelectionProblem) → IsPreferredChoiceUnlessRefused (pool_of_command command read) chosen → inputs_of command read ≡ Ok inputs → pool_of_command command read ≡ Ok pool
       → unknown_operand_place command.applet inputs command.operands ≡ None → IsUnsatisfiable (candidates_of inputs) inputs.root.new_world → selected_from_reads_by_choice command read chosen ≡ Err Unsatisfied
-  refuses chosen inputs pool choice e f known none = by chosen (subst (λ (r : Result SealedPool Refusal). IsPreferredChoiceUnlessRefused r chosen) f choice) refl
+  refuses chosen inputs pool choice e f known none = by chosen (subst (λ (r : Result SelectionProblem Refusal). IsPreferredChoiceUnlessRefused r chosen) f choice) refl
     where
       made : pool_of_inputs command inputs ≡ Ok pool
       made = sym (ap (λ (r : Result Inputs Refusal). and_then r (pool_of_inputs command)) e) ∙ f
@@ -162,7 +162,7 @@ module _ (command : CommandLine) (read : Reads) where
       read_so : (taken : Option (List ℕ)) → selected_from_reads_by_choice command read taken ≡ selected_from_pool_by_choice command inputs pool taken
       read_so taken =
           ap (λ (r : Result Inputs Refusal). and_then r (selected_from_inputs_by_choice command taken)) e
-          ∙ (ap (λ (r : Result SealedPool Refusal). and_then r (λ p. unless_unknown_operand (unknown_operand_place command.applet inputs command.operands) (selected_from_pool_by_choice command inputs p taken))) made
+          ∙ (ap (λ (r : Result SelectionProblem Refusal). and_then r (λ p. unless_unknown_operand (unknown_operand_place command.applet inputs command.operands) (selected_from_pool_by_choice command inputs p taken))) made
           ∙ ap (λ (o : Option ℕ). unless_unknown_operand o (selected_from_pool_by_choice command inputs pool taken)) known)
 
       by : (taken : Option (List ℕ)) → IsPreferredChoice pool taken → chosen ≡ taken → selected_from_reads_by_choice command read chosen ≡ Err Unsatisfied

@@ -4,13 +4,13 @@
 -- "`upgrade` and `fix`".
 use Rattle.std.specs.Prelude.{◌≡◌, ◌⊎◌, ◌↔◌, ◌≤◌, ◌+◌, ℕ, true, false, List, [], ◌∷◌, length, Some, Ok, slice_get}
 use Rattle.engine_core.specs.adb_fields.FirstPair.{IsIn}
-use Rattle.engine_core.specs.adb_fields.Repeated.{entries_at}
+use Rattle.engine_core.specs.adb_fields.Repeated.{entries_of_field_at_index}
 use Rattle.engine_core.specs.adb_schema.Soundness.{payload_in, root_value_of_payload}
-use Rattle.adb_view.specs.FieldIndexes.{INDEX_PACKAGES}
+use Rattle.adb_view.specs.FieldIndexes.{INDEX_PACKAGES_INDEX}
 use Rattle.adb_view.specs.declared.tables.Which.TheVariants.{Index}
 use Rattle.adb_view.specs.Plain.{Plain}
-use Rattle.engine_core.specs.candidate_core.Candidates.{Candidate, candidate_of, is_same_package}
-use Rattle.engine_core.specs.candidate_core.Rank.{SealedPool, is_upgraded}
+use Rattle.engine_core.specs.candidate_core.Candidates.{Candidate, candidate_of, is_repository_package_same_as_installed}
+use Rattle.engine_core.specs.candidate_core.Rank.{SelectionProblem, is_upgraded}
 use Rattle.engine_core.specs.candidate_core.declared.candidate_list.TheConstants.{MOST_CANDIDATES}
 use Rattle.engine_core.specs.change_inputs.Candidates.{installed_candidate}
 use Rattle.engine_core.specs.change_inputs.Inputs.{Inputs, first_index_read_number, inputs_of}
@@ -33,7 +33,7 @@ pub record IsIndexed (inputs : Inputs) (read : Reads) (place : ℕ) (repository 
   -- these bytes were read under the repository's path
   pub is_index : read (first_index_read_number + place) repository.path ≡ Some file
   -- the index has a package with this information
-  pub has : IsIn info (entries_at INDEX_PACKAGES (root_value_of_payload Index (payload_in file)))
+  pub has : IsIn info (entries_of_field_at_index INDEX_PACKAGES_INDEX (root_value_of_payload Index (payload_in file)))
 
 -- the candidate is the package with this information, of the repository with the index `place`, and is installed or
 -- not. Candidates number repositories from 1
@@ -47,7 +47,7 @@ abbrev pub IsSameAsInstalled : Inputs → Candidate → Type 0
 IsSameAsInstalled inputs c =
     (pkg : Plain)
     × IsIn pkg inputs.root.database.packages
-    × (is_same_package (installed_candidate pkg) c ≡ true)
+    × (is_repository_package_same_as_installed (installed_candidate pkg) c ≡ true)
 
 -- the candidate is a package of an index, and counts as installed exactly if an installed package is the same
 pub record IsOfIndex (inputs : Inputs) (read : Reads) (c : Candidate) : Type 0 where
@@ -74,7 +74,7 @@ pub record IsInstalledAlone (inputs : Inputs) (candidates : List Candidate) (c :
   -- the candidate is this package
   pub is : c ≡ installed_candidate pkg
   -- none of the candidates, if it is from an index, is the same package
-  pub alone : (other : Candidate) → IsIn other candidates → is_same_package c other ≡ false
+  pub alone : (other : Candidate) → IsIn other candidates → is_repository_package_same_as_installed c other ≡ false
 
 -- The candidates of a command are the packages of all indexes, and the installed packages that no index
 -- has; none of either is missing.
@@ -90,7 +90,7 @@ pub record AreCandidates (inputs : Inputs) (read : Reads) (candidates : List Can
   -- each installed package is a candidate, or is the same as one from an index
   pub installed : (pkg : Plain) → IsIn pkg inputs.root.database.packages
       → (c : Candidate) × IsIn c candidates × (c.installed ≡ true)
-      × ((c ≡ installed_candidate pkg) ⊎ (is_same_package (installed_candidate pkg) c ≡ true))
+      × ((c ≡ installed_candidate pkg) ⊎ (is_repository_package_same_as_installed (installed_candidate pkg) c ≡ true))
 
 -- ---- the names that are upgraded
 
@@ -105,7 +105,7 @@ IsToUpgrade applet operands name = ⊥
 -- ---- what a command chooses from
 
 -- `pool` is what the command chooses from: the candidates, the world to be satisfied, and the names to be upgraded
-pub record IsCommandPool (command : CommandLine) (read : Reads) (pool : SealedPool) : Type 0 where
+pub record IsCommandPool (command : CommandLine) (read : Reads) (pool : SelectionProblem) : Type 0 where
   -- what the command reads of the root
   pub inputs : Inputs
   -- the inputs are what the reads find

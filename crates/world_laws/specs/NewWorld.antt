@@ -10,7 +10,7 @@ use Rattle.command_core.specs.declared.command.Applet.TheVariants.{Add, Del}
 use Rattle.command_core.specs.declared.operands.Operand.{Operand}
 use Rattle.dep_core.specs.Dependency.{Dependency}
 use Rattle.dep_core.specs.Reading.{dependency_of}
-use Rattle.dep_core.specs.World.{IsWorld, world_of}
+use Rattle.dep_core.specs.World.{IsWorldSortedByName, world_of}
 use Rattle.engine_core.specs.make_info.Reads.{Reads}
 use Rattle.root_names.specs.RootNames.{world_name}
 
@@ -39,7 +39,7 @@ pub record IsAddedDependency (operands : List Operand) (d : Dependency) : Type 0
 -- `after` is world after `add` with these operands, if world was `before`
 pub record IsWorldAfterAdd (operands : List Operand) (before after : List Dependency) : Type 0 where
   -- the entries are dependencies in byte order of their names, each name once
-  pub world : IsWorld after
+  pub world : IsWorldSortedByName after
   -- a dependency is an entry exactly if it is the last operand of its name, or it was an entry before and no operand is
   -- a dependency of its name
   pub entries : (d : Dependency) → IsIn d after
@@ -54,7 +54,7 @@ IsNoOperand name operands = (o : Operand) → IsIn o operands → o.text ≢ nam
 -- `after` is world after `del` with these operands, if world was `before`
 pub record IsWorldAfterDel (operands : List Operand) (before after : List Dependency) : Type 0 where
   -- the entries are dependencies in byte order of their names, each name once
-  pub world : IsWorld after
+  pub world : IsWorldSortedByName after
   -- a dependency is an entry exactly if it was an entry before, and no operand is its name
   pub entries : (d : Dependency) → IsIn d after ↔ (IsIn d before × IsNoOperand d.name operands)
 

@@ -6,22 +6,22 @@ use Rattle.dep_core.specs.Dependency.{Dependency}
 use Rattle.base_core.specs.ByteOrder.{precedes}
 use Rattle.engine_core.specs.candidate_core.Candidates.{Candidate, Need, entry, named, is_eligible_with_positive_install_if}
 use Rattle.engine_core.specs.candidate_core.Options.{IsIn}
-use Rattle.engine_core.specs.candidate_core.Rank.{SealedPool, meets_at}
+use Rattle.engine_core.specs.candidate_core.Rank.{SelectionProblem, meets_at}
 use Rattle.engine_core.specs.search_tables.Selection.{depends_at}
 
 -- one of the chosen candidates meets the need
-abbrev pub IsMetByChoice : SealedPool → List ℕ → Need → Type 0
+abbrev pub IsMetByChoice : SelectionProblem → List ℕ → Need → Type 0
 IsMetByChoice pool chosen need = (c : ℕ) × IsIn c chosen × (meets_at pool c need ≡ true)
 
 -- ---- dependencies
 
 -- each dependency of the list that is no conflict is met by one of the chosen candidates
-abbrev pub AreMetByChoices : SealedPool → List ℕ → List Dependency → Type 0
+abbrev pub AreMetByChoices : SelectionProblem → List ℕ → List Dependency → Type 0
 AreMetByChoices pool chosen deps = (d : Dependency) → IsIn d deps → d.conflict ≡ false
     → IsMetByChoice pool chosen (entry d)
 
 -- `d` is the first dependency of the list that is no conflict and that no chosen candidate meets
-pub record IsFirstUnmet (pool : SealedPool) (chosen : List ℕ) (deps : List Dependency)
+pub record IsFirstUnmet (pool : SelectionProblem) (chosen : List ℕ) (deps : List Dependency)
     (d : Dependency) : Type 0 where
   -- the dependencies of the list before `d`
   pub front : List Dependency
@@ -39,13 +39,13 @@ pub record IsFirstUnmet (pool : SealedPool) (chosen : List ℕ) (deps : List Dep
 -- ---- dependencies of the choices
 
 -- the dependencies of each candidate of `choices` that are no conflicts are met by the chosen candidates
-abbrev pub AreDependenciesOfEachMet : SealedPool → List ℕ → List ℕ → Type 0
+abbrev pub AreDependenciesOfEachMet : SelectionProblem → List ℕ → List ℕ → Type 0
 AreDependenciesOfEachMet pool chosen choices = (c : ℕ) → IsIn c choices
     → AreMetByChoices pool chosen (depends_at pool c)
 
 -- `d` is the first unmet dependency of one of the `choices`, and all dependencies of the choices before this one are
 -- met
-pub record IsFirstOfChoices (pool : SealedPool) (chosen choices : List ℕ)
+pub record IsFirstOfChoices (pool : SelectionProblem) (chosen choices : List ℕ)
     (d : Dependency) : Type 0 where
   -- the choices before this one
   pub front : List ℕ
@@ -64,7 +64,7 @@ pub record IsFirstOfChoices (pool : SealedPool) (chosen choices : List ℕ)
 
 -- An install-if asks for the name: a candidate has this name, its install-if may be used, and the chosen candidates
 -- meet each entry of the install-if, but none of them meets the need for the name.
-pub record IsAskedByInstallIf (pool : SealedPool) (chosen name : List ℕ) : Type 0 where
+pub record IsAskedByInstallIf (pool : SelectionProblem) (chosen name : List ℕ) : Type 0 where
   -- a candidate of this name
   pub candidate : Candidate
   -- it is one of the candidates of the command
@@ -80,7 +80,7 @@ pub record IsAskedByInstallIf (pool : SealedPool) (chosen name : List ℕ) : Typ
   pub unmet : ¬ IsMetByChoice pool chosen (named name)
 
 -- the name is the first in byte order of the names that an install-if asks for
-pub record IsFirstByInstallIf (pool : SealedPool) (chosen name : List ℕ) : Type 0 where
+pub record IsFirstByInstallIf (pool : SelectionProblem) (chosen name : List ℕ) : Type 0 where
   -- an install-if asks for the name
   pub asked : IsAskedByInstallIf pool chosen name
   -- no other name that an install-if asks for precedes it in byte order
@@ -92,14 +92,14 @@ pub record IsFirstByInstallIf (pool : SealedPool) (chosen name : List ℕ) : Typ
 -- The need is the next one. A dependency is next if it is the first unmet entry of world, or if world is met and it is
 -- the first unmet dependency of the choices, in their order. A name is next if all these are met, and it is the first
 -- name that an install-if asks for.
-abbrev pub IsNextNeed : SealedPool → List ℕ → Need → Type 0
+abbrev pub IsNextNeed : SelectionProblem → List ℕ → Need → Type 0
 IsNextNeed pool chosen (entry d) = IsFirstUnmet pool chosen pool.world d
     ⊎ (AreMetByChoices pool chosen pool.world × IsFirstOfChoices pool chosen chosen d)
 IsNextNeed pool chosen (named name) = AreMetByChoices pool chosen pool.world
     × AreDependenciesOfEachMet pool chosen chosen × IsFirstByInstallIf pool chosen name
 
 -- the option is the next need; None means that world, the dependencies of the choices and all install-ifs are met
-abbrev pub IsNextNeedOrNone : SealedPool → List ℕ → Option Need → Type 0
+abbrev pub IsNextNeedOrNone : SelectionProblem → List ℕ → Option Need → Type 0
 IsNextNeedOrNone pool chosen (Some need) = IsNextNeed pool chosen need
 IsNextNeedOrNone pool chosen None = AreMetByChoices pool chosen pool.world
     × AreDependenciesOfEachMet pool chosen chosen

@@ -11,7 +11,7 @@
 ghost use Rattle.std.specs.Prelude.{◌≡◌, ◌↔◌, ℕ, List, Option, None, false, Err, Ok};
 ghost use Rattle.engine_core.specs.adb_fields.FirstPair.{IsIn};
 ghost use Rattle.engine_core.specs.candidate_core.Candidates.{Candidate, Need};
-ghost use Rattle.engine_core.specs.candidate_core.Rank.{SealedPool};
+ghost use Rattle.engine_core.specs.candidate_core.Rank.{SelectionProblem};
 ghost use Rattle.engine_core.specs.search_tables.Selection.{IsSatisfying, next_need};
 ghost use Rattle.world_laws.specs.NextNeed.{IsNextNeedOrNone};
 ghost use Rattle.base_core.specs.Files.{Files};
@@ -36,7 +36,7 @@ ghost use Rattle.engine_core.specs.change_inputs.World.{new_world};
 ghost use Rattle.command_core.specs.declared.command.Applet.{Applet};
 ghost use Rattle.command_core.specs.declared.operands.Operand.{Operand};
 ghost use Rattle.dep_core.specs.Dependency.{Dependency};
-ghost use Rattle.dep_core.specs.World.{IsWorld};
+ghost use Rattle.dep_core.specs.World.{IsWorldSortedByName};
 ghost use Rattle.world_laws.specs.CommandPool.{IsCommandPool};
 ghost use Rattle.world_laws.specs.NewWorld.{IsWorldAfterApplet, HasReadAndRequestedWorld};
 ghost use Rattle.world_laws.specs.SatisfiedWorld.{AreEqualSetsOfCandidates, IsNeededByWorldOrPackages, SatisfyWorld};
@@ -49,10 +49,10 @@ use engine_core::{a_change_that_is_made_passes_each_test, a_choice_is_unique};
 /// names, in byte order, that a candidate's install-if asks for. If all are met, there is none.
 pub fn the_next_need_is_the_first_that_is_unmet()
     // The next need of the solver (*next_need*) is the one that *IsNextNeedOrNone* describes.
-    ensures next { (pool : SealedPool) (chosen : List ℕ)
+    ensures next { (pool : SelectionProblem) (chosen : List ℕ)
         → IsNextNeedOrNone pool chosen (next_need pool chosen) }
     // For the same choices, *IsNextNeedOrNone* holds of at most one next need.
-    ensures one { (pool : SealedPool) (chosen : List ℕ) (need other : Option Need)
+    ensures one { (pool : SelectionProblem) (chosen : List ℕ) (need other : Option Need)
         → IsNextNeedOrNone pool chosen need → IsNextNeedOrNone pool chosen other → need ≡ other }
 {}
 
@@ -105,7 +105,7 @@ pub fn a_refused_simulation_refuses_the_change()
 pub fn the_new_world_has_what_was_asked()
     // The new world of a command, whatever world was before, has these entries.
     ensures world { (applet : Applet) (operands : List Operand) (world : List Dependency)
-        → IsWorld world
+        → IsWorldSortedByName world
         → IsWorldAfterApplet applet operands world (new_world applet operands world) }
     // The same holds of the new world among the inputs of a command.
     ensures read { (command : CommandLine) (read : Reads) (inputs : Inputs)
@@ -120,7 +120,7 @@ pub fn the_new_world_has_what_was_asked()
 /// index has. A package of an index counts as installed if an installed package is the same. The
 /// packages are to satisfy the command's new world, and `upgrade` upgrades the names it is given.
 pub fn a_command_chooses_from_its_indexes_and_its_database()
-    ensures { (command : CommandLine) (read : Reads) (pool : SealedPool)
+    ensures { (command : CommandLine) (read : Reads) (pool : SelectionProblem)
         → pool_of_command command read ≡ Ok pool → IsCommandPool command read pool }
 {}
 
@@ -147,16 +147,16 @@ pub fn the_selected_packages_satisfy_the_new_world()
 /// satisfy its new world.
 pub fn a_selection_satisfies_world_exactly_if_packages_do()
     // The packages at the indexes of a satisfying selection satisfy world.
-    ensures satisfied { (pool : SealedPool) (selection : List ℕ) → IsSatisfying pool selection
+    ensures satisfied { (pool : SelectionProblem) (selection : List ℕ) → IsSatisfying pool selection
         → SatisfyWorld pool.candidates pool.world (candidates_at pool selection) }
     // Packages that satisfy world are, in any order and number, those at the indexes of a
     // satisfying selection.
-    ensures found { (pool : SealedPool) (packages : List Candidate)
+    ensures found { (pool : SelectionProblem) (packages : List Candidate)
         → SatisfyWorld pool.candidates pool.world packages
         → (selection : List ℕ) × IsSatisfying pool selection
         × AreEqualSetsOfCandidates (candidates_at pool selection) packages }
     // A command has no selection exactly if no packages satisfy its new world.
-    ensures none { (command : CommandLine) (read : Reads) (inputs : Inputs) (pool : SealedPool)
+    ensures none { (command : CommandLine) (read : Reads) (inputs : Inputs) (pool : SelectionProblem)
         → inputs_of command read ≡ Ok inputs → pool_of_command command read ≡ Ok pool
         → IsPreferredChoice pool None
         ↔ IsUnsatisfiable (candidates_of inputs) inputs.root.new_world }
@@ -169,7 +169,7 @@ pub fn a_selection_satisfies_world_exactly_if_packages_do()
     // If no packages satisfy its new world, the command is refused as unsatisfied, unless an
     // earlier test refuses it.
     ensures refuses { (command : CommandLine) (read : Reads) (chosen : Option (List ℕ))
-        (inputs : Inputs) (pool : SealedPool)
+        (inputs : Inputs) (pool : SelectionProblem)
         → IsPreferredChoiceUnlessRefused (pool_of_command command read) chosen
         → inputs_of command read ≡ Ok inputs → pool_of_command command read ≡ Ok pool
         → unknown_operand_place command.applet inputs command.operands ≡ None

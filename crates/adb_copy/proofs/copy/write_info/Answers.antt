@@ -1,7 +1,7 @@
 use Rattle.std.proofs.Common.{◌≡◌, ℕ, List, [], ◌∷◌, refl, ap, ◌∙◌}
 use Rattle.adb_view.specs.Adb.{payload_of}
 use Rattle.adb_view.specs.Plain.{Plain, Plains, trimmed_object_or_null}
-use Rattle.adb_view.specs.Values.{entry_in, text_in, value_at}
+use Rattle.adb_view.specs.Values.{entry_at_index, text_in, value_at}
 use Rattle.adb_view.specs.declared.tables.Which.TheVariants as Tables
 use Rattle.adb_view.specs.declared.tables.Kind.TheVariants as Kinds
 use Rattle.adb_values.specs.Drafts.{draft_with, draft_with_all, draft_with_open_list}
@@ -33,12 +33,12 @@ returns c =
     let v : Plain = value_at p (Kinds.Obj Tables.PkgInfo) c.args.info in
     let vs : Plains =
     info_fields c.args.id.now c.args.len
-    (text_in (entry_in v 0)) (text_in (entry_in v 1)) (text_in (entry_in v 3)) (text_in (entry_in v 4)) (text_in (entry_in v 5))
-    (text_in (entry_in v 6)) (text_in (entry_in v 7)) (text_in (entry_in v 8)) (text_in (entry_in v 9))
+    (text_in (entry_at_index v 0)) (text_in (entry_at_index v 1)) (text_in (entry_at_index v 3)) (text_in (entry_at_index v 4)) (text_in (entry_at_index v 5))
+    (text_in (entry_at_index v 6)) (text_in (entry_at_index v 7)) (text_in (entry_at_index v 8)) (text_in (entry_at_index v 9))
     c.int_field.result c.int_field-2.result c.int_field-3.result
-    (entry_in v 14) (entry_in v 15) (entry_in v 16) (entry_in v 17) (entry_in v 18)
-    c.int_field-4.result (entry_in v 20) c.int_field-5.result in
-    let tags : c.write_text_list.new.draft ≡ draft_with (without_zeros (entry_in v 20)) c.write_int.new.draft =
+    (entry_at_index v 14) (entry_at_index v 15) (entry_at_index v 16) (entry_at_index v 17) (entry_at_index v 18)
+    c.int_field-4.result (entry_at_index v 20) c.int_field-5.result in
+    let tags : c.write_text_list.new.draft ≡ draft_with (without_zeros (entry_at_index v 20)) c.write_int.new.draft =
     c.in_ok-write_text_list.ensures.texts ∙ ap (λ (u : Plain). draft_with (without_zeros u) c.write_int.new.draft) c.texts_field.ensures.value in
     let given : c.write_int-2.new.draft ≡ draft_with_all vs (draft_with_open_list c.args.draft.now) =
     rw (c.in_ok-write_int-2.ensures, tags, c.in_ok-write_int.ensures, c.in_ok-write_deps-5.ensures.deps, c.in_ok-write_deps-4.ensures.deps, c.in_ok-write_deps-3.ensures.deps, c.in_ok-write_deps-2.ensures.deps, c.in_ok-write_deps.ensures.deps, c.in_ok-write_ints.ensures, c.in_ok-write_info_texts.ensures.texts, c.in_ok-open_list.ensures.ok) refl in
@@ -47,11 +47,11 @@ returns c =
       info =
           closed_as trimmed_object_or_null (info_without_zeros_with_id_and_file_size v c.args.id.now c.args.len) vs c.args.draft.now _ _ c.close_object.result
           (info_written v c.args.id.now c.args.len (value_shape c.values_have_their_shape.ensures.word p (Kinds.Obj Tables.PkgInfo) c.args.info)
-          (text_in (entry_in v 0)) (text_in (entry_in v 1)) (text_in (entry_in v 3)) (text_in (entry_in v 4)) (text_in (entry_in v 5))
-          (text_in (entry_in v 6)) (text_in (entry_in v 7)) (text_in (entry_in v 8)) (text_in (entry_in v 9))
+          (text_in (entry_at_index v 0)) (text_in (entry_at_index v 1)) (text_in (entry_at_index v 3)) (text_in (entry_at_index v 4)) (text_in (entry_at_index v 5))
+          (text_in (entry_at_index v 6)) (text_in (entry_at_index v 7)) (text_in (entry_at_index v 8)) (text_in (entry_at_index v 9))
           c.int_field.result c.int_field-2.result c.int_field-3.result
-          (entry_in v 14) (entry_in v 15) (entry_in v 16) (entry_in v 17) (entry_in v 18)
-          c.int_field-4.result (entry_in v 20) c.int_field-5.result
+          (entry_at_index v 14) (entry_at_index v 15) (entry_at_index v 16) (entry_at_index v 17) (entry_at_index v 18)
+          c.int_field-4.result (entry_at_index v 20) c.int_field-5.result
           refl refl refl refl refl refl refl refl refl
           c.int_field.ensures c.int_field-2.ensures c.int_field-3.ensures
           refl refl refl refl refl

@@ -1,7 +1,7 @@
 use Rattle.std.proofs.Common.{◌≡◌, List, ℕ, refl, ap, ◌∙◌}
 use Rattle.adb_view.specs.Adb.{payload_of}
 use Rattle.adb_view.specs.Plain.{Plain, Plains, none, more, blob_or_null, trimmed_object_or_null}
-use Rattle.adb_view.specs.Values.{entry_in, text_in, value_at}
+use Rattle.adb_view.specs.Values.{entry_at_index, text_in, value_at}
 use Rattle.adb_view.specs.declared.tables.Which.TheVariants as Tables
 use Rattle.adb_view.specs.declared.tables.Kind.TheVariants as Kinds
 use Rattle.adb_values.specs.Drafts.{draft_with, draft_with_all, draft_with_open_list}
@@ -22,8 +22,8 @@ pub returns : goal.returns
 returns c =
     let p : List ℕ = payload_of c.args.adb in
     let v : Plain = value_at p (Kinds.Obj Tables.Acl) c.args.acl in
-    let vs : Plains = more (int_or_null c.int_field.result) (more (blob_or_null (text_in (entry_in v 1))) (more (blob_or_null (text_in (entry_in v 2))) (more (without_zeros (entry_in v 3)) none))) in
-    let xattrs : c.write_text_list.new.draft ≡ draft_with (without_zeros (entry_in v 3)) c.write_field-2.new.draft =
+    let vs : Plains = more (int_or_null c.int_field.result) (more (blob_or_null (text_in (entry_at_index v 1))) (more (blob_or_null (text_in (entry_at_index v 2))) (more (without_zeros (entry_at_index v 3)) none))) in
+    let xattrs : c.write_text_list.new.draft ≡ draft_with (without_zeros (entry_at_index v 3)) c.write_field-2.new.draft =
     c.in_ok-write_text_list.ensures.texts ∙ ap (λ (u : Plain). draft_with (without_zeros u) c.write_field-2.new.draft) c.texts_field.ensures.value in
     let given : c.write_text_list.new.draft ≡ draft_with_all vs (draft_with_open_list c.args.draft.now) =
     rw (xattrs, c.in_ok-write_field-2.ensures.text, c.in_ok-write_field.ensures.text, c.in_ok-write_int.ensures, c.in_ok-open_list.ensures.ok) refl in

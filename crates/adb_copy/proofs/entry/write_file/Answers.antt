@@ -1,7 +1,7 @@
 use Rattle.std.proofs.Common.{◌≡◌, List, ℕ, refl, ap, ◌∙◌}
 use Rattle.adb_view.specs.Adb.{payload_of}
 use Rattle.adb_view.specs.Plain.{Plain, Plains, none, more, blob_or_null, trimmed_object_or_null}
-use Rattle.adb_view.specs.Values.{entry_in, text_in, value_at}
+use Rattle.adb_view.specs.Values.{entry_at_index, text_in, value_at}
 use Rattle.adb_view.specs.declared.tables.Which.TheVariants as Tables
 use Rattle.adb_view.specs.declared.tables.Kind.TheVariants as Kinds
 use Rattle.adb_values.specs.Drafts.{draft_with, draft_with_all, draft_with_open_list}
@@ -30,9 +30,9 @@ pub returns : goal.returns
 returns c =
     let p : List ℕ = payload_of c.args.adb in
     let v : Plain = value_at p (Kinds.Obj Tables.File) c.args.file in
-    let vs : Plains = more (blob_or_null (text_in (entry_in v 0))) (more (without_zeros (entry_in v 1)) (more (int_or_null c.int_field.result) (more (int_or_null c.int_field-2.result)
-    (more (blob_or_null c.hash_field.result.now) (more (blob_or_null (text_in (entry_in v 5))) (more (int_or_null c.int_field-3.result) none)))))) in
-    let acl : c.write_acl.new.draft ≡ draft_with (without_zeros (entry_in v 1)) c.write_field.new.draft =
+    let vs : Plains = more (blob_or_null (text_in (entry_at_index v 0))) (more (without_zeros (entry_at_index v 1)) (more (int_or_null c.int_field.result) (more (int_or_null c.int_field-2.result)
+    (more (blob_or_null c.hash_field.result.now) (more (blob_or_null (text_in (entry_at_index v 5))) (more (int_or_null c.int_field-3.result) none)))))) in
+    let acl : c.write_acl.new.draft ≡ draft_with (without_zeros (entry_at_index v 1)) c.write_field.new.draft =
     c.in_ok-write_acl.ensures.acl ∙ ap (λ (u : Plain). draft_with (without_zeros u) c.write_field.new.draft) (c.field_word.ensures (Kinds.Obj Tables.Acl) refl).1 in
     let given : c.write_int-3.new.draft ≡ draft_with_all vs (draft_with_open_list c.args.draft.now) =
     rw (c.in_ok-write_int-3.ensures, c.in_ok-write_field-2.ensures.text, c.in_ok-blob.ensures.ok, c.in_ok-write_int-2.ensures, c.in_ok-write_int.ensures, acl, c.in_ok-write_field.ensures.text, c.in_ok-open_list.ensures.ok) refl in

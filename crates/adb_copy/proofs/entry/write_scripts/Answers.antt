@@ -1,7 +1,7 @@
 use Rattle.std.proofs.Common.{◌≡◌, ℕ, List, refl}
 use Rattle.adb_view.specs.Adb.{payload_of}
 use Rattle.adb_view.specs.Plain.{Plain, Plains, none, more, blob_or_null, trimmed_object_or_null}
-use Rattle.adb_view.specs.Values.{entry_in, text_in, value_at}
+use Rattle.adb_view.specs.Values.{entry_at_index, text_in, value_at}
 use Rattle.adb_view.specs.declared.tables.Which.TheVariants as Tables
 use Rattle.adb_view.specs.declared.tables.Kind.TheVariants as Kinds
 use Rattle.adb_values.specs.Drafts.{draft_with_all, draft_with_open_list}
@@ -21,8 +21,8 @@ returns c =
     let p : List ℕ = payload_of c.args.adb in
     let v : Plain = value_at p (Kinds.Obj Tables.Scripts) c.args.scripts in
     let vs : Plains =
-    more (blob_or_null (text_in (entry_in v 0))) (more (blob_or_null (text_in (entry_in v 1))) (more (blob_or_null (text_in (entry_in v 2))) (more (blob_or_null (text_in (entry_in v 3)))
-    (more (blob_or_null (text_in (entry_in v 4))) (more (blob_or_null (text_in (entry_in v 5))) (more (blob_or_null (text_in (entry_in v 6))) none)))))) in
+    more (blob_or_null (text_in (entry_at_index v 0))) (more (blob_or_null (text_in (entry_at_index v 1))) (more (blob_or_null (text_in (entry_at_index v 2))) (more (blob_or_null (text_in (entry_at_index v 3)))
+    (more (blob_or_null (text_in (entry_at_index v 4))) (more (blob_or_null (text_in (entry_at_index v 5))) (more (blob_or_null (text_in (entry_at_index v 6))) none)))))) in
     let given : c.write_field-7.new.draft ≡ draft_with_all vs (draft_with_open_list c.args.draft.now) =
     rw (c.in_ok-write_field-7.ensures.text, c.in_ok-write_field-6.ensures.text, c.in_ok-write_field-5.ensures.text, c.in_ok-write_field-4.ensures.text, c.in_ok-write_field-3.ensures.text, c.in_ok-write_field-2.ensures.text, c.in_ok-write_field.ensures.text, c.in_ok-open_list.ensures.ok) refl in
     record {

@@ -4,7 +4,7 @@ use Rattle.adb_view.specs.Adb.{payload_of}
 use Rattle.adb_view.specs.Entries.{array_entries}
 use Rattle.adb_view.specs.Plain.{Plain}
 use Rattle.adb_schema.specs.adb_fields.Fields.{array_at}
-use Rattle.adb_view.specs.Values.{count_of, entries_in, entry_in, nth, text_in, value_at}
+use Rattle.adb_view.specs.Values.{count_of, entries_in, entry_at_index, nth, text_in, value_at}
 use Rattle.adb_view.specs.declared.tables.Kind.TheVariants as Kinds
 use Rattle.adb_view.specs.declared.tables.Which.TheVariants as Tables
 use Rattle.candidate_core.specs.Candidates.{dependency_in}
@@ -27,8 +27,8 @@ returns c = λ text d of at.
     let ws : List ℕ = array_entries c.objects_field-entries.result in
     let i : ℕ = c.args.index in
     let word : ℕ = c.entry_word-entry.result in
-    let list : Plain = entry_in (info_in_source c.args.source.now c.args.kept.word) 14 in
-    let same : array_at p (Kinds.Obj Tables.Dep) ws ≡ list = c.objects_field-entries.ensures.value ∙ ap (λ (w : ℕ). entry_in (value_at p (Kinds.Obj Tables.PkgInfo) w) 14) c.of-word.ensures in
+    let list : Plain = entry_at_index (info_in_source c.args.source.now c.args.kept.word) 14 in
+    let same : array_at p (Kinds.Obj Tables.Dep) ws ≡ list = c.objects_field-entries.ensures.value ∙ ap (λ (w : ℕ). entry_at_index (value_at p (Kinds.Obj Tables.PkgInfo) w) 14) c.of-word.ensures in
     let within : i < length ws = omega (arith, c.len.ensures.value, c.if-index-len.false) in
     let sound = c.objects_field-entries.ensures.sound in
     let there : i < count_of (entries_in list) =
@@ -39,7 +39,7 @@ returns c = λ text d of at.
     ∙ (ap (λ (l : Plain). nth (entries_in l) ((i + 1) - 1)) same ∙ ap (nth (entries_in list)) z) in
     let found : Some d ≡ dependency_in (value_at p (Kinds.Obj Tables.Dep) word) =
     sym at ∙ (sound_at (entries_in list) i ((c.requires.texts c.if-not-source.false).depends) there ∙ ap dependency_in (sym value)) in
-    let read : text_in (value_at p Kinds.Text c.word.result) ≡ text_in (entry_in (value_at p (Kinds.Obj Tables.Dep) word) 1) =
+    let read : text_in (value_at p Kinds.Text c.word.result) ≡ text_in (entry_at_index (value_at p (Kinds.Obj Tables.Dep) word) 1) =
     ap (λ (w : ℕ). text_in (value_at p Kinds.Text w)) c.word.ensures ∙ ap text_in (c.field_word-text.ensures Kinds.Text refl).1 in
     text_moved d.version (text_in (value_at p Kinds.Text c.word.result)) (text c.args.kept.source c.word.result) (of c.word.result)
     (provided_text (value_at p (Kinds.Obj Tables.Dep) word) d (text_in (value_at p Kinds.Text c.word.result)) found read)

@@ -7,8 +7,8 @@ use Rattle.adb_view.specs.Entries.{array_entries}
 use Rattle.adb_view.specs.Plain.{Plain, Plains}
 use Rattle.adb_schema.specs.adb_fields.Fields.{array_at}
 use Rattle.adb_schema.proofs.adb_fields.FieldReads.{entry_count}
-use Rattle.adb_schema.specs.SoundValues.{IsSoundDependency}
-use Rattle.adb_view.specs.Values.{count_of, entries_in, entry_in, nth, value_at}
+use Rattle.adb_schema.specs.SoundValues.{ObeysTextAndNumberRulesOfDependency}
+use Rattle.adb_view.specs.Values.{count_of, entries_in, entry_at_index, nth, value_at}
 use Rattle.adb_view.specs.declared.tables.Kind.TheVariants as Kinds
 use Rattle.adb_view.specs.declared.tables.Which.TheVariants as Tables
 use Rattle.dep_core.specs.Dependency.{Dependency}
@@ -30,19 +30,19 @@ read_entry-requires c =
     let ws : List ℕ = array_entries c.objects_field-entries.result in
     let i : ℕ = c.loop-i.i in
     let word : ℕ = c.entry_word-entry.result in
-    let list : Plain = entry_in (info_in_source c.args.source.now c.args.kept.word) 15 in
-    let same : array_at p (Kinds.Obj Tables.Dep) ws ≡ list = c.objects_field-entries.ensures.value ∙ ap (λ (w : ℕ). entry_in (value_at p (Kinds.Obj Tables.PkgInfo) w) 15) c.of-word.ensures in
+    let list : Plain = entry_at_index (info_in_source c.args.source.now c.args.kept.word) 15 in
+    let same : array_at p (Kinds.Obj Tables.Dep) ws ≡ list = c.objects_field-entries.ensures.value ∙ ap (λ (w : ℕ). entry_at_index (value_at p (Kinds.Obj Tables.PkgInfo) w) 15) c.of-word.ensures in
     let within : i < length ws = omega (arith, c.len-i-end.ensures.value, c.loop-i-test.true) in
     let sound = c.objects_field-entries.ensures.sound in
     let there : i < count_of (entries_in list) =
     subst (λ (l : Plain). i < count_of (entries_in l)) same (word_within p (Kinds.Obj Tables.Dep) ws i word sound within c.entry_word-entry.ensures) in
     let z : (i + 1) - 1 ≡ i = omega arith in
-    let value : value_at p (Kinds.Obj Tables.Dep) word ≡ entry_in list i =
+    let value : value_at p (Kinds.Obj Tables.Dep) word ≡ entry_at_index list i =
     word_value p (Kinds.Obj Tables.Dep) ws i word sound within c.entry_word-entry.ensures
     ∙ (ap (λ (l : Plain). nth (entries_in l) ((i + 1) - 1)) same ∙ ap (nth (entries_in list)) z) in
     record {
       sound = word_sound p (Kinds.Obj Tables.Dep) ws i word sound within c.entry_word-entry.ensures;
-      texts = λ known. subst IsSoundDependency (sym value) ((c.requires.package.texts known).provides i there);
+      texts = λ known. subst ObeysTextAndNumberRulesOfDependency (sym value) ((c.requires.package.texts known).provides i there);
     }
 
 pub is_met_as_known-requires-clause-entry : goal.is_met_as_known-requires-clause-entry
@@ -69,8 +69,8 @@ returns-then-is_met_as_known c =
     let ws : List ℕ = array_entries c.objects_field-entries.result in
     let i : ℕ = c.loop-i.i in
     let word : ℕ = c.entry_word-entry.result in
-    let list : Plain = entry_in (info_in_source c.args.source.now c.args.kept.word) 15 in
-    let same : array_at p (Kinds.Obj Tables.Dep) ws ≡ list = c.objects_field-entries.ensures.value ∙ ap (λ (w : ℕ). entry_in (value_at p (Kinds.Obj Tables.PkgInfo) w) 15) c.of-word.ensures in
+    let list : Plain = entry_at_index (info_in_source c.args.source.now c.args.kept.word) 15 in
+    let same : array_at p (Kinds.Obj Tables.Dep) ws ≡ list = c.objects_field-entries.ensures.value ∙ ap (λ (w : ℕ). entry_at_index (value_at p (Kinds.Obj Tables.PkgInfo) w) 15) c.of-word.ensures in
     let within : i < length ws = omega (arith, c.len-i-end.ensures.value, c.loop-i-test.true) in
     let sound = c.objects_field-entries.ensures.sound in
     let there : i < count_of (entries_in list) =
@@ -92,8 +92,8 @@ loop-i-preserved c =
     let ws : List ℕ = array_entries c.objects_field-entries.result in
     let i : ℕ = c.loop-i.i in
     let word : ℕ = c.entry_word-entry.result in
-    let list : Plain = entry_in (info_in_source c.args.source.now c.args.kept.word) 15 in
-    let same : array_at p (Kinds.Obj Tables.Dep) ws ≡ list = c.objects_field-entries.ensures.value ∙ ap (λ (w : ℕ). entry_in (value_at p (Kinds.Obj Tables.PkgInfo) w) 15) c.of-word.ensures in
+    let list : Plain = entry_at_index (info_in_source c.args.source.now c.args.kept.word) 15 in
+    let same : array_at p (Kinds.Obj Tables.Dep) ws ≡ list = c.objects_field-entries.ensures.value ∙ ap (λ (w : ℕ). entry_at_index (value_at p (Kinds.Obj Tables.PkgInfo) w) 15) c.of-word.ensures in
     let within : i < length ws = omega (arith, c.len-i-end.ensures.value, c.loop-i-test.true) in
     let sound = c.objects_field-entries.ensures.sound in
     let there : i < count_of (entries_in list) =
@@ -113,9 +113,9 @@ pub returns : goal.returns
 returns c =
     let p : List ℕ = payload_of c.args.source.now.adb in
     let ws : List ℕ = array_entries c.objects_field-entries.result in
-    let list : Plain = entry_in (info_in_source c.args.source.now c.args.kept.word) 15 in
+    let list : Plain = entry_at_index (info_in_source c.args.source.now c.args.kept.word) 15 in
     let values : Plains = entries_in list in
-    let same : array_at p (Kinds.Obj Tables.Dep) ws ≡ list = c.objects_field-entries.ensures.value ∙ ap (λ (w : ℕ). entry_in (value_at p (Kinds.Obj Tables.PkgInfo) w) 15) c.of-word.ensures in
+    let same : array_at p (Kinds.Obj Tables.Dep) ws ≡ list = c.objects_field-entries.ensures.value ∙ ap (λ (w : ℕ). entry_at_index (value_at p (Kinds.Obj Tables.PkgInfo) w) 15) c.of-word.ensures in
     let count : length ws ≡ count_of values = entry_count p (Kinds.Obj Tables.Dep) ws c.objects_field-entries.ensures.sound ∙ ap (λ (l : Plain). count_of (entries_in l)) same in
     let last : c.loop-i.i ≡ count_of values = omega (arith, count, c.len-i-end.ensures.value, c.loop-i-test.false) in
     let all = ap (λ (n : ℕ). dependencies_to n values) last ∙ all_dependencies values in

@@ -2,7 +2,7 @@ use Rattle.std.proofs.Common.{◌≡◌, ◌∙◌, List, ℕ, refl, ap, subst, 
 use Rattle.std.specs.Prelude.{IfSome, Option}
 use Rattle.adb_view.specs.Adb.{payload_of}
 use Rattle.adb_view.specs.Plain.{Plain}
-use Rattle.adb_view.specs.Values.{entry_in, text_in, value_at}
+use Rattle.adb_view.specs.Values.{entry_at_index, text_in, value_at}
 use Rattle.adb_view.specs.declared.tables.Kind.TheVariants as Kinds
 use Rattle.adb_view.specs.declared.tables.Which.TheVariants as Tables
 use Rattle.dep_core.specs.Meets.{dependency}
@@ -20,7 +20,7 @@ returns c =
       source = refl;
       text = subst (λ (o : Option (List ℕ)). IfSome o (λ v. v ≡ text)) (sym c.same_version.ensures) (elim c.if-is_some.branch [
         | then-is_some w ↦
-            let same : text ≡ text_in (entry_in value 1) =
+            let same : text ≡ text_in (entry_at_index value 1) =
             ap (λ (word : ℕ). text_in (value_at p Kinds.Text word)) (w.word-is ∙ w.word-word.ensures) ∙ ap text_in (w.field_word.ensures Kinds.Text refl).1 in
             provided_text value (dependency c.args.found.now) text c.requires.found same
         | else-is_some w ↦ none_read c.args.found.now.version text (sym c.is_some.ensures ∙ w.if-is_some.false)

@@ -3,7 +3,7 @@ use Rattle.std.specs.Prelude.{option_map, slice_get}
 use Rattle.pkg_core.proofs.adb_fields.NameLists.{count-listed}
 use Rattle.adb_view.specs.Plain.{Plain, Plains}
 use Rattle.pkg_core.specs.adb_schema.Views.{idb_value}
-use Rattle.adb_view.specs.Values.{count_of, entries_in, entry_in}
+use Rattle.adb_view.specs.Values.{count_of, entries_in, entry_at_index}
 use Rattle.db_core.specs.EntrySeen.{payload_of_database}
 use Rattle.db_core.specs.Packages.{packages_of_database_value}
 use Rattle.db_core.proofs.Places.{nth_listed}
@@ -11,12 +11,12 @@ use Rattle.db_core.proofs.db.package_of_database.Goals as goal
 
 pub package_at-requires : goal.package_at-requires
 package_at-requires c =
-    let vs : Plains = entries_in (entry_in (idb_value c.in-Some.idb) 0) in
+    let vs : Plains = entries_in (entry_at_index (idb_value c.in-Some.idb) 0) in
     subst (λ (n : ℕ). c.args.i < n) (ap (λ o. length (packages_of_database_value (option_map idb_value o))) c.in-Some.is ∙ sym (count-listed vs)) c.requires
 
 pub returns : goal.returns
 returns c =
-    let vs : Plains = entries_in (entry_in (idb_value c.in-Some.idb) 0) in
+    let vs : Plains = entries_in (entry_at_index (idb_value c.in-Some.idb) 0) in
     let within : c.args.i < count_of vs = subst (λ (n : ℕ). c.args.i < n) (ap (λ o. length (packages_of_database_value (option_map idb_value o))) c.in-Some.is ∙ sym (count-listed vs)) c.requires in
     record {
       value =

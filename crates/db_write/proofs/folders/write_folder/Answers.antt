@@ -4,7 +4,7 @@ use Rattle.adb_view.specs.declared.tables.Kind.TheVariants as Kinds
 use Rattle.adb_view.specs.declared.tables.Which.TheVariants as Tables
 use Rattle.adb_view.specs.Plain.{Plain, Plains, none, more, blob_or_null, array_or_null, trimmed_object_or_null}
 use Rattle.adb_copy.specs.adb_fields.Repeated.{files_in, list_of, name_of}
-use Rattle.adb_view.specs.Values.{entries_in, entry_in, value_at}
+use Rattle.adb_view.specs.Values.{entries_in, entry_at_index, value_at}
 use Rattle.adb_copy.specs.Zeros.{without_zeros}
 use Rattle.adb_copy.proofs.Known.{known_closed_object, known_opened}
 use Rattle.adb_copy.specs.adb_values.Drafts.{draft_with, draft_with_all, draft_with_open_list}
@@ -20,8 +20,8 @@ pub returns : goal.returns
 returns c =
     let p : List ℕ = payload_of c.args.adb in
     let v : Plain = value_at p (Kinds.Obj Tables.Dir) c.args.folder in
-    let vs : Plains = more (blob_or_null (name_of v)) (more (without_zeros (entry_in v 1)) (more (array_or_null (owned_entries_without_zeros (files_in v) c.args.flags.now)) none)) in
-    let acl : c.write_acl.new.draft ≡ draft_with (without_zeros (entry_in v 1)) c.write_field.new.draft =
+    let vs : Plains = more (blob_or_null (name_of v)) (more (without_zeros (entry_at_index v 1)) (more (array_or_null (owned_entries_without_zeros (files_in v) c.args.flags.now)) none)) in
+    let acl : c.write_acl.new.draft ≡ draft_with (without_zeros (entry_at_index v 1)) c.write_field.new.draft =
     c.in_ok-write_acl.ensures.acl ∙ ap (λ (u : Plain). draft_with (without_zeros u) c.write_field.new.draft) (c.field_word-acl.ensures (Kinds.Obj Tables.Acl) refl).1 in
     let files : c.write_files.new.draft ≡ draft_with (array_or_null (owned_entries_without_zeros (files_in v) c.args.flags.now)) c.write_acl.new.draft =
     c.in_ok-write_files.ensures.files ∙ ap (λ (u : Plain). draft_with (array_or_null (owned_entries_without_zeros (list_of (entries_in u)) c.args.flags.now)) c.write_acl.new.draft) c.objects_field-files.ensures.value in

@@ -1,7 +1,7 @@
 use Rattle.std.proofs.Common.{◌≡◌, ◌++◌}
-use Rattle.demo_lines.specs.Lines.{names_not_needed_by_first_n}
+use Rattle.demo_lines.specs.Lines.{names_unneeded_by_first_n_up_to}
 use Rattle.demo_lines.proofs.lines.push_top_names.Given as goal
 
 -- the names so far
 abbrev pub invariant-loop-i : goal.invariant-loop-i
-invariant-loop-i l = l.words ≡ l.fn.words ++ names_not_needed_by_first_n l.n l.i
+invariant-loop-i l = l.words ≡ l.fn.words ++ names_unneeded_by_first_n_up_to l.n l.i

@@ -1,7 +1,7 @@
 -- What the search says of the index of the name, and what an edit there leaves.
 use Rattle.std.proofs.Common.{refl, sym, subst}
-use Rattle.dep_core.specs.World.{IsWorld}
-use Rattle.dep_core.proofs.Worlds.{IsWorld-world_with_dependency_set}
+use Rattle.dep_core.specs.World.{IsWorldSortedByName}
+use Rattle.dep_core.proofs.Worlds.{IsWorldSortedByName-world_with_dependency_put_in_name_order}
 use Rattle.dep_core.proofs.Places.{add-found, add-absent}
 use Rattle.dep_core.proofs.world.put.Goals as goal
 
@@ -11,7 +11,7 @@ returns-in-Ok c =
     record {
       ok = placed;
       err = tt;
-      still_world = subst IsWorld (sym placed) (IsWorld-world_with_dependency_set c.args.entry c.args.entries.now.items c.requires.dependency c.requires.world);
+      still_world = subst IsWorldSortedByName (sym placed) (IsWorldSortedByName-world_with_dependency_put_in_name_order c.args.entry c.args.entries.now.items c.requires.dependency c.requires.world);
     }
 
 pub returns-in_ok-insert-in-Err : goal.returns-in_ok-insert-in-Err
@@ -20,5 +20,5 @@ returns-in_ok-insert-in-Err c =
     record {
       ok = placed;
       err = tt;
-      still_world = subst IsWorld (sym placed) (IsWorld-world_with_dependency_set c.args.entry c.args.entries.now.items c.requires.dependency c.requires.world);
+      still_world = subst IsWorldSortedByName (sym placed) (IsWorldSortedByName-world_with_dependency_put_in_name_order c.args.entry c.args.entries.now.items c.requires.dependency c.requires.world);
     }

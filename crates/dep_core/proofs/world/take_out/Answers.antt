@@ -1,7 +1,7 @@
 -- What the search says of the index of the name, and what an edit there leaves.
 use Rattle.std.proofs.Common.{sym, subst}
-use Rattle.dep_core.specs.World.{IsWorld}
-use Rattle.dep_core.proofs.Worlds.{IsWorld-without}
+use Rattle.dep_core.specs.World.{IsWorldSortedByName}
+use Rattle.dep_core.proofs.Worlds.{IsWorldSortedByName-without}
 use Rattle.dep_core.proofs.Places.{del-found, del-absent}
 use Rattle.dep_core.proofs.world.take_out.Goals as goal
 
@@ -11,7 +11,7 @@ returns-in-Ok c =
     record {
       found = sym gone.1;
       rest = gone.0;
-      still_world = subst IsWorld (sym gone.0) (IsWorld-without c.args.name.now c.args.entries.now.items c.requires);
+      still_world = subst IsWorldSortedByName (sym gone.0) (IsWorldSortedByName-without c.args.name.now c.args.entries.now.items c.requires);
     }
 
 pub returns-in-Err : goal.returns-in-Err

@@ -1,6 +1,6 @@
-use Rattle.base_core.specs.Listed.{AreSortedDistinctNames}
+use Rattle.base_core.specs.Listed.{AreSortedDistinctTexts}
 use Rattle.std.proofs.Common.{◌≡◌, ◌∙◌, ◌++◌, All, Option, Ok, List, map, ap, sym, subst, true, false}
-use Rattle.added_packages.specs.adb_write.Canonical.{overflow_of}
+use Rattle.added_packages.specs.adb_write.Canonical.{counts_at_first_overflow}
 use Rattle.change_report.specs.change_files.PlanLists.{sorted_distinct_names}
 use Rattle.change_report.specs.change_inputs.Answers.{Agrees}
 use Rattle.change_report.specs.change_outcome.ChangeOutcome.{name_if_needed, unless_overflow}
@@ -18,7 +18,7 @@ pub removals_of-requires : goal.removals_of-requires
 removals_of-requires c =
     let names = c.requires.plan.1.2.names in
     once_reserved c.removals.result.now (name_if_needed c.is_from_text.result text_database_name)
-    (subst (All IsUnreservedName) (sym c.removals.ensures) names.removals) (subst AreSortedDistinctNames (sym c.removals.ensures) names.removals_rise)
+    (subst (All IsUnreservedName) (sym c.removals.ensures) names.removals) (subst AreSortedDistinctTexts (sym c.removals.ensures) names.removals_rise)
     (text_once c.is_from_text.result) (text_reserved c.is_from_text.result)
 
 pub returns-then-is_idle-clause-stage : goal.returns-then-is_idle-clause-stage
@@ -52,7 +52,7 @@ begin_stage-requires c =
 pub returns-in_err-stage-clause-told : goal.returns-in_err-stage-clause-told
 returns-in_err-stage-clause-told c =
     let removed : c.in_ok-removals.removals ≡ removals_of_plan c.args.plan.now = c.in_ok-removals.ensures ∙ (λ i. sorted_distinct_names (c.removals.ensures i ++ name_if_needed (c.is_from_text.ensures i) text_database_name)) in
-    with_error (λ r. Agrees (λ _. true) r (unless_overflow (overflow_of (value_of_intent (intent_of_lists (removals_of_plan c.args.plan.now) (map name_of_write c.args.writes.now)))) true)) c.from_residual-in_err-stage.result _ c.from_residual-in_err-stage.ensures.1
+    with_error (λ r. Agrees (λ _. true) r (unless_overflow (counts_at_first_overflow (value_of_intent (intent_of_lists (removals_of_plan c.args.plan.now) (map name_of_write c.args.writes.now)))) true)) c.from_residual-in_err-stage.result _ c.from_residual-in_err-stage.ensures.1
     (same_told {A = Staging} {B = Option Staging} (λ _. true) (λ _. true) _ c.in_ok-removals.removals c.in_ok-names.names (removals_of_plan c.args.plan.now) (map name_of_write c.args.writes.now) removed c.in_ok-names.ensures c.in_err-stage.ensures.told)
 
 pub returns-clause-stage : goal.returns-clause-stage
@@ -65,4 +65,4 @@ returns-clause-stage c =
 pub returns-clause-told : goal.returns-clause-told
 returns-clause-told c =
     let removed : c.in_ok-removals.removals ≡ removals_of_plan c.args.plan.now = c.in_ok-removals.ensures ∙ (λ i. sorted_distinct_names (c.removals.ensures i ++ name_if_needed (c.is_from_text.ensures i) text_database_name)) in
-    (λ i. unless_overflow (overflow_of (value_of_intent (intent_of_lists (sym removed i) (sym c.in_ok-names.ensures i)))) true) ∙ c.in_ok-stage.ensures.told
+    (λ i. unless_overflow (counts_at_first_overflow (value_of_intent (intent_of_lists (sym removed i) (sym c.in_ok-names.ensures i)))) true) ∙ c.in_ok-stage.ensures.told

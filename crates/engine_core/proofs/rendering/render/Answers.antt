@@ -1,6 +1,6 @@
 use Rattle.std.proofs.Common.{◌≡◌, Bool, Option, Ok, List, ap, map, refl, sym, subst, true}
 use Rattle.std.specs.Prelude.{IfErr, slice_get, Some}
-use Rattle.added_packages.specs.adb_write.Canonical.{overflow_of}
+use Rattle.added_packages.specs.adb_write.Canonical.{counts_at_first_overflow}
 use Rattle.change_report.specs.change_inputs.declared.root.Refused.TheVariants.{Memory}
 use Rattle.change_report.specs.change_outcome.ChangeOutcome.{unless_overflow}
 use Rattle.change_report.specs.db_core.Members.{Member}
@@ -69,6 +69,6 @@ returns-clause-rendered c = record {
     each = c.in_ok-writes.ensures.each;
   };
   stage = subst (λ (ws : List StagedWrite). IsStageOf (removals_of_plan c.args.plan.now) (map name_of_write ws) c.in_ok-stage.stage) c.deref.ensures.value c.in_ok-stage.ensures.stage;
-  fits = subst (λ (ws : List StagedWrite). unless_overflow (overflow_of (value_of_intent (intent_of_lists (removals_of_plan c.args.plan.now) (map name_of_write ws)))) true ≡ Ok true) c.deref.ensures.value c.in_ok-stage.ensures.told;
+  fits = subst (λ (ws : List StagedWrite). unless_overflow (counts_at_first_overflow (value_of_intent (intent_of_lists (removals_of_plan c.args.plan.now) (map name_of_write ws)))) true ≡ Ok true) c.deref.ensures.value c.in_ok-stage.ensures.told;
   report = c.in_ok-report.ensures;
 }

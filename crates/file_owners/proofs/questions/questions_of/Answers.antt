@@ -2,7 +2,7 @@ use Rattle.std.proofs.Common.{◌<◌, ℕ, List, length, sym, subst, arith}
 use Rattle.std.specs.Prelude.{All}
 use Rattle.path_claims.specs.adb_fields.Fields.{array_at}
 use Rattle.path_claims.proofs.adb_fields.FieldReads.{entry_count}
-use Rattle.db_core.specs.adb_schema.SoundValues.{IsSoundDependency}
+use Rattle.db_core.specs.adb_schema.SoundValues.{ObeysTextAndNumberRulesOfDependency}
 use Rattle.db_core.proofs.adb_schema.SoundLeaves.{each_at}
 use Rattle.adb_view.specs.Values.{entries_in, value_at}
 use Rattle.adb_view.specs.declared.tables.Kind.{Kind}
@@ -31,8 +31,8 @@ question_of-requires-clause-texts c =
     let ws : List ℕ = array_entries c.args.entries in
     let i : ℕ = c.loop-i.i in
     let within : i < length ws = omega (arith, c.len-i-end.ensures.value, c.loop-i-test.true) in
-    subst IsSoundDependency (sym (word_value p k ws i c.entry_word.result c.requires.sound within c.entry_word.ensures))
-    (each_at IsSoundDependency (entries_in (array_at p k ws)) i c.requires.texts (word_within p k ws i c.entry_word.result c.requires.sound within c.entry_word.ensures))
+    subst ObeysTextAndNumberRulesOfDependency (sym (word_value p k ws i c.entry_word.result c.requires.sound within c.entry_word.ensures))
+    (each_at ObeysTextAndNumberRulesOfDependency (entries_in (array_at p k ws)) i c.requires.texts (word_within p k ws i c.entry_word.result c.requires.sound within c.entry_word.ensures))
 
 pub loop-i-preserved : goal.loop-i-preserved
 loop-i-preserved c =

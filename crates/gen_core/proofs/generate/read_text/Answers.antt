@@ -1,7 +1,7 @@
 use Rattle.std.proofs.Common.{◌≡◌, ℕ, List, [], Option, Some, None, Ok, Err, Result, sym, subst, ap, ◌∙◌}
 use Rattle.std.proofs.lemmas.Result.{err_from_is_err_and}
 use Rattle.adb_view.specs.declared.tables.Which.{Which}
-use Rattle.adb_dump.specs.ReadBack.{value_of_lines_after_first}
+use Rattle.adb_dump.specs.ReadBack.{value_of_lines_below_schema_line}
 use Rattle.gen_core.specs.Cursors.{CursorState, cursor_after_line}
 use Rattle.gen_core.specs.Generated.{dumped_root}
 use Rattle.gen_core.specs.Reads.{IsTextFault, block_taken, table_and_draft_of_root, table_read}
@@ -35,7 +35,7 @@ returns-in_err-read_root-clause-err c =
     let place : c.read_table.new.cursor ≡ after_first t = next_place c.new-cursor.result _ c.read_table.new.cursor c.new-cursor.ensures c.in_ok-which.ensures.next in
     handed_on c.from_residual-in_err-read_root.result fault (λ (f : GenFault). IsTextFault f whole) (err_from_is_err_and c.from_residual-in_err-read_root.result c.from_residual-in_err-read_root.ensures.1)
     (same_fault fault (rest_taken t which c.args.draft.now) whole (λ n e. bad_value t which c.args.draft.now n table e)
-    (subst (λ (p : CursorState). IsTextFault fault (block_taken (value_of_lines_after_first which p.lines) (p.lines, []) c.args.draft.now p)) place c.in_err-read_root.ensures.err))
+    (subst (λ (p : CursorState). IsTextFault fault (block_taken (value_of_lines_below_schema_line which p.lines) (p.lines, []) c.args.draft.now p)) place c.in_err-read_root.ensures.err))
 
 pub returns-then-has_rest-clause-err : goal.returns-then-has_rest-clause-err
 returns-then-has_rest-clause-err c =
@@ -46,7 +46,7 @@ returns-then-has_rest-clause-err c =
     let place : c.read_table.new.cursor ≡ after_first t = next_place c.new-cursor.result _ c.read_table.new.cursor c.new-cursor.ensures c.in_ok-which.ensures.next in
     bad_fault c.bad_line.result c.read_root.new.cursor.number whole c.bad_line.ensures
     (rest_left t which c.args.draft.now (c.read_root.new.draft, c.read_root.new.cursor) table
-    (subst (λ (p : CursorState). block_taken (value_of_lines_after_first which p.lines) (p.lines, []) c.args.draft.now p ≡ taken c.read_root.new.draft c.read_root.new.cursor) place c.in_ok-read_root.ensures.ok) c.if-has_rest.ensures)
+    (subst (λ (p : CursorState). block_taken (value_of_lines_below_schema_line which p.lines) (p.lines, []) c.args.draft.now p ≡ taken c.read_root.new.draft c.read_root.new.cursor) place c.in_ok-read_root.ensures.ok) c.if-has_rest.ensures)
 
 pub returns-clause-ok : goal.returns-clause-ok
 returns-clause-ok c =
@@ -55,4 +55,4 @@ returns-clause-ok c =
     let table = begun c.new-cursor.result _ (Some which) c.new-cursor.ensures c.in_ok-which.ensures.ok in
     let place : c.read_table.new.cursor ≡ after_first t = next_place c.new-cursor.result _ c.read_table.new.cursor c.new-cursor.ensures c.in_ok-which.ensures.next in
     all_read t which c.args.draft.now (c.read_root.new.draft, c.read_root.new.cursor) table
-    (subst (λ (p : CursorState). block_taken (value_of_lines_after_first which p.lines) (p.lines, []) c.args.draft.now p ≡ taken c.read_root.new.draft c.read_root.new.cursor) place c.in_ok-read_root.ensures.ok) c.if-has_rest.ensures
+    (subst (λ (p : CursorState). block_taken (value_of_lines_below_schema_line which p.lines) (p.lines, []) c.args.draft.now p ≡ taken c.read_root.new.draft c.read_root.new.cursor) place c.in_ok-read_root.ensures.ok) c.if-has_rest.ensures

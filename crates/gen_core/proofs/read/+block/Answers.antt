@@ -11,7 +11,7 @@ use Rattle.adb_view.specs.declared.tables.Kind.{Kind}
 use Rattle.adb_view.specs.declared.tables.Kind.TheVariants.{Int, Text, Obj, TextArr, ObjArr}
 use Rattle.adb_values.specs.Drafts.{DraftState, draft_with, draft_with_open_list}
 use Rattle.adb_dump.specs.Dump.{Line}
-use Rattle.adb_dump.specs.ReadBack.{ResultOrBadLine, strip_prefix, array_unless_empty, block_read, entries_read_with_recursion_bound, fields_read, named_read, object_unless_empty}
+use Rattle.adb_dump.specs.ReadBack.{ResultOrBadLine, strip_prefix, array_or_bad_line_if_empty, block_read, entries_read_with_recursion_bound, fields_read, named_read, object_or_bad_line_if_empty}
 use Rattle.gen_core.specs.Cursors.{CursorState, cursor_after_line, block_at, line_of_block}
 use Rattle.gen_core.specs.Reads.{DraftOrBadLine, IsTextFault, block_taken, end_or_bad_line, entry_block_read, line_read, draft_and_cursor_after_line, values_taken}
 use Rattle.gen_core.specs.declared.generate.GenFault.{GenFault}
@@ -37,7 +37,7 @@ read_array-returns-in_err-read_entries-clause-err t c =
     let whole = block_taken (block_read (array s) block.0) block c.args.draft.now c.args.cursor.now in
     handed_on c.from_residual-in_err-read_entries.result c.in_err-read_entries.field-0.0 (λ (fault : GenFault). IsTextFault fault whole) (err_from_is_err_and c.from_residual-in_err-read_entries.result c.from_residual-in_err-read_entries.ensures.1)
     (same_fault c.in_err-read_entries.field-0.0 (values_taken read block c.open_list.new.self c.args.cursor.now) whole
-    (λ n e. ap (λ (r : ResultOrBadLine Plain). block_taken r block c.args.draft.now c.args.cursor.now) (array_read s block.0) ∙ list_bad read array_unless_empty block c.args.draft.now c.open_list.new.self c.args.cursor.now n e)
+    (λ n e. ap (λ (r : ResultOrBadLine Plain). block_taken r block c.args.draft.now c.args.cursor.now) (array_read s block.0) ∙ list_bad read array_or_bad_line_if_empty block c.args.draft.now c.open_list.new.self c.args.cursor.now n e)
     c.in_err-read_entries.ensures.err)
 
 pub read_array-returns-clause-ok : goal.read_array-returns-clause-ok
@@ -46,7 +46,7 @@ read_array-returns-clause-ok t c =
     let block = block_at c.args.depth c.args.cursor.now.lines in
     let read = entries_read_with_recursion_bound (block_read s) (length block.0) block.0 in
     ap (λ (r : ResultOrBadLine Plain). block_taken r block c.args.draft.now c.args.cursor.now) (array_read s block.0)
-    ∙ list_closed read array_unless_empty array_or_null block c.args.draft.now c.args.cursor.now (array_made (block_read s) block.0 c.in-Some._line.now c.in-Some.ensures) (c.read_entries.new.draft, c.read_entries.new.cursor)
+    ∙ list_closed read array_or_bad_line_if_empty array_or_null block c.args.draft.now c.args.cursor.now (array_made (block_read s) block.0 c.in-Some._line.now c.in-Some.ensures) (c.read_entries.new.draft, c.read_entries.new.cursor)
     (subst (λ (d : DraftState). values_taken read block d c.args.cursor.now ≡ taken c.read_entries.new.draft c.read_entries.new.cursor) c.in_ok-open_list.ensures.ok c.in_ok-read_entries.ensures.ok) c.close_array.new.self c.in_ok-close_array.ensures.ok
 
 -- ---- kinds
@@ -265,7 +265,7 @@ read_object-returns-in_err-read_fields-clause-err t c =
     handed_on c.from_residual-in_err-read_fields.result c.in_err-read_fields.field-0.0 (λ (fault : GenFault). IsTextFault fault whole) (err_from_is_err_and c.from_residual-in_err-read_fields.result c.from_residual-in_err-read_fields.ensures.1)
     (same_fault c.in_err-read_fields.field-0.0 (values_taken read block c.open_list.new.self c.args.cursor.now) whole
     (λ n e. ap (λ (r : ResultOrBadLine Plain). block_taken r block c.args.draft.now c.args.cursor.now) (table_read c.args.which block.0)
-    ∙ list_bad (fields_read (shapes_of (table c.args.which)) block.0) object_unless_empty block c.args.draft.now c.open_list.new.self c.args.cursor.now n (subst (λ (fs : List Field). values_taken (fields_read (shapes_of fs) block.0) block c.open_list.new.self c.args.cursor.now ≡ Err n) c.fields_of.ensures e))
+    ∙ list_bad (fields_read (shapes_of (table c.args.which)) block.0) object_or_bad_line_if_empty block c.args.draft.now c.open_list.new.self c.args.cursor.now n (subst (λ (fs : List Field). values_taken (fields_read (shapes_of fs) block.0) block c.open_list.new.self c.args.cursor.now ≡ Err n) c.fields_of.ensures e))
     c.in_err-read_fields.ensures.err)
 
 pub read_object-returns-clause-ok : goal.read_object-returns-clause-ok
@@ -273,7 +273,7 @@ read_object-returns-clause-ok t c =
     let block = block_at c.args.depth c.args.cursor.now.lines in
     let read = fields_read (shapes_of (table c.args.which)) block.0 in
     ap (λ (r : ResultOrBadLine Plain). block_taken r block c.args.draft.now c.args.cursor.now) (table_read c.args.which block.0)
-    ∙ list_closed read object_unless_empty trimmed_object_or_null block c.args.draft.now c.args.cursor.now (object_made (shapes_of (table c.args.which)) block.0 c.in-Some._line.now c.in-Some.ensures) (c.read_fields.new.draft, c.read_fields.new.cursor)
+    ∙ list_closed read object_or_bad_line_if_empty trimmed_object_or_null block c.args.draft.now c.args.cursor.now (object_made (shapes_of (table c.args.which)) block.0 c.in-Some._line.now c.in-Some.ensures) (c.read_fields.new.draft, c.read_fields.new.cursor)
     (subst (λ (d : DraftState). values_taken read block d c.args.cursor.now ≡ taken c.read_fields.new.draft c.read_fields.new.cursor) c.in_ok-open_list.ensures.ok
     (subst (λ (fs : List Field). values_taken (fields_read (shapes_of fs) block.0) block c.open_list.new.self c.args.cursor.now ≡ taken c.read_fields.new.draft c.read_fields.new.cursor) c.fields_of.ensures c.in_ok-read_fields.ensures.ok))
     c.close_object.new.self c.in_ok-close_object.ensures.ok

@@ -1,6 +1,6 @@
 use Rattle.std.proofs.Common.{◌≡◌, [], Ok, sym, subst}
 use Rattle.std.specs.Prelude.{OnOk, IfErr}
-use Rattle.adb_dump.specs.ReadBack.{value_of_lines_after_first}
+use Rattle.adb_dump.specs.ReadBack.{value_of_lines_below_schema_line}
 use Rattle.gen_core.specs.Reads.{DraftOrBadLine, IsTextFault, block_taken}
 use Rattle.gen_core.proofs.KindShapes.{root_taken_as}
 use Rattle.gen_core.proofs.Reading.{taken}

@@ -3,7 +3,7 @@ use Rattle.std.specs.Option.{option_map_or}
 use Rattle.candidate_core.specs.adb_fields.ListValue.{list_value}
 use Rattle.candidate_core.specs.adb_fields.Repeated.{list_of}
 use Rattle.candidate_core.proofs.adb_fields.Listed.{none_listed}
-use Rattle.adb_view.specs.Values.{entries_in, entry_in, nth}
+use Rattle.adb_view.specs.Values.{entries_in, entry_at_index, nth}
 use Rattle.dep_core.specs.DependencyText.{dep_text}
 use Rattle.candidate_core.specs.Candidates.{dependency_in}
 use Rattle.report_core.specs.Reports.{report_line, report_lines}
@@ -15,7 +15,7 @@ loop-i-preserved c =
     let n : c.loop-i.i + 1 - 1 ≡ c.loop-i.i = omega arith in
     let vs = entries_in (list_value c.args.depends.now) in
     told _ _ (option_map_or (λ d. report_line (dep_text d)) (dependency_in (nth vs c.loop-i.i)) []) _ (dependency_lines (drop (c.loop-i.i + 1) (list_of vs))) _
-    (c.in_ok-push_entry.ensures ∙ ap (λ v. c.loop-i.report.items ++ option_map_or (λ d. report_line (dep_text d)) (dependency_in v) []) (c.get.ensures ∙ ap (entry_in (list_value c.args.depends.now)) n))
+    (c.in_ok-push_entry.ensures ∙ ap (λ v. c.loop-i.report.items ++ option_map_or (λ d. report_line (dep_text d)) (dependency_in v) []) (c.get.ensures ∙ ap (entry_at_index (list_value c.args.depends.now)) n))
     (dependency_left vs c.loop-i.i (omega (arith, c.len-i-end.ensures.value, c.loop-i-test.true)))
     c.loop-i.invariant
 

@@ -4,7 +4,7 @@ use Rattle.candidate_core.specs.adb_fields.ListValue.{list_value}
 use Rattle.candidate_core.specs.adb_fields.Paths.{path_of}
 use Rattle.candidate_core.specs.adb_fields.Repeated.{list_of, name_of}
 use Rattle.candidate_core.proofs.adb_fields.Listed.{next_listed, none_listed}
-use Rattle.adb_view.specs.Values.{entries_in, entry_in, nth}
+use Rattle.adb_view.specs.Values.{entries_in, entry_at_index, nth}
 use Rattle.report_core.specs.Reports.{report_line, report_lines}
 use Rattle.installed_info.proofs.LineSteps.{all_told, told}
 use Rattle.installed_info.proofs.paths.push_files.Goals as goal
@@ -15,7 +15,7 @@ loop-i-preserved c =
     let vs = entries_in (list_value c.args.files.now) in
     let lines : List Plain → List ℕ = λ files. report_lines (map (λ file. path_of c.args.folder.now (name_of file)) files) in
     told _ _ (report_line (path_of c.args.folder.now (name_of (nth vs c.loop-i.i)))) (lines (drop c.loop-i.i (list_of vs))) (lines (drop (c.loop-i.i + 1) (list_of vs))) _
-    (c.in_ok-push_path.ensures ∙ ap (λ t. c.loop-i.report.items ++ report_line (path_of c.args.folder.now t)) (c.name.ensures ∙ ap name_of (c.get.ensures ∙ ap (entry_in (list_value c.args.files.now)) n)))
+    (c.in_ok-push_path.ensures ∙ ap (λ t. c.loop-i.report.items ++ report_line (path_of c.args.folder.now t)) (c.name.ensures ∙ ap name_of (c.get.ensures ∙ ap (entry_at_index (list_value c.args.files.now)) n)))
     (ap lines (next_listed vs c.loop-i.i (omega (arith, c.len-i-end.ensures.value, c.loop-i-test.true))))
     c.loop-i.invariant
 

@@ -1,7 +1,7 @@
 use Rattle.std.proofs.Common.{◌≡◌, ◌≤◌, ◌-◌, true}
 use Rattle.base_core.specs.Calls.{IfObservable}
 use Rattle.base_core.specs.Crash.{Since}
-use Rattle.base_core.specs.Faults.{CountsOnlyRise, CountsNoNewFault}
+use Rattle.base_core.specs.Faults.{CountsOnlyRise, CountsNoNewFaultOrLackOfMemory}
 use Rattle.journal_core.specs.Kept.{KeepsIntentWhileStageShrinks}
 use Rattle.journal_core.specs.Staged.{action_count}
 use Rattle.journal_core.proofs.OldOrNew.{BytesOn}
@@ -16,7 +16,7 @@ invariant-loop-stage g l =
     × ActsOn l.fn.stage l.stage (g.T.Tree.history l.fn.tree) (g.T.Tree.history l.tree)
     × Proper l.fn.stage (g.T.Tree.history l.fn.tree) (g.T.Tree.counts l.fn.tree).misuses (g.T.Tree.counts l.tree).misuses
     × CountsOnlyRise (g.T.Tree.counts l.fn.tree) (g.T.Tree.counts l.tree)
-    × CountsNoNewFault (g.T.Tree.counts l.fn.tree) (g.T.Tree.counts l.tree)
+    × CountsNoNewFaultOrLackOfMemory (g.T.Tree.counts l.fn.tree) (g.T.Tree.counts l.tree)
     × ReadsOn l.fn.stage (g.T.Tree.history l.fn.tree) (g.T.Tree.history l.tree)
     × IfObservable (g.T.Tree.history l.fn.tree) (λ v. Since (KeepsIntentWhileStageShrinks v) (g.T.Tree.history l.fn.tree) (g.T.Tree.history l.tree))
     × BytesOn l.fn.stage (g.T.Tree.history l.fn.tree) (g.T.Tree.history l.tree)

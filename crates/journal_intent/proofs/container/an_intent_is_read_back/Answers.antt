@@ -2,7 +2,7 @@ use Rattle.std.proofs.Common.{◌∙◌, Some, ap, arith, refl}
 use Rattle.adb_sound.specs.adb_schema.declared.read.TheConstants.{INTENT_WORD}
 use Rattle.adb_sound.specs.Root.{IsValidRootValueOfTable}
 use Rattle.adb_view.specs.declared.tables.Which.TheVariants as Tables
-use Rattle.adb_sound.specs.adb_write.Canonical.{overflow_of}
+use Rattle.adb_sound.specs.adb_write.Canonical.{counts_at_first_overflow}
 use Rattle.adb_sound.specs.adb_write.Size.{payload_size_of, value_count}
 use Rattle.journal_intent.specs.IntentValue.{intent_of_lists, value_of_intent}
 use Rattle.journal_intent.proofs.Limits.{fits_of, few_of}
@@ -33,6 +33,6 @@ pub returns-clause-few : goal.returns-clause-few
 returns-clause-few c = λ removals writes none.
     let v = value_of_intent (intent_of_lists removals writes) in
     let over = c.a_value_overflows_exactly_past_a_limit.ensures v (value_normal removals writes) in
-    let most = few_of (overflow_of v) (payload_size_of v) (value_count v) none over in
+    let most = few_of (counts_at_first_overflow v) (payload_size_of v) (value_count v) none over in
     let names = names_few removals writes in
     omega (arith, most, names)

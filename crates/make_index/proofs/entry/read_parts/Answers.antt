@@ -1,14 +1,14 @@
 use Rattle.std.proofs.Common.{ap, ◌∙◌, ◌++◌, List, ℕ}
 use Rattle.sha2.specs.Sha256.{sha256}
 use Rattle.pkg_core.specs.adb_schema.Views.{info_value}
-use Rattle.adb_view.specs.Values.{entry_in}
+use Rattle.adb_view.specs.Values.{entry_at_index}
 use Rattle.make_index.proofs.IndexHeld.{holds_found, keyed_of, bytes_all}
 use Rattle.make_index.proofs.entry.read_parts.Goals as goal
 
 pub returns-clause-keys : goal.returns-clause-keys
 returns-clause-keys c =
     keyed_of c.sound_containers_hold_sound_values.ensures.value c.args.file.now _ _ _ (info_value c.info-info.result)
-    (c.info-info.ensures ∙ ap (λ v. entry_in v 0) (c.view.ensures ∙ c.in_ok-pkg.ensures.value))
+    (c.info-info.ensures ∙ ap (λ v. entry_at_index v 0) (c.view.ensures ∙ c.in_ok-pkg.ensures.value))
     (c.in_ok-extend_from_slice.ensures.items ∙ (ap (λ (xs : List ℕ). xs ++ c.name.result.now) c.new-name.ensures.items ∙ c.name.ensures))
     (c.in_ok-extend_from_slice-2.ensures.items ∙ (ap (λ (xs : List ℕ). xs ++ c.version.result.now) c.new-version.ensures.items ∙ c.version.ensures))
     (c.id-id.ensures ∙ ap sha256 c.in_ok-pkg.ensures.payload)

@@ -1,12 +1,12 @@
 use Rattle.std.proofs.Common.{◌≡◌, ℕ, List, [], ap, sym, subst}
 use Rattle.make_core.proofs.SoundPackage.{info_ok}
-use Rattle.adb_view.specs.Values.{entry_in}
+use Rattle.adb_view.specs.Values.{entry_at_index}
 use Rattle.adb_view.specs.declared.tables.Which.TheVariants.{PkgInfo}
 use Rattle.adb_view.specs.Plain.{Plain}
 use Rattle.command_core.specs.Command.{CommandLine}
 use Rattle.make_core.specs.make_info.declared.field.Field.{Field}
 use Rattle.make_core.specs.make_info.declared.field.Field.TheVariants as Fields
-use Rattle.make_core.specs.make_info.FieldTexts.{is_default_output_too_long, values_of_info_options}
+use Rattle.make_core.specs.make_info.FieldTexts.{is_output_default_and_too_long, values_of_info_options}
 use Rattle.make_core.specs.make_info.Fields.{field_word}
 use Rattle.make_core.specs.make_info.Information.{FieldWithValue, information}
 use Rattle.make_core.specs.make_info.Reads.{Reads}
@@ -22,7 +22,7 @@ module _ (command : CommandLine) (names : List (List ℕ)) (read : Reads) (pkg :
   abbrev Tells : Field → Plain → Type 0
   Tells f v = HasValuesOfField f (values_for f m.items) v
 
-  in_info : (f : Field) → (f ≡ Fields.ReplacesPriority → ⊥) → Tells f (field_named PkgInfo (field_word f) (entry_in pkg 0))
+  in_info : (f : Field) → (f ≡ Fields.ReplacesPriority → ⊥) → Tells f (field_named PkgInfo (field_word f) (entry_at_index pkg 0))
   in_info f other =
       subst (Tells f) (sym (ap (field_named PkgInfo (field_word f)) (info_is command names read pkg m))) (told_info f m.items (installed_size m.sources) other)
 
@@ -53,5 +53,5 @@ returns c = λ command names read bytes f made.
     let are = items_of command.values command.behind m.items (info_ok (information command) m.items m.items_read) in
     let say : (g : Field) → OptionsGiveFieldValues g (values_of_info_options command.values) (values_for g m.items) =
     λ g. subst (λ (items : List FieldWithValue). OptionsGiveFieldValues g (values_of_info_options command.values) (values_for g items)) (sym are.all)
-    (say_of_field c.read_texts_are_spelled.ensures c.spelled_texts_are_read.ensures g (is_default_output_too_long command.values) [] (values_of_info_options command.values) are.none) in
+    (say_of_field c.read_texts_are_spelled.ensures c.spelled_texts_are_read.ensures g (is_output_default_and_too_long command.values) [] (values_of_info_options command.values) are.none) in
     record { said = values_for f m.items; say = say f; tells = tells command names read pkg m f (say Fields.ReplacesPriority) }

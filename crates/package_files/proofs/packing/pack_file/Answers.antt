@@ -1,6 +1,6 @@
 use Rattle.std.proofs.Common.{rules, arith, ◌≡◌, ℕ, ◌-◌, ◌++◌, ◌∙◌, ap, length, take, drop}
 use Rattle.std.specs.Prelude.{replicate}
-use Rattle.adb_block.specs.Piece.{padding_of}
+use Rattle.adb_block.specs.BlockWithoutOffset.{padding_of}
 use Rattle.package_files.specs.Folders.{last_part_of}
 use Rattle.package_files.specs.Package.{kind_of_file}
 use Rattle.package_files.proofs.ReadLemmas.{explained_as, explained, same_fault, memory_fault}

@@ -2,7 +2,7 @@
 use Rattle.std.proofs.Common.{◌≡◌, ◌≤◌, ◌+◌, ◌-◌, ℕ, ◌++◌, ◌∙◌, sym, ap, refl, subst, length, drop, min, None, arith}
 use Rattle.std.proofs.lemmas.List.{length-append, length-drop}
 use Rattle.adb_block.specs.Framing.{next_block_result_at_offset}
-use Rattle.adb_block.specs.Piece.{padding_of}
+use Rattle.adb_block.specs.BlockWithoutOffset.{padding_of}
 use Rattle.adb_view.specs.Head.{payload_head_fault}
 use Rattle.adb_block.specs.Frames.{IsFrameOfBlockResult}
 use Rattle.pkg_core.specs.Seen.{HasBytesAtOffset, tree_fault}

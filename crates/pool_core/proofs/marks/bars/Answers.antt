@@ -14,4 +14,4 @@ returns-then-not-is_long-clause-bars c = c.meets.ensures ∙ sym (ap (λ t. t &&
 pub returns-clause-bars : goal.returns-clause-bars
 returns-clause-bars c =
     if_ok_map _ _ (λ answer h. h c.args.one.now c.requires.here ∙ sym (ap (λ t. t && meets_dependency (dependency c.args.entry.now) c.args.one.now) c.if-not-entry.false))
-    c.meets_need.result c.meets_need.ensures.meets
+    c.meets_dependency_or_has_package_name.result c.meets_dependency_or_has_package_name.ensures.meets

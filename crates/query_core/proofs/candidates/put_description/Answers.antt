@@ -1,7 +1,7 @@
 use Rattle.std.proofs.Common.{◌≡◌, ◌∙◌, ◌++◌, [], List, ℕ, ap}
 use Rattle.std.specs.Prelude.{codes}
-use Rattle.adb_view.specs.FieldIndexes.{INFO_ARCH, INFO_LICENSE, INFO_ORIGIN}
-use Rattle.adb_view.specs.Values.{entry_in, text_in}
+use Rattle.adb_view.specs.FieldIndexes.{INFO_ARCH_INDEX, INFO_LICENSE_INDEX, INFO_ORIGIN_INDEX}
+use Rattle.adb_view.specs.Values.{entry_at_index, text_in}
 use Rattle.pool_core.specs.candidate_core.Candidates.{Candidate}
 use Rattle.pool_core.specs.candidate_core.Values.{candidate_value}
 use Rattle.report_core.specs.QueryReports.{installed_mark, text_between_unless_empty}
@@ -14,9 +14,9 @@ returns g c =
     let holds = g.O.ReportOut.holds in
     let d : Candidate = c.args.details.now in
     let seen : candidate_value c.candidate.result ≡ d = c.candidate.ensures in
-    let arch : c.arch.result.now ≡ text_in (entry_in d.info INFO_ARCH) = c.arch.ensures ∙ ap (λ (e : Candidate). text_in (entry_in e.info INFO_ARCH)) seen in
-    let origin : c.origin.result.now ≡ text_in (entry_in d.info INFO_ORIGIN) = c.origin.ensures ∙ ap (λ (e : Candidate). text_in (entry_in e.info INFO_ORIGIN)) seen in
-    let license : c.license.result.now ≡ text_in (entry_in d.info INFO_LICENSE) = c.license.ensures ∙ ap (λ (e : Candidate). text_in (entry_in e.info INFO_LICENSE)) seen in
+    let arch : c.arch.result.now ≡ text_in (entry_at_index d.info INFO_ARCH_INDEX) = c.arch.ensures ∙ ap (λ (e : Candidate). text_in (entry_at_index e.info INFO_ARCH_INDEX)) seen in
+    let origin : c.origin.result.now ≡ text_in (entry_at_index d.info INFO_ORIGIN_INDEX) = c.origin.ensures ∙ ap (λ (e : Candidate). text_in (entry_at_index e.info INFO_ORIGIN_INDEX)) seen in
+    let license : c.license.result.now ≡ text_in (entry_at_index d.info INFO_LICENSE_INDEX) = c.license.ensures ∙ ap (λ (e : Candidate). text_in (entry_at_index e.info INFO_LICENSE_INDEX)) seen in
     let first : List ℕ = text_between_unless_empty (codes " ") c.arch.result.now [] in
     let second : List ℕ = text_between_unless_empty (codes " {") c.origin.result.now (codes "}") in
     let third : List ℕ = text_between_unless_empty (codes " (") c.license.result.now (codes ")") in

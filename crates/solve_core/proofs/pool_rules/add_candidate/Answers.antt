@@ -3,16 +3,16 @@ use Rattle.std.specs.Prelude.{Some}
 use Rattle.dep_core.specs.Meets.{dependency}
 use Rattle.search_choices.specs.candidate_core.Candidates.{Candidate}
 use Rattle.search_choices.specs.candidate_core.Options.{IsIn}
-use Rattle.search_choices.specs.candidate_core.Rank.{SealedPool, candidate_at}
+use Rattle.search_choices.specs.candidate_core.Rank.{SelectionProblem, candidate_at}
 use Rattle.search_choices.specs.search_tables.Selection.{depends_at}
 use Rattle.solve_core.proofs.PoolRules.{depends_of}
 use Rattle.solve_core.proofs.pool_rules.add_candidate.Goals as goal
 
 pub add_dependency-requires : goal.add_dependency-requires
 add_dependency-requires c =
-    let pool : SealedPool = c.pool-pool.result.now in
+    let pool : SelectionProblem = c.pool-pool.result.now in
     let details : Candidate = c.in-Some.details in
     let here : candidate_at pool c.args.id ≡ Some details = sym c.at.ensures ∙ c.in-Some.is in
     let same : pool ≡ c.loop-i.known = c.pool-pool.ensures ∙ sym c.loop-i.invariant in
-    subst (λ (p : SealedPool). IsIn (dependency c.get.result) (depends_at p c.args.id)) same
+    subst (λ (p : SelectionProblem). IsIn (dependency c.get.result) (depends_at p c.args.id)) same
     (depends_of pool c.args.id details here c.depends-depends.result _ (dependency c.get.result) c.depends-depends.ensures c.get.ensures)

@@ -3,12 +3,12 @@ use Rattle.std.specs.Prelude.{Some, option_to_list}
 use Rattle.dep_core.specs.Meets.{dependency}
 use Rattle.search_choices.specs.candidate_core.Candidates.{entry}
 use Rattle.search_choices.specs.candidate_core.Options.{IsIn}
-use Rattle.search_choices.specs.candidate_core.Rank.{SealedPool}
+use Rattle.search_choices.specs.candidate_core.Rank.{SelectionProblem}
 use Rattle.search_choices.specs.search_tables.Selection.{needs}
 use Rattle.solve_core.proofs.PoolRules.{choice_raises}
 use Rattle.solve_core.proofs.pool_rules.add_dependency.Goals as goal
 
 pub need_clause-requires : goal.need_clause-requires
 need_clause-requires c =
-    subst (λ (p : SealedPool). IsIn (entry (dependency c.args.dep.now)) (needs p (option_to_list (Some c.args.id)))) (sym c.pool-pool.ensures)
+    subst (λ (p : SelectionProblem). IsIn (entry (dependency c.args.dep.now)) (needs p (option_to_list (Some c.args.id)))) (sym c.pool-pool.ensures)
     (choice_raises c.args.known.now c.args.id (dependency c.args.dep.now) c.requires c.if-dep.false)

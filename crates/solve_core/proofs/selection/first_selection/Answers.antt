@@ -1,6 +1,6 @@
 use Rattle.std.proofs.Common.{◌≡◌, ◌<◌, ◌≤◌, ◌^◌, ◌∙◌, ◌∷◌, ◌++◌, [], ℕ, List, length, refl, subst, sym, ap, arith}
 use Rattle.search_choices.specs.candidate_core.PackageMatches.{AreMatchesAmong}
-use Rattle.search_choices.specs.candidate_core.Rank.{SealedPool}
+use Rattle.search_choices.specs.candidate_core.Rank.{SelectionProblem}
 use Rattle.search_choices.specs.candidate_core.declared.package_matches.PackageMatches.{PackageMatches}
 use Rattle.search_choices.specs.search_tables.Selection.{AreAllMembersOf, IsFirstPreferredSelection}
 use Rattle.search_choices.specs.Choices.{IsSearch, choices_of, pool_of}
@@ -52,7 +52,7 @@ step_back-requires-clause-spent c =
 pub returns-in_default-4 : goal.returns-in_default-4
 returns-in_default-4 c =
     let dead = none_of c.in_ok-frame-in-None.field-0 _ _ c.in_default-4.not-Some c.in_ok-frame-in-None.ensures.found in
-    none_satisfies (pool_of c.args.search.now.chosen) (subst (λ (p : SealedPool). IsReason p []) (ap pool_of (c.next_option.ensures.chosen ∙ c.is_dead_ahead.ensures.chosen) ∙ (c.loop-top.invariant.pool ∙ c.next_frame.ensures.pool)) dead)
+    none_satisfies (pool_of c.args.search.now.chosen) (subst (λ (p : SelectionProblem). IsReason p []) (ap pool_of (c.next_option.ensures.chosen ∙ c.is_dead_ahead.ensures.chosen) ∙ (c.loop-top.invariant.pool ∙ c.next_frame.ensures.pool)) dead)
 
 pub loop-top-smaller : goal.loop-top-smaller
 loop-top-smaller c =
@@ -71,7 +71,7 @@ step_back-requires-clause-known c = c.next_option.ensures.known ∙ (c.is_dead_a
 pub loop-top-init : goal.loop-top-init
 loop-top-init c = record {
   pool = refl;
-  matches = subst (λ (p : SealedPool). AreMatchesAmong p.candidates c.next_frame.new.self.matches) (sym c.next_frame.ensures.pool) c.in_ok-frame.ensures.matches;
+  matches = subst (λ (p : SelectionProblem). AreMatchesAmong p.candidates c.next_frame.new.self.matches) (sym c.next_frame.ensures.pool) c.in_ok-frame.ensures.matches;
   known = c.next_frame.ensures.known ∙ (c.requires.known ∙ sym c.next_frame.ensures.pool);
   search = c.next_frame.ensures.search;
   open_now = rw c.in-Some.is at c.in_ok-frame.ensures.frame;
@@ -80,7 +80,7 @@ loop-top-init c = record {
 pub next_option-requires-clause-matches : goal.next_option-requires-clause-matches
 next_option-requires-clause-matches c =
     subst (λ (m : PackageMatches). AreMatchesAmong (pool_of c.is_dead_ahead.new.self.chosen).candidates m) (sym c.is_dead_ahead.ensures.matches)
-    (subst (λ (p : SealedPool). AreMatchesAmong p.candidates c.loop-top.search.matches) (sym (ap pool_of c.is_dead_ahead.ensures.chosen ∙ c.loop-top.invariant.pool)) c.loop-top.invariant.matches)
+    (subst (λ (p : SelectionProblem). AreMatchesAmong p.candidates c.loop-top.search.matches) (sym (ap pool_of c.is_dead_ahead.ensures.chosen ∙ c.loop-top.invariant.pool)) c.loop-top.invariant.matches)
 
 pub next_option-requires-clause-known : goal.next_option-requires-clause-known
 next_option-requires-clause-known c = c.is_dead_ahead.ensures.known ∙ (c.loop-top.invariant.known ∙ sym (ap pool_of c.is_dead_ahead.ensures.chosen))
@@ -110,7 +110,7 @@ step_back_for_reason-requires-clause-dead c =
 pub returns-in_default-2 : goal.returns-in_default-2
 returns-in_default-2 c =
     let dead = none_of c.in_ok-frame-2.field-0 _ _ c.in_default-2.not-Some c.in_ok-frame-2.ensures.found in
-    none_satisfies (pool_of c.args.search.now.chosen) (subst (λ (p : SealedPool). IsReason p []) (ap pool_of c.is_dead_ahead.ensures.chosen ∙ (c.loop-top.invariant.pool ∙ c.next_frame.ensures.pool)) dead)
+    none_satisfies (pool_of c.args.search.now.chosen) (subst (λ (p : SelectionProblem). IsReason p []) (ap pool_of c.is_dead_ahead.ensures.chosen ∙ (c.loop-top.invariant.pool ∙ c.next_frame.ensures.pool)) dead)
 
 pub loop-top-smaller-then-is_dead : goal.loop-top-smaller-then-is_dead
 loop-top-smaller-then-is_dead c =
@@ -119,7 +119,7 @@ loop-top-smaller-then-is_dead c =
 
 pub loop-top-preserved-then-is_dead : goal.loop-top-preserved-then-is_dead
 loop-top-preserved-then-is_dead c =
-    let initial : SealedPool = pool_of c.next_frame.new.self.chosen in
+    let initial : SelectionProblem = pool_of c.next_frame.new.self.chosen in
     let back = rw c.in-Some-2.is at c.in_ok-frame-2.ensures.found in
     let pool = c.step_back_for_reason.ensures.pool ∙ ap pool_of c.is_dead_ahead.ensures.chosen in
     record {
@@ -133,13 +133,13 @@ loop-top-preserved-then-is_dead c =
 pub next_frame-requires-in-Some-3-clause-matches : goal.next_frame-requires-in-Some-3-clause-matches
 next_frame-requires-in-Some-3-clause-matches c =
     subst (λ (m : PackageMatches). AreMatchesAmong (pool_of c.choose.new.self.chosen).candidates m) (sym c.choose.ensures.matches)
-    (subst (λ (p : SealedPool). AreMatchesAmong p.candidates c.next_option.new.self.matches) (sym (c.choose.ensures.pool ∙ ap pool_of c.next_option.ensures.chosen)) c.in_ok-id.ensures.matches)
+    (subst (λ (p : SelectionProblem). AreMatchesAmong p.candidates c.next_option.new.self.matches) (sym (c.choose.ensures.pool ∙ ap pool_of c.next_option.ensures.chosen)) c.in_ok-id.ensures.matches)
 
 pub loop-top-preserved-in-Some-3 : goal.loop-top-preserved-in-Some-3
 loop-top-preserved-in-Some-3 c =
     record {
       pool = c.next_frame-in-Some-3.ensures.pool ∙ (c.choose.ensures.pool ∙ (ap pool_of (c.next_option.ensures.chosen ∙ c.is_dead_ahead.ensures.chosen) ∙ c.loop-top.invariant.pool));
-      matches = subst (λ (p : SealedPool). AreMatchesAmong p.candidates c.next_frame-in-Some-3.new.self.matches)
+      matches = subst (λ (p : SelectionProblem). AreMatchesAmong p.candidates c.next_frame-in-Some-3.new.self.matches)
           (c.choose.ensures.pool ∙ (ap pool_of (c.next_option.ensures.chosen ∙ c.is_dead_ahead.ensures.chosen) ∙ c.loop-top.invariant.pool)) c.in_ok-frame-in-Some-3.ensures.matches;
       known = c.next_frame-in-Some-3.ensures.known ∙ (c.choose.ensures.known ∙ (c.next_option.ensures.known ∙ (c.is_dead_ahead.ensures.known ∙ (c.loop-top.invariant.known
           ∙ sym (c.next_frame-in-Some-3.ensures.pool ∙ (c.choose.ensures.pool ∙ ap pool_of (c.next_option.ensures.chosen ∙ c.is_dead_ahead.ensures.chosen)))))));
@@ -149,12 +149,12 @@ loop-top-preserved-in-Some-3 c =
 
 pub loop-top-preserved : goal.loop-top-preserved
 loop-top-preserved c =
-    let initial : SealedPool = pool_of c.next_frame.new.self.chosen in
+    let initial : SelectionProblem = pool_of c.next_frame.new.self.chosen in
     let back = rw c.in-Some-5.is at c.in_ok-frame-in-None.ensures.found in
     record {
       pool = c.step_back.ensures.pool ∙ (ap pool_of (c.next_option.ensures.chosen ∙ c.is_dead_ahead.ensures.chosen) ∙ c.loop-top.invariant.pool);
       matches = subst (λ (m : PackageMatches). AreMatchesAmong initial.candidates m) (sym c.step_back.ensures.matches)
-          (subst (λ (p : SealedPool). AreMatchesAmong p.candidates c.next_option.new.self.matches) (ap pool_of c.is_dead_ahead.ensures.chosen ∙ c.loop-top.invariant.pool) c.in_ok-id.ensures.matches);
+          (subst (λ (p : SelectionProblem). AreMatchesAmong p.candidates c.next_option.new.self.matches) (ap pool_of c.is_dead_ahead.ensures.chosen ∙ c.loop-top.invariant.pool) c.in_ok-id.ensures.matches);
       known = c.step_back.ensures.known ∙ (c.next_option.ensures.known ∙ (c.is_dead_ahead.ensures.known ∙ (c.loop-top.invariant.known ∙ sym (c.step_back.ensures.pool ∙ ap pool_of (c.next_option.ensures.chosen ∙ c.is_dead_ahead.ensures.chosen)))));
       search = back.0;
       open_now = back.1;

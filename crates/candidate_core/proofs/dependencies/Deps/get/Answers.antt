@@ -1,7 +1,7 @@
 use Rattle.std.proofs.Common.{◌≡◌, ◌∙◌, ◌+◌, ◌-◌, List, ap, sym, subst, refl, length, arith}
 use Rattle.std.specs.Prelude.{slice_get}
 use Rattle.dep_core.specs.Dependency.{Dependency}
-use Rattle.adb_schema.specs.SoundValues.{IsSoundDependency}
+use Rattle.adb_schema.specs.SoundValues.{ObeysTextAndNumberRulesOfDependency}
 use Rattle.candidate_core.specs.Candidates.{dependency_in}
 use Rattle.adb_view.specs.Plain.{Plains}
 use Rattle.adb_schema.specs.adb_fields.ListValue.{list_value}
@@ -26,7 +26,7 @@ read_sound-requires c =
     let values : Plains = entries_in (list_value c.self.inside.list) in
     let len : length c.args.self.now ≡ count_of values = sym (ap length c.self.view_is) ∙ sound_count values (c.self.invariant c.if-self.true) in
     let e : (c.args.place + 1) - 1 ≡ c.args.place = omega arith in
-    subst IsSoundDependency (sym (c.get.ensures ∙ ap (nth values) e)) (c.self.invariant c.if-self.true c.args.place (omega (arith, len, c.requires)))
+    subst ObeysTextAndNumberRulesOfDependency (sym (c.get.ensures ∙ ap (nth values) e)) (c.self.invariant c.if-self.true c.args.place (omega (arith, len, c.requires)))
 
 pub returns-then-self : goal.returns-then-self
 returns-then-self c =

@@ -5,8 +5,8 @@ use Rattle.candidate_core.specs.VersionTexts.{source_text}
 use Rattle.candidate_core.proofs.NamedVersions.{matches_inserted}
 use Rattle.candidate_core.proofs.package_matches.PackageMatches.meets_as_known.Goals as goal
 
-pub meets_need-requires-clause-known : goal.meets_need-requires-clause-known
-meets_need-requires-clause-known c =
+pub meets_dependency_or_has_package_name-requires-clause-known : goal.meets_dependency_or_has_package_name-requires-clause-known
+meets_dependency_or_has_package_name-requires-clause-known c =
     c.take_known-known.ensures.taken (source_text c.args.self.now.packages.now.sources.items) (dependency c.args.dep.now) c.requires.matches c.requires.named (sym c.bits.ensures.bits)
 
 pub returns-clause-matches : goal.returns-clause-matches
@@ -14,4 +14,4 @@ returns-clause-matches c =
     let text : ℕ → ℕ → List ℕ = source_text c.args.self.now.packages.now.sources.items in
     let d : Dependency = dependency c.args.dep.now in
     matches_inserted text c.take_known-known.new.by_version c.insert.new.self (c.args.version.source, c.args.version.word, c.bits.result) (c.take_known-known.ensures.others text c.requires.matches)
-    c.meets_need.new.known d c.in_ok-insert.ensures.updates.0 c.requires.named (sym c.bits.ensures.bits) c.in_ok-meets.ensures.known
+    c.meets_dependency_or_has_package_name.new.known d c.in_ok-insert.ensures.updates.0 c.requires.named (sym c.bits.ensures.bits) c.in_ok-meets.ensures.known

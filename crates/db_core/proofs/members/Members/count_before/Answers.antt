@@ -1,5 +1,5 @@
 use Rattle.std.proofs.Common.{rules, subst, sym, List}
-use Rattle.base_core.specs.Listed.{AreSortedDistinctNames}
+use Rattle.base_core.specs.Listed.{AreSortedDistinctTexts}
 use Rattle.std.proofs.lemmas.List.Sorted.{IsPartitionPoint-from_clause}
 use Rattle.std.specs.List.Sorted.{IsPartitionPoint}
 use Rattle.std.specs.Prelude.{◌≡◌, true, false}
@@ -13,5 +13,5 @@ returns-clause-point c =
     let q : List _ = c.args.name.now in
     subst (λ (es : List Kept). IsPartitionPoint (λ e. precedes (kept_name e) q ≡ true) (λ e. precedes (kept_name e) q ≡ false) es c.partition_point.result) c.deref.ensures.value
     (IsPartitionPoint-from_clause (λ (e : Kept). precedes (kept_name e) q) _ _ c.partition_point.ensures.partitioned
-    (kept_parted c.deref.result.now q (subst (λ (es : List Kept). AreSortedDistinctNames (kept_names es)) (sym c.deref.ensures.value) c.args.self.now.in_order))
+    (kept_parted c.deref.result.now q (subst (λ (es : List Kept). AreSortedDistinctTexts (kept_names es)) (sym c.deref.ensures.value) c.args.self.now.in_order))
     (λ a r f k. search rules))

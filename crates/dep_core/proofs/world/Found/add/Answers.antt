@@ -5,9 +5,9 @@ use Rattle.std.specs.Map.{values_of}
 use Rattle.dep_core.specs.Dependency.{Dependency}
 use Rattle.dep_core.specs.DependencyText.{is_dependency}
 use Rattle.dep_core.specs.Found.{IsKeyedByName}
-use Rattle.dep_core.specs.World.{IsWorld, has_dependency_named, world_with_dependency_set}
+use Rattle.dep_core.specs.World.{IsWorldSortedByName, has_dependency_named, world_with_dependency_put_in_name_order}
 use Rattle.dep_core.proofs.ByName.{values-insert, by_name-insert, some-found, not-moved}
-use Rattle.dep_core.proofs.Worlds.{IsWorld-world_with_dependency_set}
+use Rattle.dep_core.proofs.Worlds.{IsWorldSortedByName-world_with_dependency_put_in_name_order}
 use Rattle.dep_core.proofs.world.Found.add.Goals as goal
 
 pub returns-clause-new : goal.returns-clause-new
@@ -18,15 +18,15 @@ pub returns-clause-added : goal.returns-clause-added
 returns-clause-added c =
     let same_name : c.args.dep.now.name.now ≡ c.in_ok-entry.entry.name = sym (ap (λ (d : Dependency). d.name) c.in_ok-entry.ensures.value) in
     ap values_of c.in_ok-old.ensures.entries
-    ∙ (values-insert c.self.inside.by_name.entries c.args.dep.now.name c.in_ok-entry.entry same_name c.self.invariant.0 ∙ (λ i. world_with_dependency_set (c.in_ok-entry.ensures.value i) (c.self.view_is i)))
+    ∙ (values-insert c.self.inside.by_name.entries c.args.dep.now.name c.in_ok-entry.entry same_name c.self.invariant.0 ∙ (λ i. world_with_dependency_put_in_name_order (c.in_ok-entry.ensures.value i) (c.self.view_is i)))
 
 pub invariant_of-self-2 : goal.invariant_of-self-2
 invariant_of-self-2 c =
     let same_name : c.args.dep.now.name.now ≡ c.in_ok-entry.entry.name = sym (ap (λ (d : Dependency). d.name) c.in_ok-entry.ensures.value) in
     let good : is_dependency c.in_ok-entry.entry ≡ true =
     ap is_dependency c.in_ok-entry.ensures.value ∙ c.in_ok-entry.ensures.grammar in
-    let gained : values_of c.insert.new.self.entries ≡ world_with_dependency_set c.in_ok-entry.entry (values_of c.self.inside.by_name.entries) =
+    let gained : values_of c.insert.new.self.entries ≡ world_with_dependency_put_in_name_order c.in_ok-entry.entry (values_of c.self.inside.by_name.entries) =
     ap values_of c.in_ok-old.ensures.entries ∙ values-insert c.self.inside.by_name.entries c.args.dep.now.name c.in_ok-entry.entry same_name c.self.invariant.0 in (
       subst IsKeyedByName (sym c.in_ok-old.ensures.entries) (by_name-insert c.self.inside.by_name.entries c.args.dep.now.name c.in_ok-entry.entry same_name c.self.invariant.0),
-      subst IsWorld (sym gained) (IsWorld-world_with_dependency_set c.in_ok-entry.entry (values_of c.self.inside.by_name.entries) good c.self.invariant.1),
+      subst IsWorldSortedByName (sym gained) (IsWorldSortedByName-world_with_dependency_put_in_name_order c.in_ok-entry.entry (values_of c.self.inside.by_name.entries) good c.self.invariant.1),
     )

@@ -1,7 +1,7 @@
 use Rattle.std.proofs.Common.{ap, ◌≡◌, IsSome, refl, rules}
 use Rattle.base_core.specs.Calls.{HoldsNow}
 use Rattle.base_core.specs.Crash.{Since}
-use Rattle.base_core.specs.Restart.{SinceGivenEarlier}
+use Rattle.base_core.specs.Restart.{SinceGivenEarlierAddedMoments}
 use Rattle.base_core.specs.Tree.{files_of}
 use Rattle.journal_core.specs.Acting.{stage_with_actions_done}
 use Rattle.journal_core.specs.Recovery.{EachCrashLeavesStateOf, files_after_actions, intent_name}
@@ -12,7 +12,7 @@ use Rattle.journal_core.proofs.stage.Stage.publish.Goals as goal
 
 pub returns-in_err-publish_intent-clause-publishing : goal.returns-in_err-publish_intent-clause-publishing
 returns-in_err-publish_intent-clause-publishing g c = record {
-  moments = publish_durable (λ ignored i v. SinceGivenEarlier (IsOldUntilCommit ignored (files_after_actions i (files_of v)) v) (g.T.Tree.history c.args.tree.now) (g.T.Tree.history c.publish_intent.new.tree)) c.self.inside.intent c.args.self.now _ (ap (λ (s : Staging). s.intent) c.self.view_is) c.requires.all c.in_err-publish_intent.ensures.publishing.moments;
+  moments = publish_durable (λ ignored i v. SinceGivenEarlierAddedMoments (IsOldUntilCommit ignored (files_after_actions i (files_of v)) v) (g.T.Tree.history c.args.tree.now) (g.T.Tree.history c.publish_intent.new.tree)) c.self.inside.intent c.args.self.now _ (ap (λ (s : Staging). s.intent) c.self.view_is) c.requires.all c.in_err-publish_intent.ensures.publishing.moments;
   published = search rules;
   settled = search rules;
   reads = publish_as (λ i base v. Since (λ w. IsSome (w.names intent_name) → RecoversTo (files_after_actions i (files_of v)) w) (g.T.Tree.history c.args.tree.now) (g.T.Tree.history c.publish_intent.new.tree)) c.self.inside.intent c.args.self.now _ (ap (λ (s : Staging). s.intent) c.self.view_is) c.requires.all c.in_err-publish_intent.ensures.publishing.reads;
@@ -26,7 +26,7 @@ returns-in_err-publish_intent-clause-proper g c =
 
 pub returns-clause-publishing : goal.returns-clause-publishing
 returns-clause-publishing g c = record {
-  moments = publish_durable (λ ignored i v. SinceGivenEarlier (IsOldUntilCommit ignored (files_after_actions i (files_of v)) v) (g.T.Tree.history c.args.tree.now) (g.T.Tree.history c.publish_intent.new.tree)) c.self.inside.intent c.args.self.now _ (ap (λ (s : Staging). s.intent) c.self.view_is) c.requires.all c.in_ok-publish_intent.ensures.publishing.moments;
+  moments = publish_durable (λ ignored i v. SinceGivenEarlierAddedMoments (IsOldUntilCommit ignored (files_after_actions i (files_of v)) v) (g.T.Tree.history c.args.tree.now) (g.T.Tree.history c.publish_intent.new.tree)) c.self.inside.intent c.args.self.now _ (ap (λ (s : Staging). s.intent) c.self.view_is) c.requires.all c.in_ok-publish_intent.ensures.publishing.moments;
   published = publish_durable (λ ignored i v. IsHistoryThatPublishesIntentForFiles ignored (files_after_actions i (files_of v)) v (g.T.Tree.history c.args.tree.now) (g.T.Tree.history c.publish_intent.new.tree)) c.self.inside.intent c.args.self.now _ (ap (λ (s : Staging). s.intent) c.self.view_is) c.requires.all c.in_ok-publish_intent.ensures.publishing.published;
   settled = publish_durable (λ ignored i v. HoldsNow (g.T.Tree.history c.publish_intent.new.tree) (EachCrashLeavesStateOf ignored (files_after_actions i (files_of v)))) c.self.inside.intent c.args.self.now _ (ap (λ (s : Staging). s.intent) c.self.view_is) c.requires.all c.in_ok-publish_intent.ensures.publishing.settled;
   reads = publish_as (λ i base v. Since (λ w. IsSome (w.names intent_name) → RecoversTo (files_after_actions i (files_of v)) w) (g.T.Tree.history c.args.tree.now) (g.T.Tree.history c.publish_intent.new.tree)) c.self.inside.intent c.args.self.now _ (ap (λ (s : Staging). s.intent) c.self.view_is) c.requires.all c.in_ok-publish_intent.ensures.publishing.reads;

@@ -5,7 +5,7 @@ use Rattle.std.specs.Slice.Iter.{split_rest, split_done, split_callee}
 use Rattle.std.proofs.lemmas.Iterator.Splits.{YieldsList-from_slice_split}
 use Rattle.std.proofs.lemmas.Iterator.Consumers.{YieldsList-turn, YieldsList-end}
 use Rattle.std.proofs.lemmas.List.{length_push}
-use Rattle.make_info.specs.Fields.{dependency_values_in}
+use Rattle.make_info.specs.Fields.{dependency_values_of_parts}
 use Rattle.make_info.specs.Reading.{nonempty_part}
 use Rattle.make_info.specs.Information.{items_followed_by_values_of_field}
 use Rattle.make_info.proofs.Saying.{more_needs, no_needs_left, stopped_needs}
@@ -15,7 +15,7 @@ pub returns-then-not-branch : goal.returns-then-not-branch
 returns-then-not-branch c =
     let again = c.into_iter-part-iterator.ensures.into_iter_gives in
     let t = YieldsList-turn (YieldsList-from_slice_split _ (λ b. b == 32) c.args.texts.now (ap split_rest again ∙ c.split-part-items.ensures.rest) (ap split_done again ∙ c.split-part-items.ensures.done) (ap split_callee again ∙ c.split-part-items.ensures.closure) (λ x b q k. search rules)) c.loop-part.yielded _ c.loop-part.yielded_by _ _ c.in-Some.part c.in-Some.is c.next.ensures.steps in
-    let bad : None ≡ items_followed_by_values_of_field c.loop-part.self c.args.field (dependency_values_in (nonempty_part c.in-Some.part.now)) =
+    let bad : None ≡ items_followed_by_values_of_field c.loop-part.self c.args.field (dependency_values_of_parts (nonempty_part c.in-Some.part.now)) =
     ap (λ b. cond b (Some c.add_need.new.self) None) (sym c.if-not-branch.true) ∙ c.in_ok-add_need.ensures in
     stopped_needs c.loop-part.self c.args.field (slice_split (λ b. b == 32) c.args.texts.now) (length c.loop-part.yielded) c.in-Some.part.now _ t bad c.loop-part.invariant
 
@@ -23,7 +23,7 @@ pub loop-part-preserved : goal.loop-part-preserved
 loop-part-preserved c =
     let again = c.into_iter-part-iterator.ensures.into_iter_gives in
     let t = YieldsList-turn (YieldsList-from_slice_split _ (λ b. b == 32) c.args.texts.now (ap split_rest again ∙ c.split-part-items.ensures.rest) (ap split_done again ∙ c.split-part-items.ensures.done) (ap split_callee again ∙ c.split-part-items.ensures.closure) (λ x b q k. search rules)) c.loop-part.yielded _ c.loop-part.yielded_by _ _ c.in-Some.part c.in-Some.is c.next.ensures.steps in
-    let good : Some c.add_need.new.self ≡ items_followed_by_values_of_field c.loop-part.self c.args.field (dependency_values_in (nonempty_part c.in-Some.part.now)) =
+    let good : Some c.add_need.new.self ≡ items_followed_by_values_of_field c.loop-part.self c.args.field (dependency_values_of_parts (nonempty_part c.in-Some.part.now)) =
     ap (λ b. cond b (Some c.add_need.new.self) None) (sym c.if-not-branch.false) ∙ c.in_ok-add_need.ensures in
     more_needs c.loop-part.self c.add_need.new.self c.args.field (slice_split (λ b. b == 32) c.args.texts.now) (length c.loop-part.yielded) _ c.in-Some.part.now _ t (length_push c.loop-part.yielded c.in-Some.part) good c.loop-part.invariant
 

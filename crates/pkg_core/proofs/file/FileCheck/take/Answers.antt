@@ -1,7 +1,7 @@
 -- A whole piece, after which more is left.
 use Rattle.std.proofs.Common.{◌≡◌, ℕ, ◌+◌, ◌-◌, ◌<◌, min, List, ◌++◌, length, refl, ap, sym, ◌∙◌, arith}
 use Rattle.std.proofs.lemmas.List.{length-append}
-use Rattle.pkg_core.specs.Contents.{hash_fault}
+use Rattle.pkg_core.specs.Contents.{fault_if_digest_is_not_of_bytes}
 use Rattle.pkg_core.specs.Opened.{expected_of}
 use Rattle.pkg_core.specs.Pieces.{piece, pieces_of_one_file, piece_count_before_last}
 use Rattle.pkg_core.specs.declared.file.Part.{Part}
@@ -16,7 +16,7 @@ returns-then-len-left-clause-taken c = λ so_far left further taken long.
     let len : length bytes ≡ min (wanted.size - length so_far) 65536 = c.requires ∙ ap (λ (n : ℕ). min (wanted.size - n) 65536) (sym count) in
     let less : length bytes < wanted.size - length so_far = omega (arith, c.if-len-left.true, c.saturating_sub-left.ensures, count) in (
       more_left (expected_of wanted) wanted.hash.now so_far bytes left further wanted.size long len less
-          ∙ ap (λ (p : Part). piece p bytes (pieces_of_one_file (piece_count_before_last (length left)) (expected_of wanted) (hash_fault wanted.hash.now ((so_far ++ bytes) ++ left)) left further)) (sym c.part_of.ensures),
+          ∙ ap (λ (p : Part). piece p bytes (pieces_of_one_file (piece_count_before_last (length left)) (expected_of wanted) (fault_if_digest_is_not_of_bytes wanted.hash.now ((so_far ++ bytes) ++ left)) left further)) (sym c.part_of.ensures),
       record { hashed = c.update.ensures wanted.hash.now so_far taken.hashed; long = length-append so_far bytes ∙ ap (λ (n : ℕ). n + length bytes) count },
       refl,
     )

@@ -3,7 +3,7 @@ use Rattle.std.specs.List.Sorted.{IsPermutation, IsSortedBy}
 use Rattle.std.proofs.lemmas.List.Sorted.{IsPermutation-map, IsPermutation-trans, ranks_by}
 use Rattle.option_ranks.specs.candidate_core.Candidates.{Need}
 use Rattle.option_ranks.specs.candidate_core.Values.{need_of_ref}
-use Rattle.option_ranks.specs.candidate_core.Rank.{SealedPool, is_better}
+use Rattle.option_ranks.specs.candidate_core.Rank.{SelectionProblem, is_better}
 use Rattle.option_ranks.specs.Ranking.{Ranking, ranking_cmp}
 use Rattle.option_ranks.specs.candidate_core.Options.{is_eligible_for_need, options_for, places_passing_counted_from}
 use Rattle.option_ranks.specs.declared.rank.VersionKey.{VersionKey}
@@ -17,7 +17,7 @@ use Rattle.pool_core.proofs.sealed.Sealed.ranked.Goals as goal
 pub returns : goal.returns
 unfolding options_for
 returns c =
-    let pool : SealedPool = c.args.self.now in
+    let pool : SelectionProblem = c.args.self.now in
     let need : Need = need_of_ref c.args.need.now in
     let versions = c.order_is_total.ensures in
     let total = c.rank_is_total.ensures.total pool need in

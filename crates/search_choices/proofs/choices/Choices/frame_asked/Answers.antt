@@ -1,5 +1,5 @@
 use Rattle.std.proofs.Common.{ℕ, List, sym, subst}
-use Rattle.search_tables.specs.candidate_core.Rank.{SealedPool}
+use Rattle.search_tables.specs.candidate_core.Rank.{SelectionProblem}
 use Rattle.search_choices.specs.Choices.{choices_of, pool_of}
 use Rattle.search_tables.specs.Reasons.{IsFrameOf}
 use Rattle.search_choices.proofs.Asking.{none_asked}
@@ -10,5 +10,5 @@ returns-in-None-clause-frame c = none_asked (pool_of c.args.self.now) (choices_o
 
 pub returns-in_ok-frame-in-Some-clause-frame : goal.returns-in_ok-frame-in-Some-clause-frame
 returns-in_ok-frame-in-Some-clause-frame c =
-    subst (λ (p : SealedPool). IsFrameOf p (choices_of c.args.self.now) c.in_ok-frame-in-Some.frame) c.skip_unasked.ensures.pool
+    subst (λ (p : SelectionProblem). IsFrameOf p (choices_of c.args.self.now) c.in_ok-frame-in-Some.frame) c.skip_unasked.ensures.pool
     (subst (λ (z : List ℕ). IsFrameOf (pool_of c.skip_unasked.new.self) z c.in_ok-frame-in-Some.frame) c.skip_unasked.ensures.choices c.in_ok-frame-in-Some.ensures.frame)

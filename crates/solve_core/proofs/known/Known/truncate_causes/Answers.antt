@@ -1,11 +1,11 @@
 use Rattle.std.proofs.Common.{List, subst, sym}
-use Rattle.search_choices.specs.candidate_core.Rank.{SealedPool}
+use Rattle.search_choices.specs.candidate_core.Rank.{SelectionProblem}
 use Rattle.solve_core.specs.Clauses.{AreClauses, ClauseValue}
 use Rattle.solve_core.proofs.Resolution.{clauses_fewer}
 use Rattle.solve_core.proofs.known.Known.truncate_causes.Goals as goal
 
 pub invariant_of-self : goal.invariant_of-self
 invariant_of-self c =
-    let pool : SealedPool = c.self.inside.pool.now in
+    let pool : SelectionProblem = c.self.inside.pool.now in
     let fewer = subst (λ (z : List ClauseValue). AreClauses pool z) (sym c.truncate.ensures.items) (clauses_fewer pool c.args.len c.self.inside.causes.items c.self.invariant.2) in
     (c.self.invariant.0, c.self.invariant.1, fewer)

@@ -1,7 +1,7 @@
 use Rattle.std.proofs.Common.{◌≡◌, ◌<◌, ◌^◌, ◌∙◌, ◌∷◌, ◌++◌, [], ℕ, List, length, subst, sym, ap, refl, arith, append_assoc, append-nil}
 use Rattle.std.specs.Prelude.{not, filter, ◌==◌}
 use Rattle.search_choices.specs.candidate_core.Options.{IsIn}
-use Rattle.search_choices.specs.candidate_core.Rank.{SealedPool}
+use Rattle.search_choices.specs.candidate_core.Rank.{SelectionProblem}
 use Rattle.search_choices.specs.Choices.{IsSearch, choices_of, pool_of}
 use Rattle.search_choices.specs.search_tables.Reasons.{FrameValue, IsReason, IsFrameOf, IsFrameTaking}
 use Rattle.search_choices.proofs.search_tables.Places.{empty_list}
@@ -36,7 +36,7 @@ loop-turn-preserved c =
       search = less.0;
       front = (turn ∷ c.loop-turn.invariant.front.0, c.loop-turn.invariant.front.1 ∙ (ap (λ (z : List (FrameValue × ℕ)). z ++ c.loop-turn.invariant.front.0) items ∙ append_assoc c.pop.new.self.items (turn ∷ []) c.loop-turn.invariant.front.0));
       within = jumped c.loop-turn.self.reason (choices_of c.pop-in-Some.new.self) (choices_of c.loop-turn.self.chosen) turn.1 c.loop-turn.invariant.within less.2 (λ h. out (subst (λ (z : ℕ). IsIn z c.loop-turn.self.reason) (sym choice) h));
-      dead = subst (λ (p : SealedPool). IsReason p c.loop-turn.self.reason) (sym c.pop-in-Some.ensures.pool) c.loop-turn.invariant.dead;
+      dead = subst (λ (p : SelectionProblem). IsReason p c.loop-turn.self.reason) (sym c.pop-in-Some.ensures.pool) c.loop-turn.invariant.dead;
     }
 
 pub returns-then-has-clause-found : goal.returns-then-has-clause-found
@@ -46,7 +46,7 @@ returns-then-has-clause-found c =
     let pool = pool_of c.pop-in-Some.new.self in
     let rest = choices_of c.pop-in-Some.new.self in
     let less = searching_less c.loop-turn.self.chosen c.pop-in-Some.new.self c.pop.new.self.items turn.0 turn.1 (subst (λ (z : List (FrameValue × ℕ)). IsSearch c.loop-turn.self.chosen z) items c.loop-turn.invariant.search) c.pop-in-Some.ensures.consistent c.pop-in-Some.ensures.pool c.pop-in-Some.ensures.choices in
-    let dead : IsReason pool c.loop-turn.self.reason = subst (λ (p : SealedPool). IsReason p c.loop-turn.self.reason) (sym c.pop-in-Some.ensures.pool) c.loop-turn.invariant.dead in
+    let dead : IsReason pool c.loop-turn.self.reason = subst (λ (p : SelectionProblem). IsReason p c.loop-turn.self.reason) (sym c.pop-in-Some.ensures.pool) c.loop-turn.invariant.dead in
     let is = less.2 ∙ ap (λ (k : ℕ). rest ++ k ∷ []) (ap (λ (z : FrameValue × ℕ). z.1) (sym c.turn.view_is)) in
     let reason = hit_reason pool c.loop-turn.self.reason rest (choices_of c.loop-turn.self.chosen) c.in_ok-others.others.items c.turn.inside.choice c.loop-turn.invariant.within is dead (c.in_ok-others.ensures ∙ ap (filter (λ id. not (id == c.turn.inside.choice))) c.as_slice.ensures) in
     let taken = subst (λ (z : FrameValue × ℕ). IsFrameTaking pool rest z.0 z.1) (sym c.turn.view_is) less.1 in
@@ -65,7 +65,7 @@ returns-then-has-clause-lighter c = λ spent.
 
 pub returns-clause-found : goal.returns-clause-found
 returns-clause-found c =
-    subst (λ (p : SealedPool). IsReason p []) c.loop-turn.invariant.pool
+    subst (λ (p : SelectionProblem). IsReason p []) c.loop-turn.invariant.pool
     (dead_empty (pool_of c.loop-turn.self.chosen) c.loop-turn.self.reason (choices_of c.loop-turn.self.chosen) c.loop-turn.invariant.within
     (c.loop-turn.invariant.search.choices ∙ no_choices c.loop-turn.self.turns.items (empty_list c.loop-turn.self.turns.items (omega (arith, c.in_default.ensures.cases.0, c.loop-turn.self.turns.ok)))) c.loop-turn.invariant.dead)
 

@@ -1,7 +1,7 @@
 use Rattle.std.proofs.Common.{◌∙◌, take, ap, sym, arith}
 use Rattle.root_names.proofs.FolderPrefixes.{prefix_at_other, prefix_at_slash}
-use Rattle.root_names.proofs.beside_index.folder_prefix_of.Goals as goal
-use Rattle.root_names.proofs.beside_index.folder_prefix_of.Goals.{then-byte-eq47, else-byte-eq47}
+use Rattle.root_names.proofs.beside_index.path_up_to_last_slash.Goals as goal
+use Rattle.root_names.proofs.beside_index.path_up_to_last_slash.Goals.{then-byte-eq47, else-byte-eq47}
 
 pub loop-i-preserved : goal.loop-i-preserved
 loop-i-preserved c =

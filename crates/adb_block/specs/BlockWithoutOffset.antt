@@ -6,7 +6,7 @@ use Rattle.adb_block.specs.declared.block.BlockKind.{BlockKind}
 use Rattle.adb_block.specs.declared.block.BlockKind.TheVariants.{Adb, Signature, Contents}
 
 -- a block, without its offset
-pub record Piece : Type 0 where
+pub record BlockWithoutOffset : Type 0 where
   -- what the block contains
   pub kind : BlockKind
   -- the bytes of the block, without header and padding

@@ -1,7 +1,7 @@
 use Rattle.std.proofs.Common.{sym, ◌∙◌, ap}
 use Rattle.command_core.specs.Operands.{takes}
 use Rattle.command_core.proofs.Named.{refused_here, refused_more}
-use Rattle.command_core.proofs.operands.OperandRule.first_refused_operand.Goals as goal
+use Rattle.command_core.proofs.operands.OperandRule.place_of_first_refused_operand.Goals as goal
 
 pub returns-then-not-takes : goal.returns-then-not-takes
 returns-then-not-takes c =

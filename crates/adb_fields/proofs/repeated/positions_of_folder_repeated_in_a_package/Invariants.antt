@@ -4,14 +4,14 @@ use Rattle.adb_view.specs.Adb.{payload_of}
 use Rattle.adb_view.specs.Entries.{array_entries}
 use Rattle.adb_fields.specs.ListsOf.{AreRememberedListsOf}
 use Rattle.adb_fields.specs.Pairs.{least_pair, lesser_pair}
-use Rattle.adb_fields.specs.Repeated.{least_pair_of_repeated_name, name_of, folders_in}
+use Rattle.adb_fields.specs.Repeated.{least_positions_of_name_twice_in_list, name_of, folders_in}
 use Rattle.adb_fields.specs.NamedTexts.{plains_of_array_words}
 use Rattle.adb_view.specs.declared.tables.Kind.TheVariants as Kinds
 use Rattle.adb_view.specs.declared.tables.Which.TheVariants as Tables
-use Rattle.adb_fields.proofs.repeated.repeated_folder_in_one_of_packages.Given as goal
+use Rattle.adb_fields.proofs.repeated.positions_of_folder_repeated_in_a_package.Given as goal
 
 abbrev pub invariant-loop-i : goal.invariant-loop-i
 invariant-loop-i l = record {
-  so_far : lesser_pair l.first (least_pair (map (λ pkg. least_pair_of_repeated_name (map name_of (folders_in pkg))) (drop l.i (plains_of_array_words (payload_of l.adb) (Kinds.Obj Tables.Package) (array_entries l.packages))))) ≡ least_pair (map (λ pkg. least_pair_of_repeated_name (map name_of (folders_in pkg))) (plains_of_array_words (payload_of l.adb) (Kinds.Obj Tables.Package) (array_entries l.packages)));
+  so_far : lesser_pair l.first (least_pair (map (λ pkg. least_positions_of_name_twice_in_list (map name_of (folders_in pkg))) (drop l.i (plains_of_array_words (payload_of l.adb) (Kinds.Obj Tables.Package) (array_entries l.packages))))) ≡ least_pair (map (λ pkg. least_positions_of_name_twice_in_list (map name_of (folders_in pkg))) (plains_of_array_words (payload_of l.adb) (Kinds.Obj Tables.Package) (array_entries l.packages)));
   lists : AreRememberedListsOf l.adb Tables.Dir l.lists;
 }

@@ -4,7 +4,7 @@ use Rattle.std.specs.Prelude.{ℕ, List, drop, Option, None}
 use Rattle.adb_block.specs.declared.block.BlockKind.{BlockKind}
 
 -- the position of a reader of the blocks of a file
-pub record ReaderPosition : Type 0 where
+pub record PositionBetweenBlocks : Type 0 where
   -- the schema of the file
   pub schema : ℕ
   -- the kind of the block before the position; None before the first block
@@ -16,6 +16,6 @@ pub record ReaderPosition : Type 0 where
 
 -- the first position of a reader in a file with this schema: after the file's header, which has 8 bytes, and before the
 -- first block
-abbrev pub first_block_position_of_schema_and_file : ℕ → List ℕ → ReaderPosition
+abbrev pub first_block_position_of_schema_and_file : ℕ → List ℕ → PositionBetweenBlocks
 first_block_position_of_schema_and_file schema file =
     record { schema = schema; last = None; at = 8; left = drop 8 file }

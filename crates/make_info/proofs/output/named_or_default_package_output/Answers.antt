@@ -4,7 +4,7 @@ use Rattle.std.specs.Option.{option_map}
 use Rattle.make_info.specs.FieldTexts.{named_output, default_output}
 use Rattle.make_info.specs.Information.{information}
 use Rattle.make_info.proofs.Outputs.{named_case, own_case}
-use Rattle.make_info.proofs.output.package_output.Goals as goal
+use Rattle.make_info.proofs.output.named_or_default_package_output.Goals as goal
 
 pub returns-in-Some : goal.returns-in-Some
 returns-in-Some c =
