@@ -8,7 +8,8 @@ use Rattle.adb_block.specs.PositionBetweenBlocks.{PositionBetweenBlocks, first_b
 use Rattle.adb_block.specs.Reading.{Reading, done, fault, more, block_stream_from}
 
 -- the block `b` followed by the blocks after it, or the failed test with which the reading after it ended
-abbrev pub with_block : BlockWithoutOffset → Result (List BlockWithoutOffset) Cause → Result (List BlockWithoutOffset) Cause
+abbrev pub with_block : BlockWithoutOffset → Result (List BlockWithoutOffset) Cause
+    → Result (List BlockWithoutOffset) Cause
 with_block b (Ok bs) = Ok (b ∷ bs)
 with_block b (Err c) = Err c
 

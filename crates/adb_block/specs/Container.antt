@@ -70,7 +70,8 @@ SpellsBlocks last bytes (b ∷ bs) =
 
 -- a file is a container of this schema with these blocks: `ADB.`, the four bytes of the schema, and
 -- the blocks
-pub record IsContainerWithBlocks (file : List ℕ) (schema : ℕ) (pieces : List BlockWithoutOffset) : Type 0 where
+pub record IsContainerWithBlocks (file : List ℕ) (schema : ℕ)
+    (pieces : List BlockWithoutOffset) : Type 0 where
   -- the four bytes of the schema
   pub word : List ℕ
   -- the bytes of the blocks

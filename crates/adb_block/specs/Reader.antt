@@ -30,14 +30,16 @@ abbrev pub SpelledFrom : PositionBetweenBlocks → List BlockWithoutOffset → T
 SpelledFrom s bs = SpellsBlocks s.last s.left bs
 
 -- a list of blocks begins with this one, and `Goes` holds for the blocks after it
-abbrev pub BeginsWith : BlockWithoutOffset → (List BlockWithoutOffset → Type 0) → List BlockWithoutOffset → Type 0
+abbrev pub BeginsWith : BlockWithoutOffset → (List BlockWithoutOffset → Type 0) → List BlockWithoutOffset
+    → Type 0
 BeginsWith b Goes [] = ⊥
 BeginsWith b Goes (c ∷ bs) = (c ≡ b) × Goes bs
 
 -- a call of the reader, at the position `s` before and `t` after it, returns the next block of the grammar. If it
 -- returns a block, the rest of the file is, by the grammar, this block and the blocks from `t` on. If it returns None,
 -- no block is left. If it returns an error, the rest of the file is no list of blocks
-abbrev pub ReturnsNextSpelledBlock : PositionBetweenBlocks → Result (Option Block) Cause → PositionBetweenBlocks → Type 0
+abbrev pub ReturnsNextSpelledBlock : PositionBetweenBlocks → Result (Option Block) Cause
+    → PositionBetweenBlocks → Type 0
 ReturnsNextSpelledBlock s (Ok None) t = (bs : List BlockWithoutOffset) → SpelledFrom s bs ↔ (bs ≡ [])
 ReturnsNextSpelledBlock s (Ok (Some b)) t =
     (bs : List BlockWithoutOffset) → SpelledFrom s bs ↔ BeginsWith (piece_of b) (SpelledFrom t) bs
@@ -45,7 +47,8 @@ ReturnsNextSpelledBlock s (Err c) t = (bs : List BlockWithoutOffset) → ¬ Spel
 
 -- the result of a call is that of the tests at the old position `s`: the end, a block and its distance to the next
 -- block, or the first failed test. `t` is the new position
-abbrev pub IsNextBlockResultAtPosition : PositionBetweenBlocks → Result (Option Block) Cause → PositionBetweenBlocks
+abbrev pub IsNextBlockResultAtPosition : PositionBetweenBlocks → Result (Option Block) Cause
+    → PositionBetweenBlocks
     → Type 0
 IsNextBlockResultAtPosition s (Ok None) t = next_block_result_at_offset s.last s.at s.left ≡ ended
 IsNextBlockResultAtPosition s (Ok (Some b)) t =
@@ -91,6 +94,7 @@ AreBlocksFromCall r (Err c) q = r ≡ Err c
 
 -- `r` are all blocks of a file, or the first failed test, given the result for its header: the reader's first position,
 -- or the fault of the header
-abbrev pub AreBlocksOrHeaderFault : Result (List BlockWithoutOffset) Cause → Result PositionBetweenBlocks Cause → Type 0
+abbrev pub AreBlocksOrHeaderFault : Result (List BlockWithoutOffset) Cause
+    → Result PositionBetweenBlocks Cause → Type 0
 AreBlocksOrHeaderFault r (Ok s) = r ≡ blocks_from_position s
 AreBlocksOrHeaderFault r (Err c) = r ≡ Err c

@@ -17,7 +17,8 @@ pub data Reading : Type 0 where
 
 -- the reading that begins with the given result of the tests at the offset `at`. The end or a fault ends the reading;
 -- after a block `further` gives the rest of the reading, from the block and its distance to the next block
-abbrev pub block_stream_with_rest_by_padded_size : ℕ → (BlockWithoutOffset → ℕ → Reading) → NextBlockResult → Reading
+abbrev pub block_stream_with_rest_by_padded_size : ℕ → (BlockWithoutOffset → ℕ → Reading) → NextBlockResult
+    → Reading
 block_stream_with_rest_by_padded_size at further ended = done
 block_stream_with_rest_by_padded_size at further (failed c) = fault c
 block_stream_with_rest_by_padded_size at further (block b size) = more b at (further b size)

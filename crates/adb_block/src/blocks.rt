@@ -197,7 +197,8 @@ pub fn what_is_spelled_is_read()
 /// small or exceeds the file.
 pub fn the_first_fault_of_framing_is_reported()
     ensures { (file : List ℕ) (schema : ℕ) (c : Cause)
-        → schema_of_header file ≡ Ok schema → blocks_of file ≡ Err c → IsFirstBlockFramingFault file c }
+        → schema_of_header file ≡ Ok schema → blocks_of file ≡ Err c
+        → IsFirstBlockFramingFault file c }
 {}
 
 /// A law: a file is a container of at most one schema and one list of blocks.

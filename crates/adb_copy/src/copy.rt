@@ -18,10 +18,12 @@ use crate::known_texts::KnownTexts;
 use adb_fields::{hash_field, int_field, objects_field, texts_field};
 use adb_values::Draft;
 use adb_view::field_indexes::{
-    DEP_MATCH_INDEX, DEP_NAME_INDEX, DEP_VERSION_INDEX, INFO_ARCH_INDEX, INFO_BUILD_TIME_INDEX, INFO_DEPENDS_INDEX, INFO_DESCRIPTION_INDEX,
-    INFO_INSTALL_IF_INDEX, INFO_INSTALLED_SIZE_INDEX, INFO_LAYER_INDEX, INFO_LICENSE_INDEX, INFO_MAINTAINER_INDEX, INFO_NAME_INDEX,
-    INFO_ORIGIN_INDEX, INFO_PROVIDER_PRIORITY_INDEX, INFO_PROVIDES_INDEX, INFO_RECOMMENDS_INDEX, INFO_REPLACES_INDEX,
-    INFO_REPO_COMMIT_INDEX, INFO_TAGS_INDEX, INFO_UNUSED_INDEX, INFO_URL_INDEX, INFO_VERSION_INDEX,
+    DEP_MATCH_INDEX, DEP_NAME_INDEX, DEP_VERSION_INDEX, INFO_ARCH_INDEX, INFO_BUILD_TIME_INDEX,
+    INFO_DEPENDS_INDEX, INFO_DESCRIPTION_INDEX, INFO_INSTALL_IF_INDEX, INFO_INSTALLED_SIZE_INDEX,
+    INFO_LAYER_INDEX, INFO_LICENSE_INDEX, INFO_MAINTAINER_INDEX, INFO_NAME_INDEX,
+    INFO_ORIGIN_INDEX, INFO_PROVIDER_PRIORITY_INDEX, INFO_PROVIDES_INDEX, INFO_RECOMMENDS_INDEX,
+    INFO_REPLACES_INDEX, INFO_REPO_COMMIT_INDEX, INFO_TAGS_INDEX, INFO_UNUSED_INDEX,
+    INFO_URL_INDEX, INFO_VERSION_INDEX,
 };
 use adb_view::{Adb, Arr, Val, Which, entry_word, values_have_their_shape};
 use std::alloc::AllocError;
@@ -67,14 +69,20 @@ pub fn write_info(
     write_deps(draft, adb, known, info, INFO_REPLACES_INDEX)?;
     write_deps(draft, adb, known, info, INFO_INSTALL_IF_INDEX)?;
     write_deps(draft, adb, known, info, INFO_RECOMMENDS_INDEX)?;
-    write_int(draft, int_field(adb, Which::PkgInfo, info, INFO_LAYER_INDEX))?;
+    write_int(
+        draft,
+        int_field(adb, Which::PkgInfo, info, INFO_LAYER_INDEX),
+    )?;
     write_text_list(
         draft,
         adb,
         known,
         texts_field(adb, Which::PkgInfo, info, INFO_TAGS_INDEX),
     )?;
-    write_int(draft, int_field(adb, Which::PkgInfo, info, INFO_UNUSED_INDEX))?;
+    write_int(
+        draft,
+        int_field(adb, Which::PkgInfo, info, INFO_UNUSED_INDEX),
+    )?;
     draft.close_object()
 }
 

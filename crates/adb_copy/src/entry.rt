@@ -15,10 +15,11 @@ use crate::known_texts::KnownTexts;
 use adb_fields::{field_word, hash_field, int_field, texts_field};
 use adb_values::Draft;
 use adb_view::field_indexes::{
-    ACL_GROUP_INDEX, ACL_MODE_INDEX, ACL_USER_INDEX, ACL_XATTRS_INDEX, FILE_ACL_INDEX, FILE_HASHES_INDEX, FILE_MTIME_INDEX, FILE_NAME_INDEX,
-    FILE_SIZE_INDEX, FILE_TARGET_INDEX, FILE_UNUSED_INDEX, SCRIPTS_POST_DEINSTALL_INDEX, SCRIPTS_POST_INSTALL_INDEX,
-    SCRIPTS_POST_UPGRADE_INDEX, SCRIPTS_PRE_DEINSTALL_INDEX, SCRIPTS_PRE_INSTALL_INDEX, SCRIPTS_PRE_UPGRADE_INDEX,
-    SCRIPTS_TRIGGER_INDEX,
+    ACL_GROUP_INDEX, ACL_MODE_INDEX, ACL_USER_INDEX, ACL_XATTRS_INDEX, FILE_ACL_INDEX,
+    FILE_HASHES_INDEX, FILE_MTIME_INDEX, FILE_NAME_INDEX, FILE_SIZE_INDEX, FILE_TARGET_INDEX,
+    FILE_UNUSED_INDEX, SCRIPTS_POST_DEINSTALL_INDEX, SCRIPTS_POST_INSTALL_INDEX,
+    SCRIPTS_POST_UPGRADE_INDEX, SCRIPTS_PRE_DEINSTALL_INDEX, SCRIPTS_PRE_INSTALL_INDEX,
+    SCRIPTS_PRE_UPGRADE_INDEX, SCRIPTS_TRIGGER_INDEX,
 };
 use adb_view::{Adb, Val, Which, values_have_their_shape};
 use std::alloc::AllocError;
@@ -117,11 +118,47 @@ pub fn write_scripts(
     values_have_their_shape();
     draft.open_list()?;
     known.write_field(draft, adb, Which::Scripts, scripts, SCRIPTS_TRIGGER_INDEX)?;
-    known.write_field(draft, adb, Which::Scripts, scripts, SCRIPTS_PRE_INSTALL_INDEX)?;
-    known.write_field(draft, adb, Which::Scripts, scripts, SCRIPTS_POST_INSTALL_INDEX)?;
-    known.write_field(draft, adb, Which::Scripts, scripts, SCRIPTS_PRE_DEINSTALL_INDEX)?;
-    known.write_field(draft, adb, Which::Scripts, scripts, SCRIPTS_POST_DEINSTALL_INDEX)?;
-    known.write_field(draft, adb, Which::Scripts, scripts, SCRIPTS_PRE_UPGRADE_INDEX)?;
-    known.write_field(draft, adb, Which::Scripts, scripts, SCRIPTS_POST_UPGRADE_INDEX)?;
+    known.write_field(
+        draft,
+        adb,
+        Which::Scripts,
+        scripts,
+        SCRIPTS_PRE_INSTALL_INDEX,
+    )?;
+    known.write_field(
+        draft,
+        adb,
+        Which::Scripts,
+        scripts,
+        SCRIPTS_POST_INSTALL_INDEX,
+    )?;
+    known.write_field(
+        draft,
+        adb,
+        Which::Scripts,
+        scripts,
+        SCRIPTS_PRE_DEINSTALL_INDEX,
+    )?;
+    known.write_field(
+        draft,
+        adb,
+        Which::Scripts,
+        scripts,
+        SCRIPTS_POST_DEINSTALL_INDEX,
+    )?;
+    known.write_field(
+        draft,
+        adb,
+        Which::Scripts,
+        scripts,
+        SCRIPTS_PRE_UPGRADE_INDEX,
+    )?;
+    known.write_field(
+        draft,
+        adb,
+        Which::Scripts,
+        scripts,
+        SCRIPTS_POST_UPGRADE_INDEX,
+    )?;
     draft.close_object()
 }

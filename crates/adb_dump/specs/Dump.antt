@@ -151,7 +151,8 @@ object_lines_by_table which v = block_lines (shape_of (Obj which)) v
 -- the lines of a whole dump: that of the schema, and those of the root; a table that is no root has an
 -- empty first line
 abbrev pub dump_lines : Which → Plain → List Line
-dump_lines which v = schema_line_or_empty_line (header_schema_if_root_table which) ∷ object_lines_by_table which v
+dump_lines which v =
+    schema_line_or_empty_line (header_schema_if_root_table which) ∷ object_lines_by_table which v
 
 -- the bytes of a text: each line with its line end
 abbrev pub dump_text_of_lines : List Line → List ℕ

@@ -191,11 +191,14 @@ unfoldable mutual
   -- the value of the shape that has exactly these lines; or the number of the first bad line
   pub block_read : Shape → List Line → ResultOrBadLine Plain
   block_read number ls =
-      single_line_value (λ l. value_if_printed_as_line int_or_null_line l (int_of_line_of_unchecked_form l)) ls
+      single_line_value (λ l. value_if_printed_as_line int_or_null_line l
+      (int_of_line_of_unchecked_form l)) ls
   block_read text ls =
-      single_line_value (λ l. value_if_printed_as_line text_or_null_line l (text_of_line_of_unchecked_form l)) ls
+      single_line_value (λ l. value_if_printed_as_line text_or_null_line l
+      (text_of_line_of_unchecked_form l)) ls
   block_read hash ls =
-      single_line_value (λ l. value_if_printed_as_line hash_or_null_line l (hash_of_line_of_unchecked_form l)) ls
+      single_line_value (λ l. value_if_printed_as_line hash_or_null_line l
+      (hash_of_line_of_unchecked_form l)) ls
   block_read (array s) ls =
       and_then (entries_read_with_recursion_bound (block_read s) (length ls) ls) array_or_bad_line_if_empty
   block_read (object schema fs) ls = and_then (fields_read fs ls) object_or_bad_line_if_empty

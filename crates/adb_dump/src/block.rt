@@ -25,8 +25,8 @@ use crate::line::{
 use crate::text_out::{BlobOut, Count, Out, Room};
 use crate::words::{field_words, is_null};
 use adb_schema::{
-    Field, FieldName, Kind, Shaped, Which, fields_of, hash_word, int_word, objects_word,
-    header_schema_if_root_table, text_word, texts_word,
+    Field, FieldName, Kind, Shaped, Which, fields_of, hash_word, header_schema_if_root_table,
+    int_word, objects_word, text_word, texts_word,
 };
 use adb_view::{Adb, Arr, Val, entry_word};
 use base_core::Text;

@@ -29,7 +29,8 @@ pub fn lines_of_values_are_read_back()
 /// A law: if lines are read as a value of a table, this value is a normal one of the table, and the
 /// lines are those of this value.
 pub fn only_lines_of_values_are_read()
-    ensures { (which : Which) (ls : List Line) (v : Plain) → value_of_lines_below_schema_line which ls
+    ensures { (which : Which) (ls : List Line) (v : Plain)
+        → value_of_lines_below_schema_line which ls
         ≡ Ok v
         → (object_lines_by_table which v ≡ ls) × IsNormalValueOfTable which v }
 {}

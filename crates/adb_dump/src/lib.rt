@@ -31,7 +31,8 @@ mod words;
 
 pub use adb_schema::{
     Field, FieldName, IDB_WORD, INDEX_WORD, INTENT_WORD, Kind, PACKAGE_WORD, ReadFault, Shaped,
-    Which, fields_of, is_reserved, header_schema_if_root_table, shape, sound_containers_hold_sound_values,
+    Which, fields_of, header_schema_if_root_table, is_reserved, shape,
+    sound_containers_hold_sound_values,
 };
 pub use block::{dump, has_one_line};
 pub use laws::{

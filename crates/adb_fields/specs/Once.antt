@@ -52,6 +52,7 @@ abbrev pub HasNoForbiddenRepeatedName : Which → Plain → Type 0
 HasNoForbiddenRepeatedName Package v = HaveNoRepeatInside (v ∷ [])
 HasNoForbiddenRepeatedName Idb v = HaveNoRepeatInside (entries_of_field_at_index IDB_PACKAGES_INDEX v)
     × HaveNoRepeatBetween (entries_of_field_at_index IDB_PACKAGES_INDEX v)
-HasNoForbiddenRepeatedName Intent v = AreDistinctNames (map text_in (entries_of_field_at_index INTENT_REMOVALS_INDEX v)
+HasNoForbiddenRepeatedName Intent v =
+    AreDistinctNames (map text_in (entries_of_field_at_index INTENT_REMOVALS_INDEX v)
     ++ map text_in (entries_of_field_at_index INTENT_WRITES_INDEX v))
 HasNoForbiddenRepeatedName which v = Unit {0}

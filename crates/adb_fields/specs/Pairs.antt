@@ -14,7 +14,8 @@ pub record NameWithPosition : Type 0 where
 -- whether the pair p is reported rather than q: its second position is smaller; or the second positions are equal, and
 -- its first position is smaller
 abbrev pub is_lesser_pair_by_second_then_first : Pair → Pair → Bool
-is_lesser_pair_by_second_then_first p q = nat_lt p.second q.second || (p.second == q.second && nat_lt p.first q.first)
+is_lesser_pair_by_second_then_first p q =
+    nat_lt p.second q.second || (p.second == q.second && nat_lt p.first q.first)
 
 -- of two pairs the one that is reported (*is_lesser_pair_by_second_then_first*); None if there is neither
 abbrev pub lesser_pair : Option Pair → Option Pair → Option Pair

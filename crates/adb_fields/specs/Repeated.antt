@@ -29,7 +29,8 @@ least_positions_of_name_twice_in_list names = least_pair_of_equal_names (numbere
 -- of all pairs of positions at which one of several lists has the same name, the one that is reported; None if in each
 -- list each name occurs once
 abbrev pub least_positions_of_name_twice_in_one_list : List (List (List ℕ)) → Option Pair
-least_positions_of_name_twice_in_one_list lists = least_pair (map least_positions_of_name_twice_in_list lists)
+least_positions_of_name_twice_in_one_list lists =
+    least_pair (map least_positions_of_name_twice_in_list lists)
 
 -- these names, all of them at position n
 abbrev pub names_all_at_position : ℕ → List (List ℕ) → List NameWithPosition
@@ -101,7 +102,8 @@ positions_of_file_repeated_in_a_folder packages = least_positions_of_name_twice_
 -- the pair of positions of two packages of a database that have the same name; of all such pairs the one that is
 -- reported
 abbrev pub positions_of_repeated_package_name : List Plain → Option Pair
-positions_of_repeated_package_name packages = least_positions_of_name_twice_in_list (map package_name packages)
+positions_of_repeated_package_name packages =
+    least_positions_of_name_twice_in_list (map package_name packages)
 
 -- the pair of positions of two packages that list the same path; of all such pairs the one that is reported
 abbrev pub pair_of_packages_listing_one_path : List Plain → Option Pair
@@ -112,7 +114,8 @@ pair_of_packages_listing_one_path packages =
 -- all such pairs the one that is reported
 abbrev pub positions_of_repeated_intent_name : Plain → Option Pair
 positions_of_repeated_intent_name intent = least_positions_of_name_twice_in_list
-    (map text_in (entries_of_field_at_index INTENT_REMOVALS_INDEX intent) ++ map text_in (entries_of_field_at_index INTENT_WRITES_INDEX intent))
+    (map text_in (entries_of_field_at_index INTENT_REMOVALS_INDEX intent)
+    ++ map text_in (entries_of_field_at_index INTENT_WRITES_INDEX intent))
 
 -- ---- the fault of a container
 
@@ -131,20 +134,25 @@ abbrev pub fault_of_package_repeating_folder_or_file : List Plain → Option Cau
 fault_of_package_repeating_folder_or_file packages =
     option_or (repeated_cause (place_in_causes_of_field_at_index Dir DIR_NAME_INDEX)
     (positions_of_folder_repeated_in_a_package packages))
-    (repeated_cause (place_in_causes_of_field_at_index File FILE_NAME_INDEX) (positions_of_file_repeated_in_a_folder packages))
+    (repeated_cause (place_in_causes_of_field_at_index File FILE_NAME_INDEX)
+    (positions_of_file_repeated_in_a_folder packages))
 
 -- the cause if two of these packages have the same name, or else if two list the same path
 abbrev pub fault_of_two_packages_sharing_name_or_path : List Plain → Option Cause
 fault_of_two_packages_sharing_name_or_path packages =
-    option_or (repeated_cause (place_in_causes_of_field_at_index Idb IDB_PACKAGES_INDEX) (positions_of_repeated_package_name packages))
-    (repeated_cause (place_in_causes_of_field_at_index File FILE_NAME_INDEX) (pair_of_packages_listing_one_path packages))
+    option_or (repeated_cause (place_in_causes_of_field_at_index Idb IDB_PACKAGES_INDEX)
+    (positions_of_repeated_package_name packages))
+    (repeated_cause (place_in_causes_of_field_at_index File FILE_NAME_INDEX)
+    (pair_of_packages_listing_one_path packages))
 
 -- the cause that reports a repeated name in the value of a container, whose root has the table `which`. The kinds of
 -- names are searched in this order, and the first kind with a repeated name is reported
 unfoldable pub repeated_fault : Which → Plain → Option Cause
 repeated_fault Package v = fault_of_package_repeating_folder_or_file (v ∷ [])
-repeated_fault Idb v = option_or (fault_of_package_repeating_folder_or_file (entries_of_field_at_index IDB_PACKAGES_INDEX v))
+repeated_fault Idb v =
+    option_or (fault_of_package_repeating_folder_or_file (entries_of_field_at_index IDB_PACKAGES_INDEX v))
     (fault_of_two_packages_sharing_name_or_path (entries_of_field_at_index IDB_PACKAGES_INDEX v))
 repeated_fault Intent v =
-    repeated_cause (place_in_causes_of_field_at_index Intent INTENT_WRITES_INDEX) (positions_of_repeated_intent_name v)
+    repeated_cause (place_in_causes_of_field_at_index Intent INTENT_WRITES_INDEX)
+    (positions_of_repeated_intent_name v)
 repeated_fault which v = None

@@ -112,7 +112,8 @@ fn name_twice_in_list(
     requires kind { kind_at which NAME_INDEX ≡ Some Kinds.Text }
     // On Ok, the pair, or None, is that of the definition.
     ensures { IfOk result (λ pair. pair
-        ≡ least_positions_of_name_twice_in_list (map name_of (plains_of_array_words (payload_of adb.entry)
+        ≡ least_positions_of_name_twice_in_list (map name_of (plains_of_array_words
+        (payload_of adb.entry)
         (Kinds.Obj which)
         (array_entries objects.entry)))) }
 {

@@ -18,7 +18,8 @@ use crate::file_path::FilePath;
 use crate::pairs::PathWithPosition;
 use crate::reads::{field_word, objects_field, text_field, text_word};
 use adb_view::field_indexes::{
-    DIR_FILES_INDEX, DIR_NAME_INDEX, FILE_NAME_INDEX, INFO_NAME_INDEX, PACKAGE_INFO_INDEX, PACKAGE_PATHS_INDEX,
+    DIR_FILES_INDEX, DIR_NAME_INDEX, FILE_NAME_INDEX, INFO_NAME_INDEX, PACKAGE_INFO_INDEX,
+    PACKAGE_PATHS_INDEX,
 };
 use adb_view::{Adb, Arr, Val, Which, entry_word};
 use std::alloc::{AllocError, Global};

@@ -24,7 +24,8 @@ use crate::name_lists::{add_texts, all_paths, package_names};
 use crate::pairs::{Pair, least_pair_of_equal_names, lesser_pair};
 use crate::reads::{field_word, objects_field, texts_field};
 use adb_view::field_indexes::{
-    DIR_FILES_INDEX, IDB_PACKAGES_INDEX, INTENT_REMOVALS_INDEX, INTENT_WRITES_INDEX, PACKAGE_PATHS_INDEX,
+    DIR_FILES_INDEX, IDB_PACKAGES_INDEX, INTENT_REMOVALS_INDEX, INTENT_WRITES_INDEX,
+    PACKAGE_PATHS_INDEX,
 };
 use adb_view::{Adb, Arr, Shaped, Val, Which, entry_word, values_of_few_visits_have_no_fault};
 use base_core::Cause;
@@ -206,14 +207,17 @@ fn in_intent(alloc: Global, adb: Adb<'_>, intent: Val) -> Result<Option<Cause>, 
     requires sound { is_sound (payload_of adb) (Kinds.Obj Tables.Intent) intent ≡ true }
     // The intent has fewer than 2^32 removals and writes together.
     requires few { count_of (entries_in
-        (entry_at_index (value_at (payload_of adb) (Kinds.Obj Tables.Intent) intent) INTENT_REMOVALS_INDEX)) +
+        (entry_at_index (value_at (payload_of adb)
+        (Kinds.Obj Tables.Intent) intent) INTENT_REMOVALS_INDEX)) +
         count_of (entries_in
-        (entry_at_index (value_at (payload_of adb) (Kinds.Obj Tables.Intent) intent) INTENT_WRITES_INDEX))
+        (entry_at_index (value_at (payload_of adb)
+        (Kinds.Obj Tables.Intent) intent) INTENT_WRITES_INDEX))
         < 2 ^ 32 }
     // On Ok, the cause, or None, is that of the definition.
     ensures { IfOk result (λ cause. cause
         ≡ repeated_cause (place_in_causes_of_field_at_index Tables.Intent INTENT_WRITES_INDEX)
-        (positions_of_repeated_intent_name (value_at (payload_of adb.entry) (Kinds.Obj Tables.Intent) intent))) }
+        (positions_of_repeated_intent_name (value_at (payload_of adb.entry)
+        (Kinds.Obj Tables.Intent) intent))) }
 {
     let removals = texts_field(adb, Which::Intent, intent, INTENT_REMOVALS_INDEX);
     let writes = texts_field(adb, Which::Intent, intent, INTENT_WRITES_INDEX);
@@ -245,7 +249,10 @@ fn folder_twice_in_package(
     // `lists` still remembers lists of objects of this table, in this payload.
     ensures lists { AreRememberedListsOf adb.entry Tables.Dir lists.new }
 {
-    lists.least_positions_of_name_twice_in_list(alloc, field_word(adb, Which::Package, pkg, PACKAGE_PATHS_INDEX))
+    lists.least_positions_of_name_twice_in_list(
+        alloc,
+        field_word(adb, Which::Package, pkg, PACKAGE_PATHS_INDEX),
+    )
 }
 
 /// The first pair of positions at which a folder of the package lists the same file twice; None if
@@ -298,7 +305,10 @@ fn file_twice_in_folder(
     // `lists` still remembers lists of objects of this table, in this payload.
     ensures lists { AreRememberedListsOf adb.entry Tables.File lists.new }
 {
-    lists.least_positions_of_name_twice_in_list(alloc, field_word(adb, Which::Dir, folder, DIR_FILES_INDEX))
+    lists.least_positions_of_name_twice_in_list(
+        alloc,
+        field_word(adb, Which::Dir, folder, DIR_FILES_INDEX),
+    )
 }
 
 /// The first pair of positions at which one of the packages lists the same folder twice; None if

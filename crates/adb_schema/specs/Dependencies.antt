@@ -11,5 +11,6 @@ use Rattle.dep_core.specs.ValueReading.{dependency_of_value}
 -- denote none, which never happens in a tested container
 abbrev pub dependency_in : Plain → Option Dependency
 dependency_in value =
-    dependency_of_value (text_in (entry_at_index value DEP_NAME_INDEX)) (text_in (entry_at_index value DEP_VERSION_INDEX))
+    dependency_of_value (text_in (entry_at_index value DEP_NAME_INDEX))
+    (text_in (entry_at_index value DEP_VERSION_INDEX))
     (int_in (entry_at_index value DEP_MATCH_INDEX))

@@ -36,13 +36,17 @@ pub record ObeysTextAndNumberRulesOfInformation (root : Which) (v : Plain) : Typ
   -- field 315: each entry obeys the rules of a dependency, as in the next four fields
   pub depends : Each ObeysTextAndNumberRulesOfDependency (entries_in (entry_at_index v INFO_DEPENDS_INDEX))
   -- field 316
-  pub provides : Each ObeysTextAndNumberRulesOfDependency (entries_in (entry_at_index v INFO_PROVIDES_INDEX))
+  pub provides : Each ObeysTextAndNumberRulesOfDependency
+      (entries_in (entry_at_index v INFO_PROVIDES_INDEX))
   -- field 317
-  pub replaces : Each ObeysTextAndNumberRulesOfDependency (entries_in (entry_at_index v INFO_REPLACES_INDEX))
+  pub replaces : Each ObeysTextAndNumberRulesOfDependency
+      (entries_in (entry_at_index v INFO_REPLACES_INDEX))
   -- field 318
-  pub install_if : Each ObeysTextAndNumberRulesOfDependency (entries_in (entry_at_index v INFO_INSTALL_IF_INDEX))
+  pub install_if : Each ObeysTextAndNumberRulesOfDependency
+      (entries_in (entry_at_index v INFO_INSTALL_IF_INDEX))
   -- field 319
-  pub recommends : Each ObeysTextAndNumberRulesOfDependency (entries_in (entry_at_index v INFO_RECOMMENDS_INDEX))
+  pub recommends : Each ObeysTextAndNumberRulesOfDependency
+      (entries_in (entry_at_index v INFO_RECOMMENDS_INDEX))
 
 -- the entry `v` of a file obeys the rules of its fields, in a folder with the path `folder` and a container
 -- with the table `root` at its root. A file with contents has their hash, which may be missing in a database
@@ -50,7 +54,8 @@ pub record ObeysTextAndNumberRulesOfFileInFolder (root : Which) (folder : List �
   -- field 401: one part of a path, short enough for a file in this folder
   pub name : is_valid_file_name_in_folder folder (text_in (entry_at_index v FILE_NAME_INDEX)) ≡ true
   -- field 401 again: a database lists no file under a reserved name
-  pub listed : is_path_unreserved_if_in_database root (path_of folder (text_in (entry_at_index v FILE_NAME_INDEX))) ≡ true
+  pub listed : is_path_unreserved_if_in_database root
+      (path_of folder (text_in (entry_at_index v FILE_NAME_INDEX))) ≡ true
   -- field 405: the length of the hash, which may be 0 if no hash is needed
   pub hash : (if is_file_hash_needed_unless_in_database root (is_file_with_contents v)
       then is_digest_length (length (text_in (entry_at_index v FILE_HASHES_INDEX)))
@@ -71,12 +76,14 @@ pub record ObeysTextAndNumberRulesOfPackage (root : Which) (v : Plain) : Type 0 
   -- the information of the package obeys the rules of its fields
   pub info : ObeysTextAndNumberRulesOfInformation root (entry_at_index v PACKAGE_INFO_INDEX)
   -- each folder of the package obeys the rules of its fields
-  pub folders : Each (ObeysTextAndNumberRulesOfFolder root) (entries_in (entry_at_index v PACKAGE_PATHS_INDEX))
+  pub folders : Each (ObeysTextAndNumberRulesOfFolder root)
+      (entries_in (entry_at_index v PACKAGE_PATHS_INDEX))
 
 -- an index `v` obeys the rules of its fields
 pub record ObeysTextAndNumberRulesOfIndex (v : Plain) : Type 0 where
   -- field 802: each entry, the information of a package, obeys the rules of table 3
-  pub packages : Each (ObeysTextAndNumberRulesOfInformation Index) (entries_in (entry_at_index v INDEX_PACKAGES_INDEX))
+  pub packages : Each (ObeysTextAndNumberRulesOfInformation Index)
+      (entries_in (entry_at_index v INDEX_PACKAGES_INDEX))
   -- field 803: the pattern of file names
   pub pattern : is_supported_pkgname_spec (text_in (entry_at_index v INDEX_PKGNAME_SPEC_INDEX)) ≡ true
 
@@ -101,5 +108,6 @@ ObeysTextAndNumberRulesOfTable Dir v = ObeysTextAndNumberRulesOfFolder Dir v
 ObeysTextAndNumberRulesOfTable Scripts v = Unit {0}
 ObeysTextAndNumberRulesOfTable Package v = ObeysTextAndNumberRulesOfPackage Package v
 ObeysTextAndNumberRulesOfTable Index v = ObeysTextAndNumberRulesOfIndex v
-ObeysTextAndNumberRulesOfTable Idb v = Each (ObeysTextAndNumberRulesOfPackage Idb) (entries_in (entry_at_index v IDB_PACKAGES_INDEX))
+ObeysTextAndNumberRulesOfTable Idb v =
+    Each (ObeysTextAndNumberRulesOfPackage Idb) (entries_in (entry_at_index v IDB_PACKAGES_INDEX))
 ObeysTextAndNumberRulesOfTable Intent v = ObeysTextAndNumberRulesOfIntent v

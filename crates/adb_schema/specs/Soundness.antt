@@ -65,7 +65,8 @@ truncated_or_unexpected_contents_cause payload at = if nat_lt (length payload) 8
 -- why a block is not allowed after the first in a container without files, if it has contents; a block
 -- of another kind is allowed
 abbrev pub truncated_or_unexpected_contents_fault : BlockKind → List ℕ → ℕ → Option Cause
-truncated_or_unexpected_contents_fault Contents payload at = Some (truncated_or_unexpected_contents_cause payload at)
+truncated_or_unexpected_contents_fault Contents payload at =
+    Some (truncated_or_unexpected_contents_cause payload at)
 truncated_or_unexpected_contents_fault kind payload at = None
 
 -- the first fault of the blocks after the first, in a container without files: of their framing, or
@@ -92,7 +93,8 @@ is_wanted_schema_present_and_equal None schema = false
 
 -- the fault of a file whose schema is not that of the table, or None
 abbrev pub schema_fault : Which → ℕ → Option Cause
-schema_fault which schema = if is_wanted_schema_present_and_equal (header_schema_if_root_table which) schema then None
+schema_fault which schema =
+    if is_wanted_schema_present_and_equal (header_schema_if_root_table which) schema then None
     else Some (WrongSchema schema)
 
 -- the first fault of the blocks of a file: of the first block, or of the blocks after it. `rest` tests the
@@ -105,7 +107,8 @@ blocks_fault rest which (more b at r) = option_or (payload_fault which b.payload
 
 -- the first fault of a file: of its header, of its schema, or of its blocks. The last argument is what the
 -- header gives: the schema, or the cause for which the header is refused
-abbrev pub file_fault_by_header_schema_or_fault : (Plain → Reading → Option Cause) → Which → List ℕ → Result ℕ Cause
+abbrev pub file_fault_by_header_schema_or_fault : (Plain → Reading → Option Cause) → Which → List ℕ
+    → Result ℕ Cause
     → Option Cause
 file_fault_by_header_schema_or_fault rest which file (Err c) = Some c
 file_fault_by_header_schema_or_fault rest which file (Ok schema) = option_or (schema_fault which schema)
@@ -113,7 +116,8 @@ file_fault_by_header_schema_or_fault rest which file (Ok schema) = option_or (sc
 
 -- the first fault of a file, if `rest` tests the blocks after the first
 abbrev pub file_fault_with_rest_test : (Plain → Reading → Option Cause) → Which → List ℕ → Option Cause
-file_fault_with_rest_test rest which file = file_fault_by_header_schema_or_fault rest which file (schema_of_header file)
+file_fault_with_rest_test rest which file =
+    file_fault_by_header_schema_or_fault rest which file (schema_of_header file)
 
 -- the first failed test of a file as a container with this table at its root. For a package, the blocks after
 -- the first, which have the contents of files, are not tested here

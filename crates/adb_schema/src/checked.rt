@@ -16,8 +16,8 @@ use crate::read::ReadFault;
 use crate::text_walk::{check_texts, no_text_is_bad_where_each_keeps_its_rule};
 use adb_fields::{Kinded, List, View, objects_field, text_field, texts_field};
 use adb_view::field_indexes::{
-    IDB_PACKAGES_INDEX, INDEX_DESCRIPTION_INDEX, INDEX_PACKAGES_INDEX, INDEX_PKGNAME_SPEC_INDEX, INTENT_REMOVALS_INDEX,
-    INTENT_WRITES_INDEX,
+    IDB_PACKAGES_INDEX, INDEX_DESCRIPTION_INDEX, INDEX_PACKAGES_INDEX, INDEX_PKGNAME_SPEC_INDEX,
+    INTENT_REMOVALS_INDEX, INTENT_WRITES_INDEX,
 };
 use adb_view::{Adb, Shaped, Val, Which, entry_word};
 use std::alloc::Global;
@@ -76,7 +76,8 @@ impl<'a> Checked<'a> {
     /// Each text and number of a checked payload obeys the rule of its field: a name is a
     /// package's, a version a version.
     pub fn values_keep_their_rules(&self)
-        ensures { ObeysTextAndNumberRulesOfTable (table_of_checked self.now) (checked_value self.now) }
+        ensures { ObeysTextAndNumberRulesOfTable (table_of_checked self.now)
+            (checked_value self.now) }
     {
         no_text_is_bad_where_each_keeps_its_rule();
     }
@@ -188,7 +189,8 @@ impl<'a> IndexView<'a> {
 
     /// The description of the index.
     pub fn description(&self) -> &'a [u8]
-        ensures { result.now ≡ text_in (entry_at_index (index_value self.now) INDEX_DESCRIPTION_INDEX) }
+        ensures { result.now
+            ≡ text_in (entry_at_index (index_value self.now) INDEX_DESCRIPTION_INDEX) }
     {
         text_field(
             self.adb,
@@ -214,7 +216,8 @@ impl<'a> IndexView<'a> {
 
     /// How the files of the index's packages are named: empty, or `${name}-${version}.apk`.
     pub fn pkgname_spec(&self) -> &'a [u8]
-        ensures { result.now ≡ text_in (entry_at_index (index_value self.now) INDEX_PKGNAME_SPEC_INDEX) }
+        ensures { result.now
+            ≡ text_in (entry_at_index (index_value self.now) INDEX_PKGNAME_SPEC_INDEX) }
     {
         text_field(
             self.adb,
@@ -274,7 +277,8 @@ impl<'a> IdbView<'a> {
     /// The package at a place, counted from 0, which is read from the payload of the database.
     pub fn package_at(&self, i: usize) -> PackageView<'a>
         // `i` is the index of one of the database's packages.
-        requires { i < count_of (entries_in (entry_at_index (idb_value self.now) IDB_PACKAGES_INDEX)) }
+        requires { i < count_of (entries_in (entry_at_index
+            (idb_value self.now) IDB_PACKAGES_INDEX)) }
         // The value is that of entry `i` of the database's packages.
         ensures value { package_value result
             ≡ entry_at_index (entry_at_index (idb_value self.now) IDB_PACKAGES_INDEX) i }

@@ -41,8 +41,9 @@ pub use judged::{Judged, TextRule};
 pub use package::{AclView, DirInfo, FileInfo, PackageView, ScriptsView};
 pub use package_info::{DepView, PkgInfo};
 pub use read::{
-    IDB_WORD, INDEX_WORD, INTENT_WORD, PACKAGE_WORD, ReadFault, folder_and_file_positions_from_payload, read_adb,
-    repeated, header_schema_if_root_table, schema_words_are_as_listed, sound_containers_hold_sound_values,
+    IDB_WORD, INDEX_WORD, INTENT_WORD, PACKAGE_WORD, ReadFault,
+    folder_and_file_positions_from_payload, header_schema_if_root_table, read_adb, repeated,
+    schema_words_are_as_listed, sound_containers_hold_sound_values,
 };
 pub use rules::{
     is_folder_name, is_intent_or_stage_name, is_one_part, is_reserved, is_reserved_file,

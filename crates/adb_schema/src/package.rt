@@ -12,10 +12,12 @@ use adb_fields::{
     Kinded, List, View, field_word, hash_field, int_field, objects_field, text_field, texts_field,
 };
 use adb_view::field_indexes::{
-    ACL_GROUP_INDEX, ACL_MODE_INDEX, ACL_USER_INDEX, ACL_XATTRS_INDEX, DIR_ACL_INDEX, DIR_FILES_INDEX, DIR_NAME_INDEX, FILE_ACL_INDEX, FILE_HASHES_INDEX,
-    FILE_MTIME_INDEX, FILE_NAME_INDEX, FILE_SIZE_INDEX, FILE_TARGET_INDEX, FILE_UNUSED_INDEX, PACKAGE_INFO_INDEX, PACKAGE_PATHS_INDEX,
-    PACKAGE_REPLACES_PRIORITY_INDEX, PACKAGE_SCRIPTS_INDEX, PACKAGE_TRIGGERS_INDEX, SCRIPTS_POST_DEINSTALL_INDEX,
-    SCRIPTS_POST_INSTALL_INDEX, SCRIPTS_POST_UPGRADE_INDEX, SCRIPTS_PRE_DEINSTALL_INDEX, SCRIPTS_PRE_INSTALL_INDEX,
+    ACL_GROUP_INDEX, ACL_MODE_INDEX, ACL_USER_INDEX, ACL_XATTRS_INDEX, DIR_ACL_INDEX,
+    DIR_FILES_INDEX, DIR_NAME_INDEX, FILE_ACL_INDEX, FILE_HASHES_INDEX, FILE_MTIME_INDEX,
+    FILE_NAME_INDEX, FILE_SIZE_INDEX, FILE_TARGET_INDEX, FILE_UNUSED_INDEX, PACKAGE_INFO_INDEX,
+    PACKAGE_PATHS_INDEX, PACKAGE_REPLACES_PRIORITY_INDEX, PACKAGE_SCRIPTS_INDEX,
+    PACKAGE_TRIGGERS_INDEX, SCRIPTS_POST_DEINSTALL_INDEX, SCRIPTS_POST_INSTALL_INDEX,
+    SCRIPTS_POST_UPGRADE_INDEX, SCRIPTS_PRE_DEINSTALL_INDEX, SCRIPTS_PRE_INSTALL_INDEX,
     SCRIPTS_PRE_UPGRADE_INDEX, SCRIPTS_TRIGGER_INDEX,
 };
 use adb_view::{Adb, Val, Which};
@@ -224,7 +226,13 @@ impl<'a> DirInfo<'a> {
     pub fn files(&self) -> List<'a, FileInfo<'a>>
         ensures { list_value result ≡ entry_at_index (dir_value self.now) DIR_FILES_INDEX }
     {
-        let entries = objects_field(self.adb, Which::Dir, self.word, DIR_FILES_INDEX, Which::File);
+        let entries = objects_field(
+            self.adb,
+            Which::Dir,
+            self.word,
+            DIR_FILES_INDEX,
+            Which::File,
+        );
         List::of(self.adb, entries)
     }
 }
@@ -263,51 +271,88 @@ impl<'a> ScriptsView<'a> {
 
     /// The script for a change in a folder that matches a pattern of `PackageView::triggers`.
     pub fn trigger(&self) -> &'a [u8]
-        ensures { result.now ≡ text_in (entry_at_index (scripts_value self.now) SCRIPTS_TRIGGER_INDEX) }
+        ensures { result.now
+            ≡ text_in (entry_at_index (scripts_value self.now) SCRIPTS_TRIGGER_INDEX) }
     {
         text_field(self.adb, Which::Scripts, self.word, SCRIPTS_TRIGGER_INDEX)
     }
 
     /// The script for before an installation of the package.
     pub fn pre_install(&self) -> &'a [u8]
-        ensures { result.now ≡ text_in (entry_at_index (scripts_value self.now) SCRIPTS_PRE_INSTALL_INDEX) }
+        ensures { result.now
+            ≡ text_in (entry_at_index (scripts_value self.now) SCRIPTS_PRE_INSTALL_INDEX) }
     {
-        text_field(self.adb, Which::Scripts, self.word, SCRIPTS_PRE_INSTALL_INDEX)
+        text_field(
+            self.adb,
+            Which::Scripts,
+            self.word,
+            SCRIPTS_PRE_INSTALL_INDEX,
+        )
     }
 
     /// The script for after an installation of the package.
     pub fn post_install(&self) -> &'a [u8]
-        ensures { result.now ≡ text_in (entry_at_index (scripts_value self.now) SCRIPTS_POST_INSTALL_INDEX) }
+        ensures { result.now
+            ≡ text_in (entry_at_index (scripts_value self.now) SCRIPTS_POST_INSTALL_INDEX) }
     {
-        text_field(self.adb, Which::Scripts, self.word, SCRIPTS_POST_INSTALL_INDEX)
+        text_field(
+            self.adb,
+            Which::Scripts,
+            self.word,
+            SCRIPTS_POST_INSTALL_INDEX,
+        )
     }
 
     /// The script for before a removal of the package.
     pub fn pre_deinstall(&self) -> &'a [u8]
-        ensures { result.now ≡ text_in (entry_at_index (scripts_value self.now) SCRIPTS_PRE_DEINSTALL_INDEX) }
+        ensures { result.now
+            ≡ text_in (entry_at_index (scripts_value self.now) SCRIPTS_PRE_DEINSTALL_INDEX) }
     {
-        text_field(self.adb, Which::Scripts, self.word, SCRIPTS_PRE_DEINSTALL_INDEX)
+        text_field(
+            self.adb,
+            Which::Scripts,
+            self.word,
+            SCRIPTS_PRE_DEINSTALL_INDEX,
+        )
     }
 
     /// The script for after a removal of the package.
     pub fn post_deinstall(&self) -> &'a [u8]
-        ensures { result.now ≡ text_in (entry_at_index (scripts_value self.now) SCRIPTS_POST_DEINSTALL_INDEX) }
+        ensures { result.now
+            ≡ text_in (entry_at_index (scripts_value self.now) SCRIPTS_POST_DEINSTALL_INDEX) }
     {
-        text_field(self.adb, Which::Scripts, self.word, SCRIPTS_POST_DEINSTALL_INDEX)
+        text_field(
+            self.adb,
+            Which::Scripts,
+            self.word,
+            SCRIPTS_POST_DEINSTALL_INDEX,
+        )
     }
 
     /// The script for before an upgrade of the package.
     pub fn pre_upgrade(&self) -> &'a [u8]
-        ensures { result.now ≡ text_in (entry_at_index (scripts_value self.now) SCRIPTS_PRE_UPGRADE_INDEX) }
+        ensures { result.now
+            ≡ text_in (entry_at_index (scripts_value self.now) SCRIPTS_PRE_UPGRADE_INDEX) }
     {
-        text_field(self.adb, Which::Scripts, self.word, SCRIPTS_PRE_UPGRADE_INDEX)
+        text_field(
+            self.adb,
+            Which::Scripts,
+            self.word,
+            SCRIPTS_PRE_UPGRADE_INDEX,
+        )
     }
 
     /// The script for after an upgrade of the package.
     pub fn post_upgrade(&self) -> &'a [u8]
-        ensures { result.now ≡ text_in (entry_at_index (scripts_value self.now) SCRIPTS_POST_UPGRADE_INDEX) }
+        ensures { result.now
+            ≡ text_in (entry_at_index (scripts_value self.now) SCRIPTS_POST_UPGRADE_INDEX) }
     {
-        text_field(self.adb, Which::Scripts, self.word, SCRIPTS_POST_UPGRADE_INDEX)
+        text_field(
+            self.adb,
+            Which::Scripts,
+            self.word,
+            SCRIPTS_POST_UPGRADE_INDEX,
+        )
     }
 }
 
@@ -400,7 +445,8 @@ impl<'a> PackageView<'a> {
 
     /// The scripts of the package.
     pub fn scripts(&self) -> ScriptsView<'a>
-        ensures { scripts_value result ≡ entry_at_index (package_value self.now) PACKAGE_SCRIPTS_INDEX }
+        ensures { scripts_value result
+            ≡ entry_at_index (package_value self.now) PACKAGE_SCRIPTS_INDEX }
     {
         ScriptsView::of(
             self.adb,
@@ -410,7 +456,8 @@ impl<'a> PackageView<'a> {
 
     /// The patterns of the folders that the package's trigger script watches.
     pub fn triggers(&self) -> List<'a, &'a [u8]>
-        ensures { list_value result ≡ entry_at_index (package_value self.now) PACKAGE_TRIGGERS_INDEX }
+        ensures { list_value result
+            ≡ entry_at_index (package_value self.now) PACKAGE_TRIGGERS_INDEX }
     {
         List::of(
             self.adb,
@@ -421,7 +468,8 @@ impl<'a> PackageView<'a> {
     /// The priority of the package in replacing. If two packages list one path and each names the
     /// other in `replaces`, the one with the greater priority owns the path.
     pub fn replaces_priority(&self) -> u64
-        ensures { result ≡ int_in (entry_at_index (package_value self.now) PACKAGE_REPLACES_PRIORITY_INDEX) }
+        ensures { result ≡ int_in (entry_at_index
+            (package_value self.now) PACKAGE_REPLACES_PRIORITY_INDEX) }
     {
         int_field(
             self.adb,

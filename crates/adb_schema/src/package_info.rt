@@ -11,11 +11,12 @@ use adb_fields::{
     Kinded, List, View, hash_field, int_field, objects_field, text_field, texts_field,
 };
 use adb_view::field_indexes::{
-    DEP_MATCH_INDEX, DEP_NAME_INDEX, DEP_VERSION_INDEX, INFO_ARCH_INDEX, INFO_BUILD_TIME_INDEX, INFO_DEPENDS_INDEX, INFO_DESCRIPTION_INDEX,
-    INFO_FILE_SIZE_INDEX, INFO_HASHES_INDEX, INFO_INSTALL_IF_INDEX, INFO_INSTALLED_SIZE_INDEX, INFO_LAYER_INDEX, INFO_LICENSE_INDEX,
-    INFO_MAINTAINER_INDEX, INFO_NAME_INDEX, INFO_ORIGIN_INDEX, INFO_PROVIDER_PRIORITY_INDEX, INFO_PROVIDES_INDEX,
-    INFO_RECOMMENDS_INDEX, INFO_REPLACES_INDEX, INFO_REPO_COMMIT_INDEX, INFO_TAGS_INDEX, INFO_UNUSED_INDEX, INFO_URL_INDEX,
-    INFO_VERSION_INDEX,
+    DEP_MATCH_INDEX, DEP_NAME_INDEX, DEP_VERSION_INDEX, INFO_ARCH_INDEX, INFO_BUILD_TIME_INDEX,
+    INFO_DEPENDS_INDEX, INFO_DESCRIPTION_INDEX, INFO_FILE_SIZE_INDEX, INFO_HASHES_INDEX,
+    INFO_INSTALL_IF_INDEX, INFO_INSTALLED_SIZE_INDEX, INFO_LAYER_INDEX, INFO_LICENSE_INDEX,
+    INFO_MAINTAINER_INDEX, INFO_NAME_INDEX, INFO_ORIGIN_INDEX, INFO_PROVIDER_PRIORITY_INDEX,
+    INFO_PROVIDES_INDEX, INFO_RECOMMENDS_INDEX, INFO_REPLACES_INDEX, INFO_REPO_COMMIT_INDEX,
+    INFO_TAGS_INDEX, INFO_UNUSED_INDEX, INFO_URL_INDEX, INFO_VERSION_INDEX,
 };
 use adb_view::{Adb, Val, Which};
 
@@ -59,7 +60,8 @@ impl<'a> DepView<'a> {
 
     /// The version of the dependency; empty for none.
     pub fn version(&self) -> &'a [u8]
-        ensures { result.now ≡ text_in (entry_at_index (dependency_value self.now) DEP_VERSION_INDEX) }
+        ensures { result.now
+            ≡ text_in (entry_at_index (dependency_value self.now) DEP_VERSION_INDEX) }
     {
         text_field(self.adb, Which::Dep, self.word, DEP_VERSION_INDEX)
     }
@@ -130,14 +132,24 @@ impl<'a> PkgInfo<'a> {
     pub fn name(&self) -> &'a [u8]
         ensures { result.now ≡ text_in (entry_at_index (info_value self.now) INFO_NAME_INDEX) }
     {
-        text_field(self.adb, Which::PkgInfo, Val::of(self.word), INFO_NAME_INDEX)
+        text_field(
+            self.adb,
+            Which::PkgInfo,
+            Val::of(self.word),
+            INFO_NAME_INDEX,
+        )
     }
 
     /// The package's version.
     pub fn version(&self) -> &'a [u8]
         ensures { result.now ≡ text_in (entry_at_index (info_value self.now) INFO_VERSION_INDEX) }
     {
-        text_field(self.adb, Which::PkgInfo, Val::of(self.word), INFO_VERSION_INDEX)
+        text_field(
+            self.adb,
+            Which::PkgInfo,
+            Val::of(self.word),
+            INFO_VERSION_INDEX,
+        )
     }
 
     /// A digest of the package. In an index it is the package's id or the first 20 bytes of the id;
@@ -145,12 +157,18 @@ impl<'a> PkgInfo<'a> {
     pub fn hashes(&self) -> &'a [u8]
         ensures { result.now ≡ text_in (entry_at_index (info_value self.now) INFO_HASHES_INDEX) }
     {
-        hash_field(self.adb, Which::PkgInfo, Val::of(self.word), INFO_HASHES_INDEX)
+        hash_field(
+            self.adb,
+            Which::PkgInfo,
+            Val::of(self.word),
+            INFO_HASHES_INDEX,
+        )
     }
 
     /// A description of the package in one line.
     pub fn description(&self) -> &'a [u8]
-        ensures { result.now ≡ text_in (entry_at_index (info_value self.now) INFO_DESCRIPTION_INDEX) }
+        ensures { result.now
+            ≡ text_in (entry_at_index (info_value self.now) INFO_DESCRIPTION_INDEX) }
     {
         text_field(
             self.adb,
@@ -164,26 +182,42 @@ impl<'a> PkgInfo<'a> {
     pub fn arch(&self) -> &'a [u8]
         ensures { result.now ≡ text_in (entry_at_index (info_value self.now) INFO_ARCH_INDEX) }
     {
-        text_field(self.adb, Which::PkgInfo, Val::of(self.word), INFO_ARCH_INDEX)
+        text_field(
+            self.adb,
+            Which::PkgInfo,
+            Val::of(self.word),
+            INFO_ARCH_INDEX,
+        )
     }
 
     /// The license of the package.
     pub fn license(&self) -> &'a [u8]
         ensures { result.now ≡ text_in (entry_at_index (info_value self.now) INFO_LICENSE_INDEX) }
     {
-        text_field(self.adb, Which::PkgInfo, Val::of(self.word), INFO_LICENSE_INDEX)
+        text_field(
+            self.adb,
+            Which::PkgInfo,
+            Val::of(self.word),
+            INFO_LICENSE_INDEX,
+        )
     }
 
     /// The name of the source package that the package was built from.
     pub fn origin(&self) -> &'a [u8]
         ensures { result.now ≡ text_in (entry_at_index (info_value self.now) INFO_ORIGIN_INDEX) }
     {
-        text_field(self.adb, Which::PkgInfo, Val::of(self.word), INFO_ORIGIN_INDEX)
+        text_field(
+            self.adb,
+            Which::PkgInfo,
+            Val::of(self.word),
+            INFO_ORIGIN_INDEX,
+        )
     }
 
     /// Who maintains the package.
     pub fn maintainer(&self) -> &'a [u8]
-        ensures { result.now ≡ text_in (entry_at_index (info_value self.now) INFO_MAINTAINER_INDEX) }
+        ensures { result.now
+            ≡ text_in (entry_at_index (info_value self.now) INFO_MAINTAINER_INDEX) }
     {
         text_field(
             self.adb,
@@ -202,7 +236,8 @@ impl<'a> PkgInfo<'a> {
 
     /// The commit of the recipe that the package was built by, as bytes.
     pub fn repo_commit(&self) -> &'a [u8]
-        ensures { result.now ≡ text_in (entry_at_index (info_value self.now) INFO_REPO_COMMIT_INDEX) }
+        ensures { result.now
+            ≡ text_in (entry_at_index (info_value self.now) INFO_REPO_COMMIT_INDEX) }
     {
         hash_field(
             self.adb,
@@ -240,12 +275,18 @@ impl<'a> PkgInfo<'a> {
     pub fn file_size(&self) -> u64
         ensures { result ≡ int_in (entry_at_index (info_value self.now) INFO_FILE_SIZE_INDEX) }
     {
-        int_field(self.adb, Which::PkgInfo, Val::of(self.word), INFO_FILE_SIZE_INDEX)
+        int_field(
+            self.adb,
+            Which::PkgInfo,
+            Val::of(self.word),
+            INFO_FILE_SIZE_INDEX,
+        )
     }
 
     /// How strongly the package is preferred among the providers of a name.
     pub fn provider_priority(&self) -> u64
-        ensures { result ≡ int_in (entry_at_index (info_value self.now) INFO_PROVIDER_PRIORITY_INDEX) }
+        ensures { result ≡ int_in (entry_at_index
+            (info_value self.now) INFO_PROVIDER_PRIORITY_INDEX) }
     {
         int_field(
             self.adb,
@@ -329,7 +370,12 @@ impl<'a> PkgInfo<'a> {
     pub fn layer(&self) -> u64
         ensures { result ≡ int_in (entry_at_index (info_value self.now) INFO_LAYER_INDEX) }
     {
-        int_field(self.adb, Which::PkgInfo, Val::of(self.word), INFO_LAYER_INDEX)
+        int_field(
+            self.adb,
+            Which::PkgInfo,
+            Val::of(self.word),
+            INFO_LAYER_INDEX,
+        )
     }
 
     /// The tags that the maker of the package gave it.
@@ -338,7 +384,12 @@ impl<'a> PkgInfo<'a> {
     {
         List::of(
             self.adb,
-            texts_field(self.adb, Which::PkgInfo, Val::of(self.word), INFO_TAGS_INDEX),
+            texts_field(
+                self.adb,
+                Which::PkgInfo,
+                Val::of(self.word),
+                INFO_TAGS_INDEX,
+            ),
         )
     }
 
@@ -346,6 +397,11 @@ impl<'a> PkgInfo<'a> {
     pub fn unused(&self) -> u64
         ensures { result ≡ int_in (entry_at_index (info_value self.now) INFO_UNUSED_INDEX) }
     {
-        int_field(self.adb, Which::PkgInfo, Val::of(self.word), INFO_UNUSED_INDEX)
+        int_field(
+            self.adb,
+            Which::PkgInfo,
+            Val::of(self.word),
+            INFO_UNUSED_INDEX,
+        )
     }
 }

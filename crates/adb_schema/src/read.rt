@@ -152,7 +152,8 @@ pub fn read_adb<'a>(alloc: Global, bytes: &'a [u8], which: Which) -> Result<Chec
 
 /// Whether a container with this table at its root has this schema in its header.
 fn is_wanted_schema_present_and_equal(which: Which, schema: u32) -> bool
-    ensures { result ≡ is_wanted_schema_present_and_equal (header_schema_if_root_table which) schema }
+    ensures { result ≡ is_wanted_schema_present_and_equal
+        (header_schema_if_root_table which) schema }
 {
     match header_schema_if_root_table(which) {
         Some(word) => word == schema,
@@ -249,7 +250,10 @@ fn truncated_or_unexpected_contents_fault(block: &Block<'_>) -> Option<Cause>
         ≡ truncated_or_unexpected_contents_fault block.now.kind block.now.payload.now block.now.at }
 {
     match block.kind {
-        BlockKind::Contents => Some(truncated_or_unexpected_contents_cause(block.payload, block.at)),
+        BlockKind::Contents => Some(truncated_or_unexpected_contents_cause(
+            block.payload,
+            block.at,
+        )),
         BlockKind::Adb | BlockKind::Signature => None,
     }
 }

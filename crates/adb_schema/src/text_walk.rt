@@ -560,23 +560,28 @@ pub fn no_text_is_bad_where_each_keeps_its_rule()
 pub fn entries_keep_the_rule_of_their_list()
     // For a list of dependencies.
     ensures dependency { (list : Plain) (i : ℕ)
-        → Each ObeysTextAndNumberRulesOfDependency (entries_in list) → i < count_of (entries_in list)
+        → Each ObeysTextAndNumberRulesOfDependency (entries_in list)
+        → i < count_of (entries_in list)
         → ObeysTextAndNumberRulesOfDependency (entry_at_index list i) }
     // For a list of packages' information.
     ensures information { (root : Which) (list : Plain) (i : ℕ)
-        → Each (ObeysTextAndNumberRulesOfInformation root) (entries_in list) → i < count_of (entries_in list)
+        → Each (ObeysTextAndNumberRulesOfInformation root) (entries_in list)
+        → i < count_of (entries_in list)
         → ObeysTextAndNumberRulesOfInformation root (entry_at_index list i) }
     // For a list of the files of a folder.
     ensures file { (root : Which) (folder : List ℕ) (list : Plain) (i : ℕ)
-        → Each (ObeysTextAndNumberRulesOfFileInFolder root folder) (entries_in list) → i < count_of (entries_in list)
+        → Each (ObeysTextAndNumberRulesOfFileInFolder root folder) (entries_in list)
+        → i < count_of (entries_in list)
         → ObeysTextAndNumberRulesOfFileInFolder root folder (entry_at_index list i) }
     // For a list of folders.
     ensures folder { (root : Which) (list : Plain) (i : ℕ)
-        → Each (ObeysTextAndNumberRulesOfFolder root) (entries_in list) → i < count_of (entries_in list)
+        → Each (ObeysTextAndNumberRulesOfFolder root) (entries_in list)
+        → i < count_of (entries_in list)
         → ObeysTextAndNumberRulesOfFolder root (entry_at_index list i) }
     // For a list of packages.
     ensures package { (root : Which) (list : Plain) (i : ℕ)
-        → Each (ObeysTextAndNumberRulesOfPackage root) (entries_in list) → i < count_of (entries_in list)
+        → Each (ObeysTextAndNumberRulesOfPackage root) (entries_in list)
+        → i < count_of (entries_in list)
         → ObeysTextAndNumberRulesOfPackage root (entry_at_index list i) }
     // For a list of names in an intent (journal entry).
     ensures change_name { (list : Plain) (i : ℕ)

@@ -34,7 +34,8 @@ use adb_write::{a_canonical_payload_is_read_back, a_canonical_payload_is_visited
 /// its value may be at the root. Such a container has no contents of files.
 pub fn a_container_of_a_good_value_is_sound()
     ensures { (which : Which) (schema : ℕ) (v : Plain)
-        → header_schema_if_root_table which ≡ Some schema → which ≢ Tables.Package → IsValidRootValueOfTable which v
+        → header_schema_if_root_table which ≡ Some schema → which ≢ Tables.Package
+        → IsValidRootValueOfTable which v
         → container_fault (file_of schema (canonical v)) ≡ None }
 {
     // The laws that the proof needs; they have no effect at run time.

@@ -25,8 +25,10 @@ unfoldable pub int_of : List ℕ → ℕ → Result ℕ Cause
 int_of payload word =
     if word == 0 then Ok 0
     else if kind_number_of_word word == 1 then Ok (low_28_bits word)
-    else if kind_number_of_word word == 2 then or_outside_cause word (number_at w32 payload (low_28_bits word))
-    else if kind_number_of_word word == 3 then or_outside_cause word (number_at w64 payload (low_28_bits word))
+    else if kind_number_of_word word == 2 then or_outside_cause word
+    (number_at w32 payload (low_28_bits word))
+    else if kind_number_of_word word == 3 then or_outside_cause word
+    (number_at w64 payload (low_28_bits word))
     else Err (WrongKind word)
 
 -- the bytes of a blob at the offset `at` of the payload: the blob's length, a number of the width `w`, precedes them
@@ -65,7 +67,8 @@ run_entries_at payload at =
 unfoldable pub run_entries_of_kind_in_payload_at_word : ℕ → List ℕ → ℕ → Result (List ℕ) Cause
 run_entries_of_kind_in_payload_at_word kind payload word =
     if word == 0 then Ok []
-    else if kind_number_of_word word == kind then or_outside_cause word (run_entries_at payload (low_28_bits word))
+    else if kind_number_of_word word == kind then or_outside_cause word
+    (run_entries_at payload (low_28_bits word))
     else Err (WrongKind word)
 
 -- the kind of a word that points to an array

@@ -52,7 +52,8 @@ word_fault_under_shape p number w = result_err (int_of p w)
 word_fault_under_shape p text w = result_err (blob_of p w)
 word_fault_under_shape p hash w = result_err (blob_of p w)
 word_fault_under_shape p (array s) w = result_err (run_entries_of_kind_in_payload_at_word ARRAY p w)
-word_fault_under_shape p (object schema fs) w = result_err (run_entries_of_kind_in_payload_at_word OBJECT p w)
+word_fault_under_shape p (object schema fs) w =
+    result_err (run_entries_of_kind_in_payload_at_word OBJECT p w)
 
 -- whether the reader of a visit's shape accepts its word
 abbrev pub is_sound_visit : List ℕ → Visit → Bool

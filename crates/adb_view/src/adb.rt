@@ -145,7 +145,8 @@ impl<'a> Adb<'a> {
     /// `WrongKind` if `v` is no word of an array, else `Outside` if the array's run is not within
     /// the payload or has the count 0.
     pub fn arr(&self, v: Val) -> Result<Arr<'a>, Cause>
-        ensures { Gives array_entries result (run_entries_of_kind_in_payload_at_word ARRAY (payload_of self.now) v) }
+        ensures { Gives array_entries result (run_entries_of_kind_in_payload_at_word ARRAY
+            (payload_of self.now) v) }
     {
         Arr::read(self.payload, kind::ARRAY, v)
     }
@@ -157,7 +158,8 @@ impl<'a> Adb<'a> {
     /// `WrongKind` if `v` is no word of an object, else `Outside` if the object's run is not within
     /// the payload or has the count 0.
     pub fn obj<const N: usize>(&self, v: Val) -> Result<Obj<'a, N>, Cause>
-        ensures { Gives object_entries result (run_entries_of_kind_in_payload_at_word OBJECT (payload_of self.now) v) }
+        ensures { Gives object_entries result (run_entries_of_kind_in_payload_at_word OBJECT
+            (payload_of self.now) v) }
     {
         let entries = Arr::read(self.payload, kind::OBJECT, v)?;
         Ok(Obj::of(entries))
@@ -202,7 +204,8 @@ impl<'a> Adb<'a> {
     pub fn arr_if_read(&self, v: Val) -> Option<Arr<'a>>
         // The result has the words of the entries that the definition gives, or is None for an
         // error.
-        ensures { Finds array_entries result (result_ok (run_entries_of_kind_in_payload_at_word ARRAY
+        ensures { Finds array_entries result (result_ok
+            (run_entries_of_kind_in_payload_at_word ARRAY
             (payload_of self.now) v)) }
     {
         Arr::find(self.payload, kind::ARRAY, v)
@@ -212,7 +215,8 @@ impl<'a> Adb<'a> {
     pub fn find_entries(&self, v: Val) -> Option<Arr<'a>>
         // The result has the words of the entries that the definition gives, or is None for an
         // error.
-        ensures { Finds array_entries result (result_ok (run_entries_of_kind_in_payload_at_word OBJECT
+        ensures { Finds array_entries result (result_ok
+            (run_entries_of_kind_in_payload_at_word OBJECT
             (payload_of self.now) v)) }
     {
         Arr::find(self.payload, kind::OBJECT, v)

@@ -84,10 +84,12 @@ pub(crate) fn read_blob<'a>(adb: Adb<'a>, word: Val) -> Result<&'a [u8], VisitFa
 #[tactic(auto, using(crate::proofs::ReaderFaults::run_fault, crate::proofs::ReaderFaults::read_ok))]
 pub(crate) fn read_array<'a>(adb: Adb<'a>, word: Val) -> Result<Arr<'a>, VisitFault>
     // On Ok, these are the words of the array's entries.
-    ensures ok { IfOk result (λ words. run_entries_of_kind_in_payload_at_word ARRAY (payload_of adb.entry) word
+    ensures ok { IfOk result (λ words. run_entries_of_kind_in_payload_at_word ARRAY
+        (payload_of adb.entry) word
         ≡ Ok (array_entries words)) }
     // An error is that of reading the word as an array.
-    ensures err { IfErr result (λ fault. run_entries_of_kind_in_payload_at_word ARRAY (payload_of adb.entry) word
+    ensures err { IfErr result (λ fault. run_entries_of_kind_in_payload_at_word ARRAY
+        (payload_of adb.entry) word
         ≡ Err (cause_of_fault fault)) }
 {
     if let Some(words) = adb.arr_if_read(word) {
@@ -104,10 +106,12 @@ pub(crate) fn read_array<'a>(adb: Adb<'a>, word: Val) -> Result<Arr<'a>, VisitFa
 #[tactic(auto, using(crate::proofs::ReaderFaults::run_fault, crate::proofs::ReaderFaults::read_ok))]
 pub(crate) fn read_object<'a>(adb: Adb<'a>, word: Val) -> Result<Arr<'a>, VisitFault>
     // On Ok, these are the words of the object's entries.
-    ensures ok { IfOk result (λ words. run_entries_of_kind_in_payload_at_word OBJECT (payload_of adb.entry) word
+    ensures ok { IfOk result (λ words. run_entries_of_kind_in_payload_at_word OBJECT
+        (payload_of adb.entry) word
         ≡ Ok (array_entries words)) }
     // An error is that of reading the word as an object.
-    ensures err { IfErr result (λ fault. run_entries_of_kind_in_payload_at_word OBJECT (payload_of adb.entry) word
+    ensures err { IfErr result (λ fault. run_entries_of_kind_in_payload_at_word OBJECT
+        (payload_of adb.entry) word
         ≡ Err (cause_of_fault fault)) }
 {
     if let Some(words) = adb.find_entries(word) {

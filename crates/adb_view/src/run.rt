@@ -27,7 +27,8 @@ impl<'a> Arr<'a> {
     /// an array or of an object. NULL has no entries.
     #[tactic(auto, unfolding(crate::specs::Readers::run_entries_of_kind_in_payload_at_word, crate::specs::Bytes::words))]
     pub(crate) fn read(payload: &'a [u8], kind: u32, v: Val) -> Result<Arr<'a>, Cause>
-        ensures { Gives array_entries result (run_entries_of_kind_in_payload_at_word kind payload.now v) }
+        ensures { Gives array_entries result
+            (run_entries_of_kind_in_payload_at_word kind payload.now v) }
     {
         if v.is_null() {
             return Ok(Arr { bytes: &[] });
@@ -45,7 +46,8 @@ impl<'a> Arr<'a> {
     /// The entries that `read` returns, or None if `read` fails.
     #[tactic(auto, unfolding(crate::specs::Readers::run_entries_of_kind_in_payload_at_word, crate::specs::Bytes::words))]
     pub(crate) fn find(payload: &'a [u8], kind: u32, v: Val) -> Option<Arr<'a>>
-        ensures { Finds array_entries result (result_ok (run_entries_of_kind_in_payload_at_word kind payload.now v)) }
+        ensures { Finds array_entries result (result_ok
+            (run_entries_of_kind_in_payload_at_word kind payload.now v)) }
     {
         if v.is_null() {
             return Some(Arr { bytes: &[] });

@@ -118,9 +118,11 @@ word_of_written_item there = there.kind * 2 ^ 28 + (8 + there.offset)
 -- zeros before it
 abbrev pub word_and_layout_with_new_item : Item → Layout → ℕ × Layout
 word_and_layout_with_new_item i out = (
-  i.kind * 2 ^ 28 + (payload_end_offset out + padding_to_alignment_from_offset i.align (payload_end_offset out)),
+  i.kind * 2 ^ 28 + (payload_end_offset out + padding_to_alignment_from_offset i.align
+      (payload_end_offset out)),
   record {
-    body = out.body ++ (replicate (padding_to_alignment_from_offset i.align (payload_end_offset out)) 0 ++ i.bytes);
+    body = out.body ++ (replicate (padding_to_alignment_from_offset i.align (payload_end_offset out)) 0
+        ++ i.bytes);
     items = (record {
       kind = i.kind;
       offset = length out.body + padding_to_alignment_from_offset i.align (payload_end_offset out);
@@ -148,7 +150,8 @@ word_and_layout_with_cell (apart i) out = word_and_layout_with_item i out
 
 -- the word of an array or an object with these words (`kind` is 13 or 14), and the layout with this list
 abbrev pub word_and_layout_with_array_or_object : ℕ → List ℕ → Layout → ℕ × Layout
-word_and_layout_with_array_or_object kind ws out = word_and_layout_with_cell (array_or_object_cell kind ws) out
+word_and_layout_with_array_or_object kind ws out =
+    word_and_layout_with_cell (array_or_object_cell kind ws) out
 
 -- the word of a value, and the layout with this value: its entries are written in order, then its own item
 unfoldable mutual
@@ -158,7 +161,8 @@ unfoldable mutual
   write (blob b) out = word_and_layout_with_cell (blob_cell b) out
   write (arr vs) out = word_and_layout_with_array_or_object ARRAY (write_all vs out).0 (write_all vs out).1
   write (obj vs) out =
-      word_and_layout_with_array_or_object OBJECT (words_without_last_nulls (write_all vs out).0) (write_all vs out).1
+      word_and_layout_with_array_or_object OBJECT (words_without_last_nulls (write_all vs out).0)
+      (write_all vs out).1
 
   -- the words of values that are written in order, and the layout with these values
   pub write_all : Plains → Layout → List ℕ × Layout
@@ -173,7 +177,9 @@ payload_with_root_word_in_head root out = 0 ∷ 0 ∷ 0 ∷ 0 ∷ (to_le_bytes w
 
 -- the canonical payload of a value
 abbrev pub canonical : Plain → List ℕ
-canonical v = payload_with_root_word_in_head (write v empty_layout_counting_root).0 (write v empty_layout_counting_root).1
+canonical v =
+    payload_with_root_word_in_head (write v empty_layout_counting_root).0
+    (write v empty_layout_counting_root).1
 
 -- ---- limits
 

@@ -12,8 +12,11 @@ unfoldable mutual
   Holds p null w = w ≡ 0
   Holds p (int n) w = (w ≢ 0) × (int_of p w ≡ Ok n)
   Holds p (blob b) w = (w ≢ 0) × (blob_of p w ≡ Ok b)
-  Holds p (arr vs) w = (w ≢ 0) × (ws : List ℕ) × (run_entries_of_kind_in_payload_at_word ARRAY p w ≡ Ok ws) × HoldAll p vs ws
-  Holds p (obj vs) w = (w ≢ 0) × (ws : List ℕ) × (run_entries_of_kind_in_payload_at_word OBJECT p w ≡ Ok ws) × HoldAll p vs ws
+  Holds p (arr vs) w =
+      (w ≢ 0) × (ws : List ℕ) × (run_entries_of_kind_in_payload_at_word ARRAY p w ≡ Ok ws) × HoldAll p vs ws
+  Holds p (obj vs) w =
+      (w ≢ 0) × (ws : List ℕ) × (run_entries_of_kind_in_payload_at_word OBJECT p w ≡ Ok ws)
+      × HoldAll p vs ws
 
   -- in the payload `p` the words represent these values, one for one
   pub HoldAll : List ℕ → Plains → List ℕ → Type 0

@@ -84,7 +84,8 @@ obj_call ws w = call (array_or_object_cell OBJECT (words_without_last_nulls ws))
 -- the result of `finish`: the payload whose root has the word `root`, or the two counts if the writer passed a limit
 abbrev pub finish_result : ℕ → Writing → Result (List ℕ) ByteAndValueCounts
 finish_result root w =
-    if is_past_limit w then Err (writing_counts w) else Ok (payload_with_root_word_in_head root (layout_of w))
+    if is_past_limit w then Err (writing_counts w) else Ok
+    (payload_with_root_word_in_head root (layout_of w))
 
 -- the word of a value after the calls that write this value depth first, and the writer afterwards. Each word that a
 -- call returns is used once

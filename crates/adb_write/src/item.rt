@@ -368,7 +368,8 @@ fn list_fingerprint(words: &[Val]) -> u64
 fn compare_list(adb: &Adb<'_>, list: ListKind, words: &[Val], word: Val) -> Ordering
     // The order is that of the two lists of words, both reversed.
     ensures { result ≡ slice_cmp nat_cmp (reverse (low_words words.now))
-        (reverse (or_empty (run_entries_of_kind_in_payload_at_word (list_kind list) (payload_of adb.now) word))) }
+        (reverse (or_empty (run_entries_of_kind_in_payload_at_word (list_kind list)
+        (payload_of adb.now) word))) }
 {
     match entries(adb, list, word) {
         Ok(found) => compare_words(words, &found),

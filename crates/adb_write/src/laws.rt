@@ -39,7 +39,8 @@ pub fn values_are_written_depth_first()
         → (x, b) ≡ blob_call bytes a → WritesValueDepthFirst a (blob_or_null bytes) x b }
     // After the values `vs` were written, the call `arr` with their words `xs` writes their array.
     ensures arr { (vs : Plains) (xs : List ℕ) (a b : Writing) (x : ℕ) (c : Writing)
-        → WritesValuesDepthFirst a vs xs b → (x, c) ≡ arr_call xs b → WritesValueDepthFirst a (array_or_null vs) x c }
+        → WritesValuesDepthFirst a vs xs b → (x, c) ≡ arr_call xs b
+        → WritesValueDepthFirst a (array_or_null vs) x c }
     // After the values `vs` were written, the call `obj` with their words `xs` writes their object.
     ensures obj { (vs : Plains) (xs : List ℕ) (a b : Writing) (x : ℕ) (c : Writing)
         → WritesValuesDepthFirst a vs xs b → (x, c) ≡ obj_call xs b
@@ -49,7 +50,8 @@ pub fn values_are_written_depth_first()
     ensures none { (w : Writing) → WritesValuesDepthFirst w none [] w }
     // A value, and then the values `vs`, are written in order.
     ensures more { (v : Plain) (vs : Plains) (x : ℕ) (xs : List ℕ) (a b c : Writing)
-        → WritesValueDepthFirst a v x b → WritesValuesDepthFirst b vs xs c → WritesValuesDepthFirst a (more v vs) (x ∷ xs) c }
+        → WritesValueDepthFirst a v x b → WritesValuesDepthFirst b vs xs c
+        → WritesValuesDepthFirst a (more v vs) (x ∷ xs) c }
     // The values `vs`, and then one more value, are written in order.
     ensures push { (v : Plain) (vs : Plains) (x : ℕ) (xs : List ℕ) (a b c : Writing)
         → WritesValuesDepthFirst a vs xs b → WritesValueDepthFirst b v x c
@@ -60,7 +62,8 @@ pub fn values_are_written_depth_first()
 /// this value. If a limit was passed, it ends with the counts just after the first value that
 /// exceeded the limit.
 pub fn a_value_written_depth_first_is_canonical()
-    ensures { (v : Plain) (root : ℕ) (w : Writing) → WritesValueDepthFirst empty_writing_counting_root v root w
+    ensures { (v : Plain) (root : ℕ) (w : Writing)
+        → WritesValueDepthFirst empty_writing_counting_root v root w
         → finish_result root w ≡ payload_or_counts_at_overflow v }
 {}
 
@@ -109,7 +112,8 @@ pub fn an_answer_denotes_its_value()
 pub fn a_word_is_read_as_its_value()
     ensures { (shape : Shape) (v : Plain) (word : ℕ) (w : Writing)
         → Denotes w v word → is_past_limit w ≡ false → IsNormal v → HasShape shape v
-        → (root : ℕ) → plain_of (payload_with_root_word_in_head root (layout_of w)) shape word ≡ Some v }
+        → (root : ℕ) → plain_of (payload_with_root_word_in_head root (layout_of w)) shape word
+        ≡ Some v }
 {}
 
 /// A finished payload is read back as the value that its root represents, if this value is normal
@@ -124,7 +128,8 @@ pub fn a_finished_payload_is_read_back()
 /// exceeds the limit of a payload.
 pub fn a_value_overflows_exactly_past_a_limit()
     ensures { (v : Plain) → IsNormal v
-        → is_some (counts_at_first_overflow v) ≡ exceeds_a_limit (payload_size_of v, value_count v) }
+        → is_some (counts_at_first_overflow v)
+        ≡ exceeds_a_limit (payload_size_of v, value_count v) }
 {}
 
 /// A normal value is written if and only if it is within both limits. The payload must have fewer

@@ -163,7 +163,8 @@ impl Writer {
         // On Ok, the call returns the word and makes the change that the layout defines.
         ensures ok { IfOk result (λ word. (word, self.new) ≡ int_call n self.old) }
         // On Ok, the value is written depth first, and has the returned word.
-        ensures written { IfOk result (λ word. WritesValueDepthFirst self.old (int n) word self.new) }
+        ensures written { IfOk result (λ word. WritesValueDepthFirst self.old
+            (int n) word self.new) }
         // After an error, nothing has changed.
         ensures err { OnErr result (self.new ≡ self.old) }
         // Only a call that would add bytes can fail.
@@ -257,7 +258,8 @@ impl Writer {
     fn list(&mut self, kind: ListKind, words: &[Val]) -> Result<Val, AllocError>
         // On Ok, the call returns the word and makes the change that the layout defines.
         ensures ok { IfOk result
-            (λ word. (word, self.new) ≡ call (array_or_object_cell (list_kind kind) words.now) self.old) }
+            (λ word. (word, self.new)
+            ≡ call (array_or_object_cell (list_kind kind) words.now) self.old) }
         // After an error, nothing has changed.
         ensures err { OnErr result (self.new ≡ self.old) }
         // Only a call that would add bytes can fail.

@@ -21,7 +21,9 @@ ghost use Rattle.report_core.specs.declared.refusal.Refusal.{Refusal as RefusalV
 
 use crate::scripts::test_scripts;
 use base_core::{Cause, Name, Text, Tree};
-use change_outcome::{Candidate, Change, Refused, is_same_id_by_nonempty_prefix, package_file_beside};
+use change_outcome::{
+    Candidate, Change, Refused, is_same_id_by_nonempty_prefix, package_file_beside,
+};
 use dep_core::Repos;
 use package_verifier::{PackageRead, PackageView, TestedPackage, read_package};
 use report_core::Refusal;

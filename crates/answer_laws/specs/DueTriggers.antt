@@ -21,7 +21,8 @@ pub record MatchesFolderByParts (pattern folder : List ℕ) : Type 0 where
   -- pattern and folder have as many parts
   pub count : length (path_parts_of (without_leading_slash pattern)) ≡ length (path_parts_of folder)
   -- each part of the pattern matches the part of the folder at the same place
-  pub each : (i : ℕ) (p part : List ℕ) → slice_get (path_parts_of (without_leading_slash pattern)) i ≡ Some p
+  pub each : (i : ℕ) (p part : List ℕ) → slice_get (path_parts_of (without_leading_slash pattern)) i
+      ≡ Some p
       → slice_get (path_parts_of folder) i ≡ Some part → MatchesByFillingStars p part
 
 -- the package has a trigger script, and one of its trigger patterns matches the folder

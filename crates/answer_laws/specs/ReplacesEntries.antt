@@ -18,7 +18,8 @@ pub record HasReplacesEntryForOther (pkg other : Plain) : Type 0 where
   -- an entry of the package's `replaces`
   pub entry : Plain
   -- the entry is in this field of the package
-  pub listed : IsIn entry (entries_of_field_at_index INFO_REPLACES_INDEX (entry_at_index pkg PACKAGE_INFO_INDEX))
+  pub listed : IsIn entry (entries_of_field_at_index INFO_REPLACES_INDEX
+      (entry_at_index pkg PACKAGE_INFO_INDEX))
   -- the dependency that the entry is
   pub dependency : Dependency
   -- the value of the entry is this dependency

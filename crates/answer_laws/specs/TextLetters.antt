@@ -96,7 +96,8 @@ GivesHash value said =
 abbrev pub GivesCommit : List ℕ → List TextNumberOrDependency → Type 0
 GivesCommit value said =
     FieldTextGivesValues Options.RepoCommit value said
-    ⊎ (((given : List TextNumberOrDependency) → FieldTextGivesValues Options.RepoCommit value given → ⊥) × (said ≡ []))
+    ⊎ (((given : List TextNumberOrDependency) → FieldTextGivesValues Options.RepoCommit value given → ⊥)
+    × (said ≡ []))
 
 -- `value`, which follows the letter of this field and a colon in a line, is allowed there and gives the values `said`:
 -- those of an option `-I` of `mkpkg` with this text; `Hashes`, `InstalledSize` and `RepoCommit` have their own rules

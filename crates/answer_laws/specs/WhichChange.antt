@@ -44,7 +44,8 @@ pub record IsInstalledPackageSelected (r : Replacement) (name : List ℕ) (c : C
 -- the candidate has the same version text and the same id as the package; an id may be a prefix of the other
 abbrev pub IsSameVersionAndId : Plain → Candidate → Type 0
 IsSameVersionAndId pkg c =
-    (package_version_text pkg ≡ candidate_version_text c) × (is_same_id_by_nonempty_prefix (installed_id pkg) c.id ≡ true)
+    (package_version_text pkg ≡ candidate_version_text c)
+    × (is_same_id_by_nonempty_prefix (installed_id pkg) c.id ≡ true)
 
 -- the name of the package that a change concerns
 abbrev pub changed_name : Change → List ℕ

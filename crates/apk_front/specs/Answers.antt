@@ -35,7 +35,8 @@ DidNotFail sink = CountsNoNewFaultOrLackOfMemory sink.before sink.after
 -- a sink gets a whole line, or a prefix of the line if the sink failed
 abbrev pub GetsLineOrFailsWithPrefix : SinkBeforeAndAfter → List ℕ → Type 0
 GetsLineOrFailsWithPrefix sink line =
-    (SinkBytesGrowBy sink line × DidNotFail sink) ⊎ (SinkBytesGrowByPrefixOf sink line × SinkFailedWithCause sink)
+    (SinkBytesGrowBy sink line × DidNotFail sink)
+    ⊎ (SinkBytesGrowByPrefixOf sink line × SinkFailedWithCause sink)
 
 -- a sink failed, and `bytes`, which were to be printed on it, are at least one byte
 pub record FailedWithBytesToPrint (sink : SinkBeforeAndAfter) (bytes : List ℕ) : Type 0 where

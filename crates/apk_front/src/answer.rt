@@ -174,7 +174,8 @@ fn print_refusal<E: Sink>(refusal: Option<Refusal>, err: &mut E) -> Answer
     ensures printed { IsRefusalPrinted refusal result
         (sink_before_and_after E.bytes E.counts err.old err.new) }
     // No count of the sink falls, and no call is a misuse.
-    ensures counts { SinkCountsOnlyRiseWithoutMisuse (sink_before_and_after E.bytes E.counts err.old err.new) }
+    ensures counts { SinkCountsOnlyRiseWithoutMisuse
+        (sink_before_and_after E.bytes E.counts err.old err.new) }
 {
     let Some(refusal) = refusal else {
         return Answer::Ok;
@@ -192,7 +193,8 @@ fn print_line<E: Sink>(line: &[u8], err: &mut E)
     ensures line { GetsLineOrFailsWithPrefix
         (sink_before_and_after E.bytes E.counts err.old err.new) line.now }
     // No count of the sink falls, and no call is a misuse.
-    ensures counts { SinkCountsOnlyRiseWithoutMisuse (sink_before_and_after E.bytes E.counts err.old err.new) }
+    ensures counts { SinkCountsOnlyRiseWithoutMisuse
+        (sink_before_and_after E.bytes E.counts err.old err.new) }
 {
     let _ = write_all(err, line);
 }

@@ -24,8 +24,8 @@ use crate::judge::run;
 use base_core::{Name, Text, TreeFault, Words};
 use command_core::Operands;
 use outcome::{
-    add_words, contents_of_demo_file, demo_count, demo_file, demo_line_of_count_and_add_report, demo_repositories,
-    mkndx_words, mkpkg_words,
+    add_words, contents_of_demo_file, demo_count, demo_file, demo_line_of_count_and_add_report,
+    demo_repositories, mkndx_words, mkpkg_words,
 };
 use report_core::Refusal;
 use std::alloc::{AllocError, Global};
@@ -61,7 +61,8 @@ fn told(alloc: Global, count: u16, last: Verdict) -> Result<Verdict, TreeFault>
     // lack of memory.
     ensures { MatchResult result
         (λ verdict. (files : Files) → as_outcome files verdict
-        ≡ just_report_unless_refusal files last.refusal (demo_line_of_count_and_add_report count last.report))
+        ≡ just_report_unless_refusal files last.refusal
+        (demo_line_of_count_and_add_report count last.report))
         (λ fault. fault ≡ TreeFault.Memory) }
 {
     let line = demo_line_of_count_and_add_report(alloc, count, last.report.as_bytes())?;

@@ -190,7 +190,8 @@ fn finish<T: Tree>(
         → IsErrOf container MakeFault.Disk
         ⊎ CountsNewFaultWithCause (T.counts tree.old) (T.counts tree.new) }
     // If there is a verdict, the tree counted no failed call here.
-    ensures kept { OnOk result (CountsNoNewFaultOrLackOfMemory (T.counts tree.old) (T.counts tree.new)) }
+    ensures kept { OnOk result (CountsNoNewFaultOrLackOfMemory (T.counts tree.old)
+        (T.counts tree.new)) }
     // If memory ran out, the tree counted no failed call here.
     ensures memory { IsErrOf result TreeFault.Memory
         → CountsNoNewFaultOrLackOfMemory (T.counts tree.old) (T.counts tree.new) }

@@ -13,7 +13,8 @@ abbrev pub AreSortedDistinctTexts : List (List ℕ) → Type 0
 AreSortedDistinctTexts names = AllPairs (λ a b. slice_cmp nat_cmp a b ≡ Less) names
 
 -- `names` are exactly the names that are present in the map, in byte order
-pub record IsSortedListOfAllNamesInMap {X : Type 0} (map : List ℕ → Option X) (names : List (List ℕ)) : Type 0 where
+pub record IsSortedListOfAllNamesInMap {X : Type 0} (map : List ℕ → Option X)
+    (names : List (List ℕ)) : Type 0 where
   -- the names are in byte order, each once
   pub rising : AreSortedDistinctTexts names
   -- the list has exactly the present names

@@ -215,7 +215,8 @@ pub fn counts_of_consecutive_calls_compose()
     ensures cause_after { (a b c : Counts) → CountsOnlyRise a b → CountsNewFaultWithCause b c
         → CountsNewFaultWithCause a c }
     // Without new faults from a to b and from b to c there are none from a to c.
-    ensures no_fault { (a b c : Counts) → CountsNoNewFaultOrLackOfMemory a b → CountsNoNewFaultOrLackOfMemory b c
+    ensures no_fault { (a b c : Counts) → CountsNoNewFaultOrLackOfMemory a b
+        → CountsNoNewFaultOrLackOfMemory b c
         → CountsNoNewFaultOrLackOfMemory a c }
     // If no call is made, no count falls, and no fault is counted.
     ensures stays { (a : Counts) → CountsOnlyRise a a × CountsNoNewFaultOrLackOfMemory a a }

@@ -173,7 +173,8 @@ pub trait Tree {
         ensures disk { IsErrOf result DiskFault
             → CountsNewFaultWithCause (counts self.old) (counts self.new) }
         // Ok is returned only if no fault was counted.
-        ensures kept { OnOk result (CountsNoNewFaultOrLackOfMemory (counts self.old) (counts self.new)) }
+        ensures kept { OnOk result (CountsNoNewFaultOrLackOfMemory (counts self.old)
+            (counts self.new)) }
         // The error "out of memory" is returned only if no fault was counted.
         ensures memory { IsErrOf result Memory
             → CountsNoNewFaultOrLackOfMemory (counts self.old) (counts self.new) }

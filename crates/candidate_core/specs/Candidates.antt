@@ -83,7 +83,8 @@ abbrev pub candidate_of : Plain → Option ℕ → Option (List ℕ) → Bool �
 candidate_of info repository tag installed =
     candidate_from_parts info (text_in (entry_at_index info INFO_NAME_INDEX))
     (version_of_text (text_in (entry_at_index info INFO_VERSION_INDEX)))
-    (text_in (entry_at_index info INFO_HASHES_INDEX)) (dependencies_in_list_value (entry_at_index info INFO_DEPENDS_INDEX))
+    (text_in (entry_at_index info INFO_HASHES_INDEX))
+    (dependencies_in_list_value (entry_at_index info INFO_DEPENDS_INDEX))
     (dependencies_in_list_value (entry_at_index info INFO_PROVIDES_INDEX))
     (dependencies_in_list_value (entry_at_index info INFO_INSTALL_IF_INDEX))
     (int_in (entry_at_index info INFO_PROVIDER_PRIORITY_INDEX)) repository tag installed

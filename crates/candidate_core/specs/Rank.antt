@@ -32,7 +32,8 @@ pub record SelectionProblem : Type 0 where
   pub upgraded : UpgradedNames
 
 -- a sealed pool from its parts
-abbrev pub selection_problem_from_parts : List Candidate → List Dependency → UpgradedNames → SelectionProblem
+abbrev pub selection_problem_from_parts : List Candidate → List Dependency → UpgradedNames
+    → SelectionProblem
 selection_problem_from_parts candidates world upgraded =
     record { candidates = candidates; world = world; upgraded = upgraded }
 

@@ -25,7 +25,8 @@ pub record IsDependencyEntryWordOf (source : Source) (word : ℕ) : Type 0 where
   -- the word refers to a sound value of the kind dependency
   pub sound : is_sound (payload_of source.adb) (Obj Dep) word ≡ true
   -- if the texts of the source are known to obey their rules, the entry is a dependency
-  pub texts : source.has_sound_texts ≡ true → ObeysTextAndNumberRulesOfDependency (entry_in_source source word)
+  pub texts : source.has_sound_texts ≡ true
+      → ObeysTextAndNumberRulesOfDependency (entry_in_source source word)
 
 -- the word is that of an entry which denotes the dependency `d`
 pub record IsDependencyWordOf (source : Source) (word : ℕ) (d : Dependency) : Type 0 where

@@ -228,7 +228,10 @@ fn mark_one<'a>(packages: &mut Packages<'a>, id: CandId, installed: &Details<'a>
         ≡ marked_installed_if_same_at installed.now id (candidates_of_packages packages.old) }
 {
     let place = id.place as usize;
-    if !packages.get(place).is_repository_package_same_as_installed(installed) {
+    if !packages
+        .get(place)
+        .is_repository_package_same_as_installed(installed)
+    {
         return false;
     }
     packages.mark_installed(place);

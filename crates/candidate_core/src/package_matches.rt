@@ -115,7 +115,11 @@ impl<'p> PackageMatches<'p> {
         // Results are stored by the place of the version's text, and by the match bits.
         let key = (version.source, version.word, dep.op.bits());
         let mut known = take_known(self.alloc, &mut self.by_version, key);
-        let meets = packages.meets_dependency_or_has_package_name(place, &NeedRef::Entry(dep), &mut known)?;
+        let meets = packages.meets_dependency_or_has_package_name(
+            place,
+            &NeedRef::Entry(dep),
+            &mut known,
+        )?;
         self.by_version.insert(key, known)?;
         Ok(meets)
     }

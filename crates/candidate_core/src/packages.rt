@@ -11,8 +11,8 @@ use crate::matches::KnownMatches;
 use crate::need::NeedRef;
 use crate::package_matches::PackageDep;
 use crate::versions::{
-    RankedVersion, VersionPlace, depends_version_place, meets_dependency_or_has_package_name, own_version,
-    version_meeting_need,
+    RankedVersion, VersionPlace, depends_version_place, meets_dependency_or_has_package_name,
+    own_version, version_meeting_need,
 };
 use adb_view::{Adb, Val};
 use std::alloc::{AllocError, Global};

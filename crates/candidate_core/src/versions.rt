@@ -157,7 +157,8 @@ fn provided_version<'a>(
     ensures { IsVersionReadFrom source.now kept.source (option_and_then (λ
         (p : Dependency). p.version)
         (find (is_met_by_provides_entry (dependency dep.now))
-        (dependencies_in_list_value (entry_at_index (info_in_source source.now kept.word) 15)))) result }
+        (dependencies_in_list_value (entry_at_index
+        (info_in_source source.now kept.word) 15)))) result }
 {
     let word = Val::of(kept.word);
     let entries = objects_field(source.adb, Which::PkgInfo, word, PROVIDES, Which::Dep);

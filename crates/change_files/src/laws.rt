@@ -83,7 +83,8 @@ pub fn the_files_of_an_added_package_are_as_listed()
     ensures { (contents : ℕ → List Contents) (members : List Member) (l : Listing)
         → Contains (listings_of_members members) l
         → HaveValidDigestLengths (expected_files_of_package l.member.pkg)
-        → MatchEachExpectedSizeAndKnownDigest (expected_files_of_package l.member.pkg) (contents l.place)
+        → MatchEachExpectedSizeAndKnownDigest (expected_files_of_package l.member.pkg)
+        (contents l.place)
         → (is_file_with_contents l.entry ≡ false → has_target l.entry ≡ false
         → is_as_listed l.entry [] ≡ true)
         → is_as_listed l.entry (listing_bytes contents l) ≡ true }

@@ -35,7 +35,8 @@ abbrev pub container_database : List ℕ → Result Database Refusal
 container_database file =
     unless_cause DatabaseBad (container_fault_except_contents Idb file)
     (database_of_packages_file_and_is_text
-    (entries_of_field_at_index IDB_PACKAGES_INDEX (root_value_of_payload Idb (payload_in file))) (Some file) false)
+    (entries_of_field_at_index IDB_PACKAGES_INDEX (root_value_of_payload Idb (payload_in file)))
+    (Some file) false)
 
 -- the database in the payload to which a text database was converted, or the refusal if it could not be converted
 abbrev pub payload_database : Result (List ℕ) V2Fault → Result Database Refusal

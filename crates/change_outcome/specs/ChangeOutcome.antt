@@ -137,7 +137,8 @@ has_actions actions = not (length actions.removals == 0) || not (length actions.
 
 -- the bytes that a package takes when it is installed, by its information
 abbrev pub member_installed_size : Member → ℕ
-member_installed_size m = int_in (entry_at_index (entry_at_index m.pkg PACKAGE_INFO_INDEX) INFO_INSTALLED_SIZE_INDEX)
+member_installed_size m =
+    int_in (entry_at_index (entry_at_index m.pkg PACKAGE_INFO_INDEX) INFO_INSTALLED_SIZE_INDEX)
 
 -- the last line of a report: how many bytes and packages are installed
 abbrev pub member_sum_line : List Member → List ℕ

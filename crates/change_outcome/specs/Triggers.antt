@@ -34,7 +34,8 @@ do_patterns_match_parts_one_to_one (p ∷ patterns) (part ∷ parts) =
 unfoldable pub is_folder_matched_by_pattern : List ℕ → List ℕ → Bool
 is_folder_matched_by_pattern folder pattern =
     if length folder == 0 then bytes_eq pattern (codes "/")
-    else do_patterns_match_parts_one_to_one (path_parts_of (without_leading_slash pattern)) (path_parts_of folder)
+    else do_patterns_match_parts_one_to_one (path_parts_of (without_leading_slash pattern))
+    (path_parts_of folder)
 
 -- the patterns of the folders that a package watches
 abbrev pub trigger_patterns_of_package : Plain → List (List ℕ)

@@ -54,7 +54,8 @@ fn is_matched_at<'a>(patterns: &List<'a, &'a [u8]>, i: usize, folder: &[u8]) -> 
     // `i` is below the number of patterns.
     requires { i < count_of (entries_in (list_value patterns.now)) }
     ensures { result
-        ≡ is_folder_matched_by_pattern folder.now (text_in (entry_at_index (list_value patterns.now) i)) }
+        ≡ is_folder_matched_by_pattern folder.now (text_in (entry_at_index
+        (list_value patterns.now) i)) }
 {
     if i >= patterns.len() {
         unreachable!();

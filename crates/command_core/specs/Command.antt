@@ -20,6 +20,7 @@ pub record CommandLine : Type 0 where
   pub behind : ℕ
 
 -- the command line with these parts; `behind` is the place after its last word, counted from 1
-abbrev pub command_from_parts_and_end_place : Applet → Flags → List Operand → List OptionValue → ℕ → CommandLine
+abbrev pub command_from_parts_and_end_place : Applet → Flags → List Operand → List OptionValue → ℕ
+    → CommandLine
 command_from_parts_and_end_place applet flags operands values behind =
     record { applet = applet; flags = flags; operands = operands; values = values; behind = behind }

@@ -36,7 +36,8 @@ most_demo_packages = 20000
 -- whether a text is a number of packages for `demo`
 abbrev pub is_demo_number : List ℕ → Bool
 is_demo_number text =
-    is_decimal_without_leading_zeros text && nat_lt 0 (digits_value 10 text) && nat_le (digits_value 10 text) most_demo_packages
+    is_decimal_without_leading_zeros text && nat_lt 0 (digits_value 10 text)
+    && nat_le (digits_value 10 text) most_demo_packages
 
 -- whether a text is a pattern: one byte or more, each a visible ASCII character (0x21 to 0x7e)
 abbrev pub is_pattern : List ℕ → Bool

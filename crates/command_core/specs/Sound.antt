@@ -119,7 +119,8 @@ are_allowed_values rules (v ∷ vs) =
 -- whether the applet may have flags, operands and values together, and none is missing
 abbrev pub is_valid_command : CommandLine → Bool
 is_valid_command c =
-    may_have_flags c.applet c.flags && are_allowed_operands (operand_rule_if_needed_kind_flag_given c.applet c.flags) c.operands
+    may_have_flags c.applet c.flags
+    && are_allowed_operands (operand_rule_if_needed_kind_flag_given c.applet c.flags) c.operands
     && are_allowed_values (value_rules c.applet) c.values
     && not (is_required_value_missing (required_option_letter c.applet) c.values)
 

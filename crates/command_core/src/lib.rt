@@ -17,7 +17,9 @@ pub use operands::{
     Operand, OperandKind, OperandRule, Operands, a_command_has_what_its_applet_may_have,
     file_operands_are_files, values_are_of_their_kind,
 };
-pub use texts::{LONGEST_OUTPUT, is_among, is_decimal_without_leading_zeros, without_one_leading_dot_slash};
+pub use texts::{
+    LONGEST_OUTPUT, is_among, is_decimal_without_leading_zeros, without_one_leading_dot_slash,
+};
 pub use values::{
     COMPRESSION, DESCRIPTION, FILES, INFO, OUTPUT, OptionValue, SCRIPT, TRIGGER, ValueKind,
     ValueRule, Values,

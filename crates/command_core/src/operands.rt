@@ -14,7 +14,9 @@ ghost use Rattle.command_core.specs.Values.{first_value_with_letter, is_given, i
 ghost use Rattle.command_core.specs.declared.operands.OperandRule.{OperandRule};
 ghost use Rattle.command_core.specs.declared.values.OptionValue.{OptionValue};
 
-use crate::texts::{is_demo_number, is_file_argument, is_name_with_optional_leading_slash, is_pattern, read_file};
+use crate::texts::{
+    is_demo_number, is_file_argument, is_name_with_optional_leading_slash, is_pattern, read_file,
+};
 use crate::values::{FILES, OUTPUT, SCRIPT};
 use base_core::{Name, Text};
 use dep_core::{is_dependency_name_by_bytes_and_length, is_package_name, read_dep};
@@ -254,7 +256,8 @@ impl Operands {
 pub fn a_command_has_what_its_applet_may_have()
     // The number of operands, and the kind of each, are those that the applet takes.
     ensures operands { (c : CommandLine) → IsValidCommand c →
-        IsTrue (are_allowed_operands (operand_rule_if_needed_kind_flag_given c.applet c.flags) c.operands) }
+        IsTrue (are_allowed_operands
+        (operand_rule_if_needed_kind_flag_given c.applet c.flags) c.operands) }
     // Each value is one that its option may have, and no two values exclude each other.
     ensures values { (c : CommandLine) → IsValidCommand c →
         IsTrue (are_allowed_values (value_rules c.applet) c.values) }
@@ -266,7 +269,8 @@ pub fn a_command_has_what_its_applet_may_have()
 /// A law: if the applet takes files as operands, each operand of a valid command can name a file.
 pub fn file_operands_are_files()
     ensures { (c : CommandLine) (rule : OperandRule) → IsValidCommand c →
-        operand_rule_if_needed_kind_flag_given c.applet c.flags ≡ Some rule → rule.kind ≡ OperandKind.File →
+        operand_rule_if_needed_kind_flag_given c.applet c.flags ≡ Some rule → rule.kind
+        ≡ OperandKind.File →
         IsTrue (are_files c.operands) }
 {}
 
@@ -279,7 +283,8 @@ pub fn values_are_of_their_kind()
         IsTrue (is_allowed_value (value_rule_of_letter (value_rules c.applet) v.letter) v.text) }
     // The first value of `--output` can name a file that is to be written.
     ensures output { (c : CommandLine) (v : OptionValue) → IsValidCommand c →
-        first_value_with_letter OUTPUT c.values ≡ Some v → IsTrue (is_file_argument_within_output_length v.text) }
+        first_value_with_letter OUTPUT c.values ≡ Some v
+        → IsTrue (is_file_argument_within_output_length v.text) }
     // The first value of `--files` can name a folder.
     ensures folder { (c : CommandLine) (v : OptionValue) → IsValidCommand c →
         first_value_with_letter FILES c.values ≡ Some v → IsTrue (is_file_argument v.text) }

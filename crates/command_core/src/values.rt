@@ -8,7 +8,8 @@ ghost use Rattle.command_core.specs.Values.{excludes, is_excluded_by_earlier_val
 ghost use Rattle.command_core.specs.declared.values.OptionValue.{OptionValue};
 
 use crate::texts::{
-    is_file_argument, is_file_argument_within_output_length, is_script_argument, read_file, script_file, script_type,
+    is_file_argument, is_file_argument_within_output_length, is_script_argument, read_file,
+    script_file, script_type,
 };
 use base_core::{Name, Text};
 use std::alloc::{AllocError, Global};

@@ -51,7 +51,8 @@ abbrev pub IsContainerFaultForTable : Which → List ℕ → Cause → Type 0
 IsContainerFaultForTable which file c =
     IsHeaderFault file c
     ⊎ ((schema : ℕ) × (schema_of_header file ≡ Ok schema)
-    × (((is_wanted_schema_present_and_equal (header_schema_if_root_table which) schema ≡ false) × (c ≡ WrongSchema schema))
+    × (((is_wanted_schema_present_and_equal (header_schema_if_root_table which) schema ≡ false)
+    × (c ≡ WrongSchema schema))
     ⊎ ((is_wanted_schema_present_and_equal (header_schema_if_root_table which) schema ≡ true)
     × IsBlocksFault which (block_stream_from (first_block_position_of_schema_and_file schema file)) c)))
 

@@ -104,7 +104,8 @@ impl<'a> Db<'a> {
         requires { payload_fault Tables.Idb payload.now ≡ None }
         // On Ok, the packages are those of the value at the root of the payload.
         ensures { IfOk result (λ db. packages_of db
-            ≡ entries_of_field_at_index IDB_PACKAGES_INDEX (root_value_of_payload Tables.Idb payload.entry.now)) }
+            ≡ entries_of_field_at_index IDB_PACKAGES_INDEX
+            (root_value_of_payload Tables.Idb payload.entry.now)) }
     {
         // Laws that the proof needs; they compute nothing.
         no_text_is_bad_where_each_keeps_its_rule();

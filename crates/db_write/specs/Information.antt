@@ -8,4 +8,5 @@ use Rattle.adb_view.specs.Values.{entry_at_index, int_in}
 
 -- the length of the package's file, as its information gives it; 0 if it gives none
 abbrev pub file_size_in_info_of_package : Plain → ℕ
-file_size_in_info_of_package pkg = int_in (entry_at_index (entry_at_index pkg PACKAGE_INFO_INDEX) INFO_FILE_SIZE_INDEX)
+file_size_in_info_of_package pkg =
+    int_in (entry_at_index (entry_at_index pkg PACKAGE_INFO_INDEX) INFO_FILE_SIZE_INDEX)

@@ -65,7 +65,8 @@ member_file_count m = total_of folder_file_count (folders_in m.pkg)
 -- a kept package has no id, and keeps its hash
 abbrev pub info_in_new_database : Option (List ℕ) → Plain → Plain
 info_in_new_database id info =
-    info_without_zeros_with_id_and_file_size info (unwrap_or id (text_in (entry_at_index info INFO_HASHES_INDEX)))
+    info_without_zeros_with_id_and_file_size info
+    (unwrap_or id (text_in (entry_at_index info INFO_HASHES_INDEX)))
     (int_in (entry_at_index info INFO_FILE_SIZE_INDEX))
 
 -- a package in the new database, with the fields of table 7 in order: its information, its folders, its scripts, its

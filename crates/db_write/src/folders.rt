@@ -17,7 +17,9 @@ ghost use Rattle.db_write.specs.NewDatabase.{folder_file_count, folder_in_new_da
 ghost use Rattle.std.specs.Prelude.{◌≡◌, ◌<◌, true, false, OnOk, Some, drop, length, slice_get, unwrap_or};
 
 use adb_copy::{Draft, KnownTexts, field_word, objects_field, write_acl, write_file};
-use adb_view::field_indexes::{DIR_ACL_INDEX, DIR_FILES_INDEX, DIR_NAME_INDEX, PACKAGE_PATHS_INDEX};
+use adb_view::field_indexes::{
+    DIR_ACL_INDEX, DIR_FILES_INDEX, DIR_NAME_INDEX, PACKAGE_PATHS_INDEX,
+};
 use adb_view::{Adb, Arr, Val, Which, entry_word};
 use std::alloc::AllocError;
 

@@ -53,7 +53,8 @@ pub fn a_written_database_is_read_back()
     ensures packages { (members : List Member) (flags : List Bool) (bytes : List ℕ)
         → IsValidRootValueOfTable Tables.Idb (database_value members flags)
         → database_of members flags ≡ Ok bytes
-        → entries_of_field_at_index IDB_PACKAGES_INDEX (root_value_of_payload Tables.Idb (payload_in bytes))
+        → entries_of_field_at_index IDB_PACKAGES_INDEX (root_value_of_payload Tables.Idb
+        (payload_in bytes))
         ≡ list_of (packages_in_new_database members flags) }
 {
     a_file_is_spelled();
@@ -84,7 +85,8 @@ pub fn packages_of_sound_containers_may_be_members()
     // Each package of a sound database may be kept.
     ensures stays { (file : List ℕ) (pkg : Plain)
         → IsSoundContainerExceptContents Tables.Idb file → All (λ b. b < 256) (payload_in file)
-        → IsIn pkg (entries_of_field_at_index IDB_PACKAGES_INDEX (root_value_of_payload Tables.Idb (payload_in file)))
+        → IsIn pkg (entries_of_field_at_index IDB_PACKAGES_INDEX
+        (root_value_of_payload Tables.Idb (payload_in file)))
         → IsPackageOfSoundContainer pkg None }
     // The package in a sound container may be added.
     ensures comes { (file id : List ℕ)
@@ -111,13 +113,15 @@ pub fn a_database_without_changes_stays_the_same()
     // The written value is the read one without zeros.
     ensures value { (v : Plain) → HasShape (shape_of (Kinds.Obj Tables.Idb)) v
         → database_value (members_of_kept (entries_of_field_at_index IDB_PACKAGES_INDEX v))
-        (set_flags_of_all_listed_files (members_of_kept (entries_of_field_at_index IDB_PACKAGES_INDEX v)))
+        (set_flags_of_all_listed_files (members_of_kept
+        (entries_of_field_at_index IDB_PACKAGES_INDEX v)))
         ≡ without_zeros v }
     // A value without zeros in its canonical payload is written as the same bytes.
     ensures bytes { (v : Plain) (payload : List ℕ) → HasShape (shape_of (Kinds.Obj Tables.Idb)) v
         → without_zeros v ≡ v → payload_or_counts_at_overflow v ≡ Ok payload
         → database_of (members_of_kept (entries_of_field_at_index IDB_PACKAGES_INDEX v))
-        (set_flags_of_all_listed_files (members_of_kept (entries_of_field_at_index IDB_PACKAGES_INDEX v)))
+        (set_flags_of_all_listed_files (members_of_kept
+        (entries_of_field_at_index IDB_PACKAGES_INDEX v)))
         ≡ Ok (file_of IDB_WORD payload) }
 {}
 
@@ -151,7 +155,8 @@ pub fn a_package_keeps_its_folders()
         ≡ map name_of (folders_in m.pkg) }
     // The access lists of the folders are unchanged, but for zeros.
     ensures acls { (m : Member) (flags : List Bool)
-        → map (λ folder. entry_at_index folder DIR_ACL_INDEX) (folders_in (package_in_new_database m flags))
+        → map (λ folder. entry_at_index folder DIR_ACL_INDEX) (folders_in
+        (package_in_new_database m flags))
         ≡ map (λ folder. without_zeros (entry_at_index folder DIR_ACL_INDEX)) (folders_in m.pkg) }
 {}
 
@@ -189,10 +194,12 @@ pub fn a_written_database_is_written_again_alike()
         → IsValidRootValueOfTable Tables.Idb (database_value members flags)
         → database_of members flags ≡ Ok bytes
         → database_of
-        (members_of_kept (entries_of_field_at_index IDB_PACKAGES_INDEX (root_value_of_payload Tables.Idb
+        (members_of_kept (entries_of_field_at_index IDB_PACKAGES_INDEX
+        (root_value_of_payload Tables.Idb
         (payload_in bytes))))
         (set_flags_of_all_listed_files
-        (members_of_kept (entries_of_field_at_index IDB_PACKAGES_INDEX (root_value_of_payload Tables.Idb
+        (members_of_kept (entries_of_field_at_index IDB_PACKAGES_INDEX
+        (root_value_of_payload Tables.Idb
         (payload_in bytes)))))
         ≡ Ok bytes }
 {

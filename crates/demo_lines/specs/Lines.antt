@@ -16,12 +16,15 @@ digit_at_unit_of_number unit i = digit_zero + i / unit % 10
 abbrev pub demo_package_name : ℕ → List ℕ
 demo_package_name i =
     codes "p"
-    ++ (digit_at_unit_of_number 10000 i ∷ digit_at_unit_of_number 1000 i ∷ digit_at_unit_of_number 100 i ∷ digit_at_unit_of_number 10 i
+    ++ (digit_at_unit_of_number 10000 i ∷ digit_at_unit_of_number 1000 i ∷ digit_at_unit_of_number 100 i
+    ∷ digit_at_unit_of_number 10 i
     ∷ digit_at_unit_of_number 1 i ∷ [])
 
 -- the version of package i: `1.A-rB`, where A is i modulo 7, and B is i modulo 3
 abbrev pub demo_version : ℕ → List ℕ
-demo_version i = codes "1." ++ (digit_at_unit_of_number 1 (i % 7) ∷ codes "-r" ++ (digit_at_unit_of_number 1 (i % 3) ∷ []))
+demo_version i =
+    codes "1." ++ (digit_at_unit_of_number 1 (i % 7) ∷ codes "-r"
+    ++ (digit_at_unit_of_number 1 (i % 3) ∷ []))
 
 -- the folder with the files of package i
 abbrev pub demo_folder : ℕ → List ℕ
@@ -84,4 +87,5 @@ names_unneeded_by_first_n_up_to n (suc i) =
 
 -- the words of the command line that adds those of n packages on which no other depends
 abbrev pub add_words : ℕ → List (List ℕ)
-add_words n = codes "add" ∷ codes "--initdb" ∷ codes "--allow-untrusted" ∷ names_unneeded_by_first_n_up_to n n
+add_words n =
+    codes "add" ∷ codes "--initdb" ∷ codes "--allow-untrusted" ∷ names_unneeded_by_first_n_up_to n n

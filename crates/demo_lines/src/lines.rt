@@ -187,7 +187,11 @@ fn number_of(text: &[u8]) -> u16
 
 /// The line that `demo` prints: that n packages were made, and the last line of `report`, which
 /// `add` gave for their installation.
-pub fn demo_line_of_count_and_add_report(alloc: Global, n: u16, report: &[u8]) -> Result<Text, AllocError>
+pub fn demo_line_of_count_and_add_report(
+    alloc: Global,
+    n: u16,
+    report: &[u8],
+) -> Result<Text, AllocError>
     ensures { IfOk result (λ line. line ≡ demo_line_of_count_and_add_report n report.now) }
 {
     let head = format!(in alloc; "demo {n}: ")?;

@@ -33,7 +33,8 @@ is_name_byte b = nat_lt 32 b && nat_lt b 127 && not (is_name_end_mark b)
 
 -- whether the bytes are the name of a dependency: 1 to 255 bytes, each of which a name may have
 abbrev pub is_dependency_name_by_bytes_and_length : List ℕ → Bool
-is_dependency_name_by_bytes_and_length name = nat_lt 0 (length name) && nat_le (length name) 255 && list_all is_name_byte name
+is_dependency_name_by_bytes_and_length name =
+    nat_lt 0 (length name) && nat_le (length name) 255 && list_all is_name_byte name
 
 -- whether the bytes begin with `-` (45) or `.` (46), as no package's name does
 abbrev pub begins_with_dash_or_dot : List ℕ → Bool
@@ -44,7 +45,8 @@ begins_with_dash_or_dot (b ∷ rest) = (b == 45) || (b == 46)
 -- nor has a `/` (47)
 abbrev pub is_package_name : List ℕ → Bool
 is_package_name name =
-    is_dependency_name_by_bytes_and_length name && not (begins_with_dash_or_dot name) && not (list_any (λ b. b == 47) name)
+    is_dependency_name_by_bytes_and_length name && not (begins_with_dash_or_dot name)
+    && not (list_any (λ b. b == 47) name)
 
 -- whether a tag may have this byte: a letter, a digit, `_` (95), `-` (45) or `.` (46)
 abbrev pub is_tag_byte : ℕ → Bool

@@ -22,7 +22,9 @@ is_tag_or_none (Some tag) = is_tag tag
 
 -- whether a dependency is valid, by the grammar: its name, its wanted version with the match bits, and its tag
 abbrev pub is_dependency : Dependency → Bool
-is_dependency d = is_dependency_name_by_bytes_and_length d.name && is_constraint_or_none d.version d.bits && is_tag_or_none d.tag
+is_dependency d =
+    is_dependency_name_by_bytes_and_length d.name && is_constraint_or_none d.version d.bits
+    && is_tag_or_none d.tag
 
 -- the dependency is valid, by the grammar
 abbrev pub IsDependency : Dependency → Type 0

@@ -42,7 +42,8 @@ begins_with_blank (b ∷ rest) = is_blank b
 -- name
 abbrev pub repository_at_path : Option (List ℕ) → List ℕ → Option Repository
 repository_at_path tag path =
-    if is_name (without_leading_slash path) then Some (repository tag (without_leading_slash path)) else None
+    if is_name (without_leading_slash path) then Some
+    (repository tag (without_leading_slash path)) else None
 
 -- the repository of a line, given the text after the `@` of the line: a tag, blanks, and a path
 unfoldable pub repository_after_at_sign : List ℕ → Option Repository

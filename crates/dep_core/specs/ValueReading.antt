@@ -25,7 +25,9 @@ with_constraint_if_version_and_match_bits d (b ∷ rest) (Some bits) = with_cons
 -- allowed; from 16 on it is a conflict
 unfoldable pub dependency_of_value : List ℕ → List ℕ → ℕ → Option Dependency
 dependency_of_value name version matching =
-    if is_dependency_name_by_bytes_and_length name && (is_version_or_empty version && is_match_number matching) then
-    Some (with_constraint_if_version_and_match_bits (dependency_on_any_version (not (nat_lt matching 16)) name) version
+    if is_dependency_name_by_bytes_and_length name
+    && (is_version_or_empty version && is_match_number matching) then
+    Some (with_constraint_if_version_and_match_bits
+    (dependency_on_any_version (not (nat_lt matching 16)) name) version
     (match_bits_of_low_bits_unless_any_version (matching % 16)))
     else None

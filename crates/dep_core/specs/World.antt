@@ -60,7 +60,8 @@ words_between_blanks line = filter (λ word. not (length word == 0)) (slice_spli
 -- world with this dependency as a new entry, or None if an entry has its name
 abbrev pub world_with_new_dependency : List Dependency → Dependency → Option (List Dependency)
 world_with_new_dependency world d =
-    if has_dependency_named d.name world then None else Some (world_with_dependency_put_in_name_order d world)
+    if has_dependency_named d.name world then None else Some
+    (world_with_dependency_put_in_name_order d world)
 
 -- world with the entries of some words; None if a word is no dependency, or repeats the name of an entry
 abbrev pub world_with_words : List Dependency → List (List ℕ) → Option (List Dependency)

@@ -57,7 +57,8 @@ pub fn values_are_read_back()
 
 /// The text that a world is written as is read as that world.
 pub fn worlds_are_read_back()
-    ensures { (world : List Dependency) → IsWorldSortedByName world → world_of (world_text world) ≡ Ok world }
+    ensures { (world : List Dependency) → IsWorldSortedByName world
+        → world_of (world_text world) ≡ Ok world }
 {
     // A law that the proof needs; it has no effect at run time.
     versions_have_version_bytes();

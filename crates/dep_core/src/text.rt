@@ -12,7 +12,10 @@ ghost use Rattle.dep_core.specs.ValueReading.{match_bits_of_low_bits_unless_any_
 ghost use Rattle.std.specs.List.{prefix_len};
 ghost use Rattle.dep_core.specs.World.{is_blank};
 
-use crate::dep::{Dep, is_dependency_name_by_bytes_and_length, is_name_byte, is_tag, is_tag_byte, operator_of, operator_text};
+use crate::dep::{
+    Dep, is_dependency_name_by_bytes_and_length, is_name_byte, is_tag, is_tag_byte, operator_of,
+    operator_text,
+};
 use base_core::Text;
 use std::alloc::{AllocError, Global};
 use version_core::{Op, Version};

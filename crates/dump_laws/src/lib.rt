@@ -53,7 +53,8 @@ pub fn what_is_printed_is_generated_again()
     // A canonical container without contents is made again, byte for byte.
     ensures canonical { (which : Which) (value : Plain) (schema : ℕ) (payload text : List ℕ)
         → IsNormalRootValueOfTable which value → header_schema_if_root_table which ≡ Some schema
-        → payload_or_counts_at_overflow value ≡ Ok payload → dump_of (file_of schema payload) ≡ Ok text
+        → payload_or_counts_at_overflow value ≡ Ok payload → dump_of (file_of schema payload)
+        ≡ Ok text
         → generated_file text ≡ Ok (file_of schema payload) }
 {
     what_is_written_is_spelled();

@@ -97,7 +97,8 @@ fn journal_entry(
     ensures stage { IfOk result
         (IsStageOf (removals_of_plan plan.now) (map name_of_write writes.now)) }
     // Refused exactly if the value of the intent exceeds a limit of the writer.
-    ensures told { Agrees (λ _. true) result (unless_overflow (counts_at_first_overflow (value_of_intent
+    ensures told { Agrees (λ _. true) result (unless_overflow (counts_at_first_overflow
+        (value_of_intent
         (intent_of_lists (removals_of_plan plan.now) (map name_of_write writes.now)))) true) }
 {
     let loaded = plan.packages.selection.loaded;

@@ -14,7 +14,8 @@ use Rattle.base_core.specs.ByteOrder.{precedes}
 
 -- the text of the version in the information of a package
 abbrev pub package_version_text : Plain → List ℕ
-package_version_text pkg = text_in (entry_at_index (entry_at_index pkg PACKAGE_INFO_INDEX) INFO_VERSION_INDEX)
+package_version_text pkg =
+    text_in (entry_at_index (entry_at_index pkg PACKAGE_INFO_INDEX) INFO_VERSION_INDEX)
 
 -- whether a package with this name and version meets the dependency, which is that of an entry of `replaces`; false
 -- if there is no dependency, or if it is a conflict

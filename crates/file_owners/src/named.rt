@@ -59,7 +59,8 @@ fn places_named(
 ) -> Result<Vec<u32>, AllocError>
     // The entries of `replaces` obey the rules of dependencies.
     requires { Each ObeysTextAndNumberRulesOfDependency (entries_in
-        (entry_at_index (entry_at_index (package_value pkg.now) PACKAGE_INFO_INDEX) INFO_REPLACES_INDEX)) }
+        (entry_at_index (entry_at_index
+        (package_value pkg.now) PACKAGE_INFO_INDEX) INFO_REPLACES_INDEX)) }
     // On Ok, these are the indexes of the members that the package names.
     ensures { IfOk result (λ places.
         ArePlacesOfNamedMembers (members_of members.now) (package_value pkg.now) places.items) }

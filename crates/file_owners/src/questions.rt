@@ -146,7 +146,8 @@ fn question_of(members: &Members<'_>, adb: Adb<'_>, entry: Val) -> Option<Questi
     // The word leads to a value with the shape of a dependency.
     requires sound { is_sound (payload_of adb) (Kinds.Obj Tables.Dep) entry ≡ true }
     // The entry obeys the rules of a dependency.
-    requires texts { ObeysTextAndNumberRulesOfDependency (value_at (payload_of adb) (Kinds.Obj Tables.Dep) entry) }
+    requires texts { ObeysTextAndNumberRulesOfDependency (value_at (payload_of adb)
+        (Kinds.Obj Tables.Dep) entry) }
     // For each member, there is a question about it whose answer is yes exactly if the entry names
     // the member.
     ensures asked { (y : ℕ) (m : Member) → slice_get (members_of members.now) y ≡ Some m

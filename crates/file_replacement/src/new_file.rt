@@ -84,7 +84,8 @@ impl<'a> NewFile<'a> {
         ensures disk { IsErrOf result TreeFault.Disk
             → CountsNewFaultWithCause (T.counts tree.old) (T.counts tree.new) }
         // Ok is returned only if no fault was counted.
-        ensures kept { OnOk result (CountsNoNewFaultOrLackOfMemory (T.counts tree.old) (T.counts tree.new)) }
+        ensures kept { OnOk result (CountsNoNewFaultOrLackOfMemory (T.counts tree.old)
+            (T.counts tree.new)) }
 
         // No call is a misuse, if the scratch name can be added without one name being a folder of
         // another.

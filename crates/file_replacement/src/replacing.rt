@@ -96,7 +96,8 @@ pub fn replace<T: Tree>(
     ensures disk { IsErrOf result TreeFault.Disk
         → CountsNewFaultWithCause (T.counts tree.old) (T.counts tree.new) }
     // Ok is returned only if no fault was counted.
-    ensures kept { OnOk result (CountsNoNewFaultOrLackOfMemory (T.counts tree.old) (T.counts tree.new)) }
+    ensures kept { OnOk result (CountsNoNewFaultOrLackOfMemory (T.counts tree.old)
+        (T.counts tree.new)) }
 
     // No call is a misuse, if the name and its scratch name can be added without one name being a
     // folder of another.
@@ -146,7 +147,8 @@ fn write_new<T: Tree>(
     ensures disk { IsErrOf result TreeFault.Disk
         → CountsNewFaultWithCause (T.counts tree.old) (T.counts tree.new) }
     // Ok is returned only if no fault was counted.
-    ensures kept { OnOk result (CountsNoNewFaultOrLackOfMemory (T.counts tree.old) (T.counts tree.new)) }
+    ensures kept { OnOk result (CountsNoNewFaultOrLackOfMemory (T.counts tree.old)
+        (T.counts tree.new)) }
     // No call is a misuse, if both names can be added without one name being a folder of another.
     ensures proper { IfObservable (T.history tree.old) (λ v.
         CanAddBothNames (scratch_name_of name.now) name.now v

@@ -51,7 +51,8 @@ root_tables = Package ∷ Index ∷ Idb ∷ Intent ∷ []
 
 -- the table of the root whose schema a first line names; None if it names none of the four
 abbrev pub table_of_line : Line → Option Which
-table_of_line l = find (λ which. bytes_eq l (schema_line_or_empty_line (header_schema_if_root_table which))) root_tables
+table_of_line l =
+    find (λ which. bytes_eq l (schema_line_or_empty_line (header_schema_if_root_table which))) root_tables
 
 -- the root with the value that was read from the lines after the first; or the number of a bad line.
 -- That number counts from 0 after the first line; the result counts all lines from 1, so it is greater

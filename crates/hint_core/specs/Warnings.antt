@@ -27,7 +27,8 @@ use Rattle.hint_core.specs.Lines.{printed_text}
 -- the folder whose files a package gets, if the option `-F` of `mkpkg` gives one
 abbrev pub folder_to_pack : List OptionValue → Option (List ℕ)
 folder_to_pack values =
-    option_map (λ (v : OptionValue). without_one_leading_dot_slash v.text) (first_value_with_letter FILES values)
+    option_map (λ (v : OptionValue). without_one_leading_dot_slash v.text)
+    (first_value_with_letter FILES values)
 
 -- the line that says that no file is below a folder
 abbrev pub empty_folder_line : List ℕ → List ℕ

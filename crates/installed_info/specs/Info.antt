@@ -41,7 +41,8 @@ contents_section_of pkg =
 abbrev pub depends_section_of : Plain → List ℕ
 depends_section_of pkg =
     depends_section (package_name pkg) (package_version_text pkg)
-    (map dep_text (dependencies_in_list_value (entry_at_index (entry_at_index pkg PACKAGE_INFO_INDEX) INFO_DEPENDS_INDEX)))
+    (map dep_text (dependencies_in_list_value
+    (entry_at_index (entry_at_index pkg PACKAGE_INFO_INDEX) INFO_DEPENDS_INDEX)))
 
 -- the line that says that a package owns a path
 abbrev pub owner_line : List ℕ → Plain → List ℕ

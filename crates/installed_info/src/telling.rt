@@ -134,8 +134,10 @@ pub fn owners_are_those_that_list_a_path()
         → path_owner packages path ≡ Some pkg
         → IsIn pkg packages × IsIn path (paths_of_package_files pkg) }
     // In a database, each package that lists a path is its owner.
-    ensures lister { (database pkg : Plain) (path : List ℕ) → HasNoForbiddenRepeatedName Idb database
-        → IsIn pkg (entries_of_field_at_index IDB_PACKAGES_INDEX database) → IsIn path (paths_of_package_files pkg)
+    ensures lister { (database pkg : Plain) (path : List ℕ)
+        → HasNoForbiddenRepeatedName Idb database
+        → IsIn pkg (entries_of_field_at_index IDB_PACKAGES_INDEX database)
+        → IsIn path (paths_of_package_files pkg)
         → path_owner (entries_of_field_at_index IDB_PACKAGES_INDEX database) path ≡ Some pkg }
 {}
 
@@ -149,5 +151,6 @@ pub fn packages_have_the_names_that_ask_for_them()
     // In a database, each package is the one that its name means.
     ensures named { (database pkg : Plain) → HasNoForbiddenRepeatedName Idb database
         → IsIn pkg (entries_of_field_at_index IDB_PACKAGES_INDEX database)
-        → package_named (entries_of_field_at_index IDB_PACKAGES_INDEX database) (package_name pkg) ≡ Some pkg }
+        → package_named (entries_of_field_at_index IDB_PACKAGES_INDEX database)
+        (package_name pkg) ≡ Some pkg }
 {}

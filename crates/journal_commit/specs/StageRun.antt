@@ -84,7 +84,8 @@ pub record IsStagingRun (v : TreeState) (old now : List TreeState) : Type 0 wher
 
 -- A staging run that began at the tree `v` with an empty staging area. Now there is a staged file for each element of
 -- `contents`, with these bytes, and, if `begun` has bytes, a further one with these, which is not yet ended.
-pub record IsRunThatStagedAndBeganFiles (stage : Staging) (contents : List (List ℕ)) (begun : Option (List ℕ))
+pub record IsRunThatStagedAndBeganFiles (stage : Staging) (contents : List (List ℕ))
+    (begun : Option (List ℕ))
     (v : TreeState) (old now : List TreeState) : Type 0 where
   -- `v` is the newest state at the start of staging
   pub start : HoldsNow old (λ w. w ≡ v)

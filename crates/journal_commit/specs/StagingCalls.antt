@@ -20,7 +20,8 @@ pub record ChangesOnlyStagedFiles {T E : Type 0} (stage : Staging) (old now : Li
   pub counts : IsResultExplainedByCounts before after result
   -- no call on the tree is a misuse, if the paths of the intent and of the staged files were free at the start
   pub proper : (contents : List (List ℕ)) (v : TreeState) (first : List TreeState)
-      → IsRunThatStagedAndBeganFiles stage contents None v first old → AreIntentAndStagedPathsFree (files_of v)
+      → IsRunThatStagedAndBeganFiles stage contents None v first old
+      → AreIntentAndStagedPathsFree (files_of v)
       → after.misuses ≡ before.misuses
 
 -- how a call changes the tree and its counts, if before it a staged file is begun and has the bytes `so_far`; no
@@ -34,7 +35,8 @@ pub record ChangesOnlyBegunFile {T E : Type 0} (stage : Staging) (old now : List
   pub counts : IsResultExplainedByCounts before after result
   -- no call on the tree is a misuse
   pub proper : (contents : List (List ℕ)) (so_far : List ℕ) (v : TreeState) (first : List TreeState)
-      → IsRunThatStagedAndBeganFiles stage contents (Some so_far) v first old → after.misuses ≡ before.misuses
+      → IsRunThatStagedAndBeganFiles stage contents (Some so_far) v first old → after.misuses
+      ≡ before.misuses
 
 -- a call that stages one whole file with these bytes, and changes the stage from `stage` to `next`
 pub record StagesFile {T E : Type 0} (stage next : Staging) (bytes : List ℕ) (old now : List TreeState)

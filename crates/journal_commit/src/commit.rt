@@ -44,7 +44,8 @@ pub fn carry_through<T: Tree>(stage: &mut Stage, tree: &mut T) -> Result<(), Dis
     // An error is a counted fault of the tree.
     ensures cause { OnErr result (CountsNewFaultWithCause (T.counts tree.old) (T.counts tree.new)) }
     // Ok is returned only if no fault was counted.
-    ensures kept { OnOk result (CountsNoNewFaultOrLackOfMemory (T.counts tree.old) (T.counts tree.new)) }
+    ensures kept { OnOk result (CountsNoNewFaultOrLackOfMemory (T.counts tree.old)
+        (T.counts tree.new)) }
 
     // No call is a misuse, if the paths of the intent and of the staged files are free among the
     // files before the staging, and among the files after all actions.

@@ -109,7 +109,8 @@ pub record PublishesIntent {T E : Type 0} (stage : Staging) (old now : List Tree
   -- intent of this call, which leads to all actions done, is under its name
   pub moments : IfObservable old (λ v. (ignored : List ℕ → Bool) (contents : List (List ℕ)) (base : Files)
       → IsDurable (StateDependsOn ignored) v → HasStagedContents stage contents None base v
-      → SinceGivenEarlierAddedMoments (IsOldUntilCommit ignored (files_after_actions stage.intent (files_of v)) v)
+      → SinceGivenEarlierAddedMoments
+      (IsOldUntilCommit ignored (files_after_actions stage.intent (files_of v)) v)
       old now)
   -- once Ok is returned, the change is committed by an intent of this call
   pub published : IfObservable old (λ v. (ignored : List ℕ → Bool) (contents : List (List ℕ)) (base : Files)

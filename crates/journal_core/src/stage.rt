@@ -88,7 +88,8 @@ impl Stage {
             ≡ Some (bytes, values) }
         // Ok is returned only if the payload exceeds no limit.
         ensures fits { OnOk result
-            (counts_at_first_overflow (value_of_intent (intent_of_lists removals.now writes.now)) ≡ None) }
+            (counts_at_first_overflow (value_of_intent
+            (intent_of_lists removals.now writes.now)) ≡ None) }
     {
         let removals = copy_of_names(alloc, removals)?;
         let writes = copy_of_names(alloc, writes)?;

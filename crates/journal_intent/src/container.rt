@@ -41,7 +41,8 @@ pub(crate) fn intent_file(
         ≡ Some (bytes, values) }
     // Ok is returned only if the payload exceeds no limit.
     ensures fits { OnOk result
-        (counts_at_first_overflow (value_of_intent (intent_of_lists removals.now writes.now)) ≡ None) }
+        (counts_at_first_overflow (value_of_intent (intent_of_lists removals.now writes.now))
+        ≡ None) }
     // The intent has fewer than 2^63 names, so that they can be counted in 64 bits.
     ensures few { OnOk result (length removals.now + length writes.now < 2 ^ 63) }
 {

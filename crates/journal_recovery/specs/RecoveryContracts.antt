@@ -52,7 +52,8 @@ pub record IsRecoveryExplainedByCounts {T : Type 0} (before now : Counts)
   -- `Memory` is returned only if no fault was counted
   pub memory : IsErrOf result Memory → CountsNoNewFaultOrLackOfMemory before now
   -- the intent is refused only if no fault was counted
-  pub refused : (cause : Cause) → IsErrOf result (IntentBad cause) → CountsNoNewFaultOrLackOfMemory before now
+  pub refused : (cause : Cause) → IsErrOf result (IntentBad cause)
+      → CountsNoNewFaultOrLackOfMemory before now
 
 -- what a call ensures that removes these names; they should all be in the staging area
 pub record RemovesStagedNames {T E : Type 0} (names : List (List ℕ)) (old now : List TreeState)

@@ -234,7 +234,8 @@ fn empty_stage<T: Tree>(alloc: Global, tree: &mut T) -> Result<(), TreeFault>
     ensures disk { IsErrOf result TreeFault.Disk
         → CountsNewFaultWithCause (T.counts tree.old) (T.counts tree.new) }
     // Ok is returned only if no fault was counted.
-    ensures kept { OnOk result (CountsNoNewFaultOrLackOfMemory (T.counts tree.old) (T.counts tree.new)) }
+    ensures kept { OnOk result (CountsNoNewFaultOrLackOfMemory (T.counts tree.old)
+        (T.counts tree.new)) }
     // If the program is out of memory, nothing has changed, and no fault was counted.
     ensures memory { IsErrOf result TreeFault.Memory
         → (T.history tree.new ≡ T.history tree.old)

@@ -151,7 +151,8 @@ pub fn carry_out<T: Tree>(
     ensures disk { IsErrOf result DiskFault
         → CountsNewFaultWithCause (T.counts tree.old) (T.counts tree.new) }
     // Ok is returned only if no fault was counted.
-    ensures kept { OnOk result (CountsNoNewFaultOrLackOfMemory (T.counts tree.old) (T.counts tree.new)) }
+    ensures kept { OnOk result (CountsNoNewFaultOrLackOfMemory (T.counts tree.old)
+        (T.counts tree.new)) }
     // With another error than one of the tree, no fault was counted.
     ensures others { IfErr result (λ fault. (fault ≡ DiskFault → ⊥)
         → CountsNoNewFaultOrLackOfMemory (T.counts tree.old) (T.counts tree.new)) }

@@ -12,6 +12,7 @@ use Rattle.pkg_core.specs.Whole.{payload_sha256_of_package_file, package_with_co
 -- the entry that an index has for the package in the file with these bytes
 abbrev pub index_entry_of_package_file : List ℕ → Plain
 index_entry_of_package_file file =
-    info_without_zeros_with_id_and_file_size (entry_at_index (package_with_contents file).value PACKAGE_INFO_INDEX)
+    info_without_zeros_with_id_and_file_size
+    (entry_at_index (package_with_contents file).value PACKAGE_INFO_INDEX)
     (payload_sha256_of_package_file file)
     (length file)

@@ -72,7 +72,8 @@ index_container (Err counts) = Err (TooLarge counts.0 counts.1)
 -- if its payload exceeds a limit of the writer
 unfoldable pub index_of_entries : List ℕ → List Plain → Result (List ℕ) MakeFault
 index_of_entries description entries =
-    index_container (payload_or_counts_at_overflow (value_of_index description (sorted_by index_entry_cmp entries)))
+    index_container (payload_or_counts_at_overflow
+    (value_of_index description (sorted_by index_entry_cmp entries)))
 
 -- the bytes of the index with the entries that were found, or the refusal that was found in place of them
 abbrev pub index_of_entries_or_fault : List ℕ → Result (List Plain) MakeFault → Result (List ℕ) MakeFault

@@ -24,7 +24,8 @@ use Rattle.make_index.specs.declared.source.EntrySource.TheVariants.{Payload, Fi
 
 -- an entry, built again from its own fields, as it is written into the payload of an index
 abbrev pub copy_of_entry : Plain → Plain
-copy_of_entry entry = info_without_zeros_with_id_and_file_size entry (text_in (entry_at_index entry INFO_HASHES_INDEX))
+copy_of_entry entry =
+    info_without_zeros_with_id_and_file_size entry (text_in (entry_at_index entry INFO_HASHES_INDEX))
     (int_in (entry_at_index entry INFO_FILE_SIZE_INDEX))
 
 -- the entry that is written from what is kept of a package: a payload with the entry, or the package's

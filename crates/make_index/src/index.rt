@@ -202,7 +202,8 @@ fn index_payload(alloc: Global, description: &[u8], entries: &[Entry]) -> Result
     ensures small { IfOk result (λ payload. length payload.items ≤ MOST_BYTES) }
     // An error is the limit of a payload that is exceeded, or out of memory.
     ensures err { IfErr result (λ fault. IsOverflowFault fault
-        (payload_or_counts_at_overflow (value_of_index description.now (map entry_view entries.now)))) }
+        (payload_or_counts_at_overflow (value_of_index description.now
+        (map entry_view entries.now)))) }
 {
     let mut draft = Draft::new(alloc);
     write_index(alloc, &mut draft, description, entries)?;

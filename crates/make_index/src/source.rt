@@ -120,7 +120,8 @@ fn write_package(
     // On Ok, the draft has one value more: the information of the package, with its id and the
     // length of its file.
     ensures { OnOk result (draft.new ≡ draft_with
-        (info_without_zeros_with_id_and_file_size (entry_at_index (opened_value pkg.now) PACKAGE_INFO_INDEX)
+        (info_without_zeros_with_id_and_file_size (entry_at_index
+        (opened_value pkg.now) PACKAGE_INFO_INDEX)
         (sha256
         (opened_payload pkg.now))
         len) draft.old) }
@@ -163,7 +164,8 @@ pub(crate) fn entry_payload(
     ensures small { len < 2 ^ 64 }
     // If a payload is returned, it is that of the entry.
     ensures payload { IfOk result (λ found. IfSome found (λ payload. payload_or_counts_at_overflow
-        (info_without_zeros_with_id_and_file_size (entry_at_index (opened_value pkg.now) PACKAGE_INFO_INDEX)
+        (info_without_zeros_with_id_and_file_size (entry_at_index
+        (opened_value pkg.now) PACKAGE_INFO_INDEX)
         (sha256
         (opened_payload pkg.now))
         len) ≡ Ok payload.items)) }

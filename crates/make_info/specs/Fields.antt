@@ -148,6 +148,7 @@ values_by_kind Kinds.PackageName value = text_value_if (is_package_name value) v
 values_by_kind Kinds.PackageVersion value = text_value_if (is_version value) value
 values_by_kind Kinds.AnyText value = text_value_if true value
 values_by_kind Kinds.HexDigits value = field_values_of_decoded_hex (decode_of value)
-values_by_kind Kinds.Number value = option_map (λ n. number n ∷ []) (decimal_number_without_leading_zeros value)
+values_by_kind Kinds.Number value =
+    option_map (λ n. number n ∷ []) (decimal_number_without_leading_zeros value)
 values_by_kind Kinds.Dependencies value = dependency_values_of_parts (nonempty_parts_between_spaces value)
 values_by_kind Kinds.Texts value = Some (text_values (nonempty_parts_between_spaces value))

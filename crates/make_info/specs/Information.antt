@@ -49,7 +49,8 @@ items_of_option v = option_and_then items_of_text (field_text_in v.text)
 abbrev pub gives_single_field_again : List OptionValue → Option FieldText → Bool
 gives_single_field_again before None = false
 gives_single_field_again before (Some given) =
-    not (may_repeat (kind_of_field given.field)) && list_any (has_text_for_field_whatever_letter given.field) before
+    not (may_repeat (kind_of_field given.field))
+    && list_any (has_text_for_field_whatever_letter given.field) before
 
 -- whether the value `v` is for a field that may be given only once, and one of the values `before` is for
 -- the same field
@@ -65,7 +66,8 @@ offends too_long before v =
     || (repeats_single_field before v || (too_long && has_text_for_field_whatever_letter Fields.Version v))
 
 -- the place of the first of the given values that offends; `before` are the values of `-I` before them
-abbrev pub first_offence_place_by_output_length_after : Bool → List OptionValue → List OptionValue → Option ℕ
+abbrev pub first_offence_place_by_output_length_after : Bool → List OptionValue → List OptionValue
+    → Option ℕ
 first_offence_place_by_output_length_after too_long before [] = None
 first_offence_place_by_output_length_after too_long before (v ∷ vs) =
     if offends too_long before v then Some v.place
@@ -90,10 +92,12 @@ unless_offence (Some place) otherwise = Err place
 -- the information that the values of all options give, or the first place that offends as an error. This
 -- is the place of a value of `-I`; or, if the name or the version is missing, `behind`, the place after
 -- the last argument
-unfoldable pub information_with_missing_reported_at_place : List OptionValue → ℕ → Result (List FieldWithValue) ℕ
+unfoldable pub information_with_missing_reported_at_place : List OptionValue → ℕ
+    → Result (List FieldWithValue) ℕ
 information_with_missing_reported_at_place values behind =
     let own = values_of_info_options values in
-    unless_offence (first_offence_place_by_output_length_after (is_output_default_and_too_long values) [] own)
+    unless_offence (first_offence_place_by_output_length_after
+    (is_output_default_and_too_long values) [] own)
     (if lacks_name_or_version own then Err behind else Ok (items_of_valid_options own))
 
 -- the information of a command line, or the first place that offends; a missing name or version is

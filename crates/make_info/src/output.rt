@@ -150,7 +150,10 @@ fn is_mkpkg(applet: Applet) -> bool
 }
 
 // The name of the output of `mkpkg`, if its information is allowed.
-fn named_or_default_package_output(alloc: Global, command: &Command) -> Result<Option<Name>, AllocError>
+fn named_or_default_package_output(
+    alloc: Global,
+    command: &Command,
+) -> Result<Option<Name>, AllocError>
     ensures { IfOk result (λ name. name ≡ named_or_default_package_output command.now) }
 {
     if !is_allowed(alloc, command)? {

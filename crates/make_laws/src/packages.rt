@@ -35,7 +35,8 @@ pub fn a_made_package_has_just_the_folders_above_its_paths()
     ensures { (command : CommandLine) (names : List (List ℕ)) (read : Reads) (bytes : List ℕ)
         (dir : OptionValue) (others : List OptionValue) → IsMadePackage command names read bytes
         → values_of_letter FILES command.values ≡ dir ∷ others
-        → HasJustFoldersAbove (without_one_leading_dot_slash dir.text) names (package_in_container bytes) }
+        → HasJustFoldersAbove (without_one_leading_dot_slash dir.text) names
+        (package_in_container bytes) }
 {
     // A law that the proof needs; it computes nothing.
     a_made_package_is_read_back();

@@ -104,7 +104,8 @@ fn payload(
     ensures small { IfOk result (λ payload. length payload.items ≤ MOST_BYTES) }
     // An error is the limit of a payload that is exceeded, or out of memory.
     ensures err { IfErr result (λ fault. IsOverflowFault fault
-        (payload_or_counts_at_overflow (package_with (information_value_with_installed_size about.now size)
+        (payload_or_counts_at_overflow (package_with
+        (information_value_with_installed_size about.now size)
         (map packed_folder folders.now) (scripts_view scripts.now)
         (texts_of (values_of_letter TRIGGER values.now)) (replaces_priority about.now)))) }
 {

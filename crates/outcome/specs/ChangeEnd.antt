@@ -66,7 +66,8 @@ is_refusal_after_choice other = false
 -- ---- without a selection
 
 -- a command is refused for its input, whichever candidates might be chosen
-pub record IsRefusedWhicheverCandidatesAreChosen (command : CommandLine) (files : Files) (o : Outcome) : Type 0 where
+pub record IsRefusedWhicheverCandidatesAreChosen (command : CommandLine) (files : Files)
+    (o : Outcome) : Type 0 where
   -- the refusal
   pub refusal : Refusal
   -- the refusal is one of those for the input

@@ -66,4 +66,5 @@ abbrev pub IsDemoOutcome : ℕ → Files → Outcome → Type 0
 IsDemoOutcome n files outcome =
     (last : Outcome)
     × IsDemoOutcomeAfterInstalling n last
-    × (outcome ≡ just_report_unless_refusal files last.refusal (demo_line_of_count_and_add_report n last.out))
+    × (outcome ≡ just_report_unless_refusal files last.refusal
+    (demo_line_of_count_and_add_report n last.out))

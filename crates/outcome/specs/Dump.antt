@@ -86,4 +86,5 @@ dump_outcome files place (Some bytes) = text_outcome files place (dump_of bytes)
 -- the outcome of `adbdump`: the dump text of the first operand's file; the grammar allows exactly one operand
 abbrev pub adbdump : Reads → Files → List Operand → Outcome
 adbdump read files [] = just_report files []
-adbdump read files (o ∷ operands) = dump_outcome files o.place (read 0 (without_one_leading_dot_slash o.text))
+adbdump read files (o ∷ operands) =
+    dump_outcome files o.place (read 0 (without_one_leading_dot_slash o.text))

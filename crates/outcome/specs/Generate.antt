@@ -29,4 +29,5 @@ generate_outcome files place (Some text) = container_outcome files place (genera
 -- the outcome of `adbgen`: the container of the first operand's text; the grammar allows exactly one operand
 abbrev pub adbgen : Reads → Files → List Operand → Outcome
 adbgen read files [] = just_report files []
-adbgen read files (o ∷ operands) = generate_outcome files o.place (read 0 (without_one_leading_dot_slash o.text))
+adbgen read files (o ∷ operands) =
+    generate_outcome files o.place (read 0 (without_one_leading_dot_slash o.text))

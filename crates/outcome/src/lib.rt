@@ -318,8 +318,8 @@ pub fn what_is_made_is_sound()
 
 // Functions and laws of crates on which this one depends, for crates that depend on this one.
 pub use demo_lines::{
-    add_words, contents_of_demo_file, demo_count, demo_file, demo_line_of_count_and_add_report, demo_repositories,
-    mkndx_words, mkpkg_words,
+    add_words, contents_of_demo_file, demo_count, demo_file, demo_line_of_count_and_add_report,
+    demo_repositories, mkndx_words, mkpkg_words,
 };
 pub use gen_core::{
     a_canonical_payload_is_read_back, a_canonical_payload_is_visited_once,

@@ -21,7 +21,8 @@ pub record IsFoundSound (found : Option (List ℕ)) : Type 0 where
 -- if there is an operand with index i, counted from 0, read number i finds under its name a file that passes every test
 abbrev pub IsOperandSound : Reads → List Operand → ℕ → Type 0
 IsOperandSound read operands i =
-    (o : Operand) → slice_get operands i ≡ Some o → IsFoundSound (read i (without_one_leading_dot_slash o.text))
+    (o : Operand) → slice_get operands i ≡ Some o
+    → IsFoundSound (read i (without_one_leading_dot_slash o.text))
 
 -- the files of all operands pass every test
 abbrev pub AreFilesSound : Reads → List Operand → Type 0
@@ -44,6 +45,7 @@ pub record IsRefusalOfFirstUnsoundFile (read : Reads) (operands : List Operand)
   -- the operand has this index among all operands
   pub at : slice_get operands number ≡ Some operand
   -- the refusal is that of the file under this operand
-  pub refused : IsFileRefusal (read number (without_one_leading_dot_slash operand.text)) operand.place refusal
+  pub refused : IsFileRefusal
+      (read number (without_one_leading_dot_slash operand.text)) operand.place refusal
   -- the file of each operand before it passes every test
   pub earlier : (i : ℕ) → i < number → IsOperandSound read operands i

@@ -32,7 +32,8 @@ pub fn verify_prints_ok_for_each_file()
     ensures printed { (read : Reads) (files : Files) (operands : List Operand)
         → (verify read files operands).refusal ≡ None
         → (verify read files operands).out
-        ≡ report_lines (map (λ (o : Operand). without_one_leading_dot_slash o.text ++ codes ": OK") operands) }
+        ≡ report_lines (map (λ (o : Operand). without_one_leading_dot_slash o.text
+        ++ codes ": OK") operands) }
     // With a refusal nothing is printed on standard output.
     ensures refused { (read : Reads) (files : Files) (operands : List Operand)
         → is_some (verify read files operands).refusal ≡ true

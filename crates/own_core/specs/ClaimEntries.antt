@@ -29,7 +29,8 @@ pub record HasFileAt (folders : Plain) (folder file : ℕ) : Type 0 where
   -- the position of the file is at least 1
   pub file_low : 0 < file
   -- the folder has a file at this position
-  pub file_high : file ≤ count_of (entries_in (entry_at_index (entry_at_index folders (folder - 1)) DIR_FILES_INDEX))
+  pub file_high : file ≤ count_of
+      (entries_in (entry_at_index (entry_at_index folders (folder - 1)) DIR_FILES_INDEX))
 
 -- ---- claims
 

@@ -44,10 +44,12 @@ fn listed_in_folders<'a>(folders: &List<'a, DirInfo<'a>>, folder: u32, file: u32
 /// The entry of the file of the claim, which is one of the files of this package.
 fn listed_in<'a>(pkg: &PackageView<'a>, claim: &Claim<'_>) -> ListedFile<'a>
     // The package has a file at the positions of the claim.
-    requires { HasFileAt (entry_at_index (package_value pkg.now) PACKAGE_PATHS_INDEX) claim.now.folder
+    requires { HasFileAt (entry_at_index
+        (package_value pkg.now) PACKAGE_PATHS_INDEX) claim.now.folder
         claim.now.file }
     ensures { DescribesEntry result
-        (listed_file_at (entry_at_index (package_value pkg.now) PACKAGE_PATHS_INDEX) claim.now.folder
+        (listed_file_at (entry_at_index
+        (package_value pkg.now) PACKAGE_PATHS_INDEX) claim.now.folder
         claim.now.file) }
 {
     listed_in_folders(&pkg.paths(), claim.folder, claim.file)

@@ -104,7 +104,8 @@ fn fate_if_user_modified_file(
     // `change` has the claims of the packages before the change (`before`) and after it (`after`).
     requires claims { HasClaimsOfPackages change.now }
     // `old` is the entry that the old database has for the name, if there is one.
-    requires old { DescribesEntryIfAny old.now (old_file_entry (file_change_of change.now) name.now) }
+    requires old { DescribesEntryIfAny old.now (old_file_entry
+        (file_change_of change.now) name.now) }
     // On Ok, the fate is right for the entry that `new` describes.
     ensures { IfOk result (λ fate. (entry : Plain) → DescribesEntry new.now entry
         → fate_seen fate ≡ fate_if_user_modified_file (file_change_of change.now) name.now entry) }

@@ -39,7 +39,8 @@ is_candidate_named name c = bytes_eq c.name name
 -- repository (then it comes from the database), or has the same text and the same id.
 abbrev pub is_of_no_repository_or_same_version_and_id : List ℕ → List ℕ → Candidate → Bool
 is_of_no_repository_or_same_version_and_id version id c =
-    not (is_some c.repository) || (bytes_eq version (candidate_version_text c) && is_same_id_by_nonempty_prefix id c.id)
+    not (is_some c.repository)
+    || (bytes_eq version (candidate_version_text c) && is_same_id_by_nonempty_prefix id c.id)
 
 -- whether a candidate is this package of the database itself, so that the package is kept as it is
 abbrev pub is_candidate_this_package : Plain → Candidate → Bool

@@ -46,7 +46,8 @@ link_text bytes = drop (length symlink_file_prefix) bytes
 -- whether the bytes of a file are those of a link: its mark, and a text of UTF-8 that is not empty
 unfoldable pub is_link_file : List ℕ → Bool
 is_link_file bytes =
-    bytes_eq (take (length symlink_file_prefix) bytes) symlink_file_prefix && not (length bytes == length symlink_file_prefix)
+    bytes_eq (take (length symlink_file_prefix) bytes) symlink_file_prefix
+    && not (length bytes == length symlink_file_prefix)
     && is_utf8 (link_text bytes)
 
 -- the kind of a file with these bytes. A symbolic link has its target: the kind 0xa000 as two

@@ -63,12 +63,14 @@ ReturnsNextBytes AreUnreadBytesThen left bytes (Err Disk) = Unit {0}
 -- of a file without contents there are no bytes; of any other, the bytes have the expected size and digest
 abbrev pub AreAsExpected : Option ExpectedFile → List ℕ → Type 0
 AreAsExpected None bytes = bytes ≡ []
-AreAsExpected (Some e) bytes = (length bytes ≡ e.size) × (fault_if_digest_is_not_of_bytes e.hash bytes ≡ None)
+AreAsExpected (Some e) bytes =
+    (length bytes ≡ e.size) × (fault_if_digest_is_not_of_bytes e.hash bytes ≡ None)
 
 -- the bytes have the expected size, but another digest; `c` is the fault of the digest
 abbrev pub HaveOtherDigest : Option ExpectedFile → List ℕ → Cause → Type 0
 HaveOtherDigest None bytes c = ⊥
-HaveOtherDigest (Some e) bytes c = (length bytes ≡ e.size) × (fault_if_digest_is_not_of_bytes e.hash bytes ≡ Some c)
+HaveOtherDigest (Some e) bytes c =
+    (length bytes ≡ e.size) × (fault_if_digest_is_not_of_bytes e.hash bytes ≡ Some c)
 
 -- exactly these bytes were returned by a reader in this state. If the file is open, its check has taken
 -- them. Otherwise they are the whole file, and have the expected size and digest. After a failed test

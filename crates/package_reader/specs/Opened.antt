@@ -54,11 +54,13 @@ AreUnreadBytes (Some o) pkg left = AreLeftOf o pkg left
 -- taken them. With an error they have the size, and another digest
 abbrev pub AreTestedSoFar : OpenFile → List ℕ → Result (Part × Option OpenFile) PieceFault → Type 0
 AreTestedSoFar o bytes (Ok (part, None)) =
-    (length bytes ≡ o.file.wanted.size) × (fault_if_digest_is_not_of_bytes o.file.wanted.hash.now bytes ≡ None)
+    (length bytes ≡ o.file.wanted.size)
+    × (fault_if_digest_is_not_of_bytes o.file.wanted.hash.now bytes ≡ None)
 AreTestedSoFar o bytes (Ok (part, Some further)) =
     HasTaken further.file bytes × (further.file.wanted ≡ o.file.wanted)
 AreTestedSoFar o bytes (Err (Bad c)) =
-    (length bytes ≡ o.file.wanted.size) × (fault_if_digest_is_not_of_bytes o.file.wanted.hash.now bytes ≡ Some c)
+    (length bytes ≡ o.file.wanted.size)
+    × (fault_if_digest_is_not_of_bytes o.file.wanted.hash.now bytes ≡ Some c)
 AreTestedSoFar o bytes (Err Disk) = Unit {0}
 
 -- the result is no I/O error of the tree

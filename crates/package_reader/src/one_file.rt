@@ -76,7 +76,8 @@ impl<'a> FilePieces<'a> {
         ensures reading { (pkg bytes : List ℕ) (e : ExpectedFile) (start : ℕ) → length pkg ≡ len
             → at ≡ Some start → expected_file_at folder file
             (expected_files_of_package (value_of_contents contents.entry)) ≡ Some e
-            → HasBytesAtOffset pkg start bytes → length bytes ≡ e.size → fault_if_digest_is_not_of_bytes e.hash bytes
+            → HasBytesAtOffset pkg start bytes → length bytes ≡ e.size
+            → fault_if_digest_is_not_of_bytes e.hash bytes
             ≡ None
             → HasUnreadBytes result pkg bytes }
         // If the package lists no contents for the file, no bytes are to be read.
@@ -122,7 +123,8 @@ impl<'a> FilePieces<'a> {
         // (`start`), these are the bytes to be read.
         ensures reading { (pkg bytes : List ℕ) (start : ℕ) → length pkg ≡ len → at ≡ Some start
             → HasBytesAtOffset pkg start bytes → length bytes ≡ wanted.entry.size
-            → fault_if_digest_is_not_of_bytes wanted.entry.hash.now bytes ≡ None → HasUnreadBytes result pkg bytes }
+            → fault_if_digest_is_not_of_bytes wanted.entry.hash.now bytes ≡ None
+            → HasUnreadBytes result pkg bytes }
     {
         let due = Some(wanted);
         match open_at(wanted, at, len) {

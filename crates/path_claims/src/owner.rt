@@ -250,7 +250,8 @@ pub fn owners_of<'a, C: Contest>(
         (map claim_seen claims.entry.items)) }
     // On Ok, `contested` is the first path in byte order that no member owns, with its rivals.
     ensures contested { IfOk result (λ found. option_map contested_seen found.contested
-        ≡ first_contested_path_in_byte_order (C.beats contest.now) (map claim_seen claims.entry.items)) }
+        ≡ first_contested_path_in_byte_order (C.beats contest.now)
+        (map claim_seen claims.entry.items)) }
 {
     let mut claims = claims;
     sort_claims(&mut claims)?;

@@ -46,7 +46,8 @@ pub record IsFirstClash (change : NameChange) (files : Files) (pair : NamePair) 
   -- the pair is a clash
   pub is_one : IsClash change files pair
   -- no clash precedes the pair
-  pub first : (other : NamePair) → IsClash change files other → is_pair_before_by_first_then_second_name other pair ≡ true → ⊥
+  pub first : (other : NamePair) → IsClash change files other
+      → is_pair_before_by_first_then_second_name other pair ≡ true → ⊥
 
 -- the change has no clash over these files
 abbrev pub HasNoClash : NameChange → Files → Type 0

@@ -69,7 +69,8 @@ IsFirstNameBelowOrNone does_release files folder (Some name) = IsFirstBelow does
 abbrev pub earlier_pair : Option NamePair → Option NamePair → Option NamePair
 earlier_pair None other = other
 earlier_pair (Some one) None = Some one
-earlier_pair (Some one) (Some other) = if is_pair_before_by_first_then_second_name other one then Some other else Some one
+earlier_pair (Some one) (Some other) =
+    if is_pair_before_by_first_then_second_name other one then Some other else Some one
 
 -- if the option has a pair, this is a clash of the change over these files
 abbrev pub IsClashIfSome : NameChange → Files → Option NamePair → Type 0

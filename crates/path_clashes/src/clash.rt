@@ -35,7 +35,8 @@ pub struct Clash {
 /// Whether the first clash precedes the second: in the byte order of their first names, or, if
 /// these are equal, in that of their second names.
 fn comes_before(one: &Clash, other: &Clash) -> bool
-    ensures { result ≡ is_pair_before_by_first_then_second_name (clash_seen one.now) (clash_seen other.now) }
+    ensures { result ≡ is_pair_before_by_first_then_second_name (clash_seen one.now)
+        (clash_seen other.now) }
 {
     let by_path = one.path.as_bytes().cmp(other.path.as_bytes());
     let by_other = one.other.as_bytes().cmp(other.other.as_bytes());

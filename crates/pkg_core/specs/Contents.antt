@@ -95,7 +95,8 @@ fault_if_digest_is_not_of_bytes hash bytes =
 -- whether a block of contents with this payload has the positions of the expected file
 abbrev pub has_positions_of : List ℕ → ExpectedFile → Bool
 has_positions_of payload e =
-    ((folder_and_file_positions_from_payload payload).0 == e.folder) && ((folder_and_file_positions_from_payload payload).1 == e.file)
+    ((folder_and_file_positions_from_payload payload).0 == e.folder)
+    && ((folder_and_file_positions_from_payload payload).1 == e.file)
 
 -- the first failed test of a block of contents against an expected file: first the positions are
 -- compared, then the size, then the digest
@@ -152,7 +153,8 @@ files_or_fault_alone (Some c) files = refused c
 -- the contents of the expected file `e`, from a block with this payload: the bytes after the two
 -- positions
 abbrev pub contents_of_expected : List ℕ → ExpectedFile → Contents
-contents_of_expected payload e = record { folder = e.folder; file = e.file; bytes = contents_from_block_payload payload }
+contents_of_expected payload e =
+    record { folder = e.folder; file = e.file; bytes = contents_from_block_payload payload }
 
 -- the contents of the first expected file, from a block with this payload. `further` gives the files that
 -- are read after it, from the files that are then still expected
@@ -166,7 +168,8 @@ with_contents_of_next payload further (e ∷ es) = given (contents_of_expected p
 abbrev pub files_from_block_at_offset_if_contents :
     BlockKind → List ℕ → ℕ → (List ExpectedFile → FilesRead) → List ExpectedFile → FilesRead
 files_from_block_at_offset_if_contents Kinds.Contents payload at further es =
-    files_or_fault_alone (contents_block_fault_at_offset payload at es) (with_contents_of_next payload further es)
+    files_or_fault_alone (contents_block_fault_at_offset payload at es)
+    (with_contents_of_next payload further es)
 files_from_block_at_offset_if_contents kind payload at further es = further es
 
 -- the files that are read from the blocks, each tested against the next expected file

@@ -14,4 +14,5 @@ abbrev pub HasHashedMessage : Hasher → List ℕ → List ℕ → Type 0
 HasHashedMessage (Hashers.Sha1 hasher) hash message = (length hash ≡ 20) × Holds hasher message
 HasHashedMessage (Hashers.Sha256 hasher) hash message = (length hash ≡ 32) × Holds256 hasher message
 HasHashedMessage (Hashers.Sha512 hasher) hash message = (length hash ≡ 64) × Holds512 hasher message
-HasHashedMessage Hashers.Other hash message = (bytes : List ℕ) → fault_if_digest_is_not_of_bytes hash bytes ≡ None
+HasHashedMessage Hashers.Other hash message =
+    (bytes : List ℕ) → fault_if_digest_is_not_of_bytes hash bytes ≡ None

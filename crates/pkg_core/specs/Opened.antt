@@ -98,8 +98,10 @@ abbrev pub ReturnsNextContents : List ℕ → ℕ → List ExpectedFile → Resu
     → List ExpectedFile
     → Type 0
 ReturnsNextContents payload at before (Ok f) after =
-    (contents_block_fault_at_offset payload at before ≡ None) × ReturnsContentsOfFirst payload f before after
-ReturnsNextContents payload at before (Err c) after = contents_block_fault_at_offset payload at before ≡ Some c
+    (contents_block_fault_at_offset payload at before ≡ None)
+    × ReturnsContentsOfFirst payload f before after
+ReturnsNextContents payload at before (Err c) after =
+    contents_block_fault_at_offset payload at before ≡ Some c
 
 -- ---- a package
 

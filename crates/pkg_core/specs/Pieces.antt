@@ -45,7 +45,8 @@ piece_count_before_last len = (len - 1) / PIECE_LEN
 -- the pieces of all bytes of a file, and then further ones
 abbrev pub pieces_of_bytes : ExpectedFile → List ℕ → PiecesRead → PiecesRead
 pieces_of_bytes e bytes further =
-    pieces_of_one_file (piece_count_before_last (length bytes)) e (fault_if_digest_is_not_of_bytes e.hash bytes) bytes further
+    pieces_of_one_file (piece_count_before_last (length bytes)) e
+    (fault_if_digest_is_not_of_bytes e.hash bytes) bytes further
 
 -- ---- one block
 
@@ -68,7 +69,8 @@ pieces_or_fault_alone (Some c) pieces = refusal c
 -- pieces. If no file is expected, the contents are out of order, and the reported expected positions are
 -- (0, 0)
 abbrev pub pieces_of_payload : List ℕ → (List ExpectedFile → PiecesRead) → List ExpectedFile → PiecesRead
-pieces_of_payload payload further [] = refusal (DataOrder (0, 0) (folder_and_file_positions_from_payload payload))
+pieces_of_payload payload further [] =
+    refusal (DataOrder (0, 0) (folder_and_file_positions_from_payload payload))
 pieces_of_payload payload further (e ∷ es) =
     pieces_or_fault_alone (position_or_size_fault payload e)
     (pieces_of_bytes e (contents_from_block_payload payload) (further es))

@@ -33,7 +33,8 @@ fault_of_contents_blocks_by_root_table which value r = remaining_blocks_fault_un
 
 -- the first failed test of a file that is to be a container with this table at its root
 unfoldable pub container_fault_of_table : Which → List ℕ → Option Cause
-container_fault_of_table which file = file_fault_with_rest_test (fault_of_contents_blocks_by_root_table which) which file
+container_fault_of_table which file =
+    file_fault_with_rest_test (fault_of_contents_blocks_by_root_table which) which file
 
 -- the first failed test of a file with this schema, given the table of the schema. None is the table of
 -- any other schema than the four

@@ -195,7 +195,8 @@ pub fn sha512_fault(hash: &[u8], found: [u8; 64]) -> Option<Cause>
 /// others: each with the positions, the size and the digest of its file.
 pub fn good_blocks_give_the_contents_of_each_file()
     ensures { (expected : List ExpectedFile) (r : Reading) → contents_fault expected r ≡ None
-        → MatchEachExpectedSizeAndKnownDigest expected (contents_in (files_read_from_blocks expected r)) }
+        → MatchEachExpectedSizeAndKnownDigest expected (contents_in
+        (files_read_from_blocks expected r)) }
 {}
 
 /// The reported fault of the blocks is the first one. Each block of contents is tested against the

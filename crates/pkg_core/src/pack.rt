@@ -104,7 +104,8 @@ impl<'a> Package<'a> {
         // The payload is that of the package's first block.
         ensures payload { IfOk result (λ pkg. opened_payload pkg ≡ payload_in bytes.entry.now) }
         // The id of the package is the SHA-256 digest of its payload.
-        ensures id { IfOk result (λ pkg. sha256 (opened_payload pkg) ≡ payload_sha256_of_package_file bytes.entry.now) }
+        ensures id { IfOk result (λ pkg. sha256 (opened_payload pkg)
+            ≡ payload_sha256_of_package_file bytes.entry.now) }
         // The files that `next_file` will read are those of the package.
         ensures files { IfOk result (λ pkg. opened_files pkg
             ≡ files_read_from_package bytes.entry.now) }

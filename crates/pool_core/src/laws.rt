@@ -31,7 +31,8 @@ pub fn rank_is_total()
 /// than those after it.
 pub fn options_are_the_best_first()
     // Each option may be selected, and meets the need.
-    ensures those { (pool : SelectionProblem) (need : Need) (c : ℕ) → IsIn c (options_for pool need) →
+    ensures those { (pool : SelectionProblem) (need : Need) (c : ℕ)
+        → IsIn c (options_for pool need) →
         (is_eligible_at pool c ≡ true) × (meets_at pool c need ≡ true) }
     // Each candidate that may be selected and meets the need is an option.
     ensures each { (pool : SelectionProblem) (need : Need) (c : ℕ) → is_eligible_at pool c ≡ true →
@@ -84,21 +85,26 @@ pub fn a_candidate_is_read_by_field_names()
 /// its id, of which an index may store only a prefix. Without an id it is recognized in none.
 pub fn an_installed_package_is_known_by_text_and_id()
     // The names of the two are the same.
-    ensures name { (installed c : Candidate) → is_repository_package_same_as_installed installed c ≡ true →
+    ensures name { (installed c : Candidate)
+        → is_repository_package_same_as_installed installed c ≡ true →
         c.name ≡ installed.name }
     // The texts of the two versions are the same, or neither is a version.
-    ensures text { (installed c : Candidate) → is_repository_package_same_as_installed installed c ≡ true →
+    ensures text { (installed c : Candidate)
+        → is_repository_package_same_as_installed installed c ≡ true →
         c.version ≡ installed.version }
     // One id is a prefix of the other, and neither is empty.
-    ensures id { (installed c : Candidate) → is_repository_package_same_as_installed installed c ≡ true →
+    ensures id { (installed c : Candidate) → is_repository_package_same_as_installed installed c
+        ≡ true →
         is_same_id_by_nonempty_prefix c.id installed.id ≡ true }
     // An installed package without an id is the same as no candidate.
     ensures empty { (installed c : Candidate) → installed.id ≡ [] →
         is_repository_package_same_as_installed installed c ≡ false }
     // Which of two ids is the prefix of the other makes no difference.
-    ensures either { (a b : List ℕ) → is_same_id_by_nonempty_prefix a b ≡ is_same_id_by_nonempty_prefix b a }
+    ensures either { (a b : List ℕ) → is_same_id_by_nonempty_prefix a b
+        ≡ is_same_id_by_nonempty_prefix b a }
     // An id that is not empty is the same as each longer one that begins with it.
-    ensures front { (id rest : List ℕ) → 0 < length id → is_same_id_by_nonempty_prefix id (id ++ rest) ≡ true }
+    ensures front { (id rest : List ℕ) → 0 < length id → is_same_id_by_nonempty_prefix id (id
+        ++ rest) ≡ true }
 {}
 
 /// An installed package becomes a candidate of its own only if no index has it: then this candidate

@@ -116,7 +116,8 @@ impl<'a> Pool<'a> {
         // A refusal for too many candidates is right for the number of candidates that the list
         // would have.
         ensures fault { IfErr result (λ fault. IsPoolFault fault
-            (length self.old + count_of (entries_in (entry_at_index (index_value index.entry) 1)))) }
+            (length self.old + count_of (entries_in (entry_at_index
+            (index_value index.entry) 1)))) }
         ensures err { OnErr result (self.new ≡ []) }
     {
         let mut list = self.take_list();
@@ -162,7 +163,8 @@ impl<'a> Pool<'a> {
     /// Joins the candidates to a world and to the names that a command upgrades.
     pub fn seal(self, world: &'a World, upgrade: Upgrade<'a>) -> Result<Sealed<'a>, AllocError>
         ensures { IfOk result (λ sealed. sealed
-            ≡ selection_problem_from_parts self.entry world.entry.now (names_upgraded_by upgrade.entry)) }
+            ≡ selection_problem_from_parts self.entry world.entry.now
+            (names_upgraded_by upgrade.entry)) }
     {
         let mut pool = self;
         let alloc = pool.alloc;

@@ -359,7 +359,11 @@ impl<'a> Sealed<'a> {
             return Ok(false);
         }
         if !need.has_long_version() {
-            return Ok(packages.get(place).meets_dependency_or_has_package_name(need));
+            return Ok(
+                packages
+                    .get(place)
+                    .meets_dependency_or_has_package_name(need),
+            );
         }
         packages.meets_dependency_or_has_package_name(place, need, known)
     }

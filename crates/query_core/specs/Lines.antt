@@ -15,8 +15,10 @@ use Rattle.query_core.specs.declared.candidates.LineForm.TheVariants.{Full, Shor
 abbrev pub description_part : Candidate → List ℕ
 description_part c =
     text_between_unless_empty (codes " ") (text_in (entry_at_index c.info INFO_ARCH_INDEX)) []
-    ++ text_between_unless_empty (codes " {") (text_in (entry_at_index c.info INFO_ORIGIN_INDEX)) (codes "}")
-    ++ text_between_unless_empty (codes " (") (text_in (entry_at_index c.info INFO_LICENSE_INDEX)) (codes ")")
+    ++ text_between_unless_empty (codes " {") (text_in (entry_at_index c.info INFO_ORIGIN_INDEX))
+    (codes "}")
+    ++ text_between_unless_empty (codes " (") (text_in (entry_at_index c.info INFO_LICENSE_INDEX))
+    (codes ")")
     ++ installed_mark c.installed
 
 -- the line of a candidate: that of `list` (`Full`), or that of `search` (`Short`)

@@ -25,7 +25,8 @@ is_list_candidate patterns installed_only c =
 abbrev pub list_line_of_candidate : Candidate → List ℕ
 list_line_of_candidate c =
     list_line c.name (printed_version c.version) (text_in (entry_at_index c.info INFO_ARCH_INDEX))
-    (text_in (entry_at_index c.info INFO_ORIGIN_INDEX)) (text_in (entry_at_index c.info INFO_LICENSE_INDEX)) c.installed
+    (text_in (entry_at_index c.info INFO_ORIGIN_INDEX))
+    (text_in (entry_at_index c.info INFO_LICENSE_INDEX)) c.installed
 
 -- what `list` prints: the lines of those candidates that the patterns and `installed_only` admit, in the order of
 -- queries

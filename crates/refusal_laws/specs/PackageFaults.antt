@@ -58,8 +58,10 @@ HasOtherVersion c pkg wanted found =
 abbrev pub IsFirstOfIdNameVersionThatDiffers : Candidate → AddedPackage → ℕ → List ℕ → List ℕ → Type 0
 IsFirstOfIdNameVersionThatDiffers c pkg field wanted found =
     ((field ≡ HASHES_FIELD) × HasOtherId c pkg wanted found)
-    ⊎ (((field ≡ NAME_FIELD) × (is_same_id_by_nonempty_prefix c.id pkg.id ≡ true) × HasOtherName c pkg wanted found)
-    ⊎ ((field ≡ VERSION_FIELD) × (is_same_id_by_nonempty_prefix c.id pkg.id ≡ true) × (c.name ≡ package_name pkg.value)
+    ⊎ (((field ≡ NAME_FIELD) × (is_same_id_by_nonempty_prefix c.id pkg.id ≡ true)
+    × HasOtherName c pkg wanted found)
+    ⊎ ((field ≡ VERSION_FIELD) × (is_same_id_by_nonempty_prefix c.id pkg.id ≡ true)
+    × (c.name ≡ package_name pkg.value)
     × HasOtherVersion c pkg wanted found))
 
 -- the file of an added package passes all tests, and the package in it is not the one that the index lists: `field` is

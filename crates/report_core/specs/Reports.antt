@@ -83,7 +83,8 @@ folder_path_or_slash_for_root (b ∷ bytes) = b ∷ bytes
 
 -- the text for a trigger of the package `name` that is due for a folder
 abbrev pub trigger_due_for_folder_text : List ℕ → List ℕ → List ℕ
-trigger_due_for_folder_text name folder = name ++ codes ": trigger due for " ++ folder_path_or_slash_for_root folder
+trigger_due_for_folder_text name folder =
+    name ++ codes ": trigger due for " ++ folder_path_or_slash_for_root folder
 
 -- the text of the last line of a change: the sum of the sizes of all installed packages in bytes, and their number
 abbrev pub bytes_and_package_count_text : ℕ → ℕ → List ℕ

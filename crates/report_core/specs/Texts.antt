@@ -62,7 +62,8 @@ refusal_text_of_word_place_and_reason place text = codes "word " ++ decimal plac
 
 -- the text of a refusal of a repository: the number of the repository, counted from 1, and the reason (`text`)
 abbrev pub refusal_text_of_repository_and_reason : ℕ → List ℕ → List ℕ
-refusal_text_of_repository_and_reason number text = codes "repository " ++ decimal number ++ codes ": " ++ text
+refusal_text_of_repository_and_reason number text =
+    codes "repository " ++ decimal number ++ codes ": " ++ text
 
 -- the text of a refusal of a package: the package's name and version, and the reason (`text`)
 abbrev pub refusal_text_of_package_and_reason : List ℕ → List ℕ → List ℕ → List ℕ
@@ -90,22 +91,27 @@ refusal_text (Usage place) = codes "usage error at word " ++ decimal place
 refusal_text (IntentBad cause) = codes "lib/apk/intent: " ++ cause_text cause
 refusal_text (FileMissing place) = refusal_text_of_word_place_and_reason place (codes "no such file")
 refusal_text (FileBad place cause) = refusal_text_of_word_place_and_reason place (cause_text cause)
-refusal_text (TextBad place line) = refusal_text_of_word_place_and_reason place (codes "bad line " ++ decimal line)
+refusal_text (TextBad place line) =
+    refusal_text_of_word_place_and_reason place (codes "bad line " ++ decimal line)
 refusal_text (VersionBad place) = refusal_text_of_word_place_and_reason place (codes "invalid version")
-refusal_text (InfoBad place) = refusal_text_of_word_place_and_reason place (codes "invalid package information")
+refusal_text (InfoBad place) =
+    refusal_text_of_word_place_and_reason place (codes "invalid package information")
 refusal_text NoDatabase = codes "no package database"
 refusal_text (DatabaseBad cause) = codes "package database: " ++ cause_text cause
 refusal_text (WorldBad line) = codes "etc/apk/world: line " ++ decimal line
 refusal_text (RepositoriesBad line) = codes "etc/apk/repositories: line " ++ decimal line
 refusal_text Untrusted = codes "repositories need --allow-untrusted"
-refusal_text (IndexMissing repository) = refusal_text_of_repository_and_reason repository (codes "no such index")
-refusal_text (IndexBad repository cause) = refusal_text_of_repository_and_reason repository (cause_text cause)
+refusal_text (IndexMissing repository) =
+    refusal_text_of_repository_and_reason repository (codes "no such index")
+refusal_text (IndexBad repository cause) =
+    refusal_text_of_repository_and_reason repository (cause_text cause)
 refusal_text (TooMany count) = decimal count ++ codes " candidates are too many"
 refusal_text (NotInstalled place) = refusal_text_of_word_place_and_reason place (codes "not installed")
 refusal_text Unsatisfied = codes "unable to select packages"
 refusal_text (PackageMissing name version) =
     refusal_text_of_package_and_reason name version (codes "no such package file")
-refusal_text (PackageBad name version cause) = refusal_text_of_package_and_reason name version (cause_text cause)
+refusal_text (PackageBad name version cause) =
+    refusal_text_of_package_and_reason name version (cause_text cause)
 refusal_text (PackageDiffers name version field wanted found) =
     refusal_text_of_package_and_reason name version
     (codes "differs from its index: " ++ package_field_value_text_by_number field wanted ++ codes ", "

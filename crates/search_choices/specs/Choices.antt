@@ -26,7 +26,8 @@ install_ifs_of chosen = chosen.install_ifs.by_name.items
 
 -- further choices `cs` were made after the choices `u`. For each of them, in order, the list has a checkpoint: the
 -- length of the queue, and the two cursors, before that choice
-abbrev pub AreCheckpointsOfLaterChoices : SelectionProblem → List ℕ → List ℕ → List ℕ → List Checkpoint → Type 0
+abbrev pub AreCheckpointsOfLaterChoices : SelectionProblem → List ℕ → List ℕ → List ℕ → List Checkpoint
+    → Type 0
 AreCheckpointsOfLaterChoices pool install_ifs u [] [] = Unit {0}
 AreCheckpointsOfLaterChoices pool install_ifs u [] (b ∷ bs) = ⊥
 AreCheckpointsOfLaterChoices pool install_ifs u (c ∷ cs) [] = ⊥

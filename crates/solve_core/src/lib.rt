@@ -22,5 +22,7 @@ pub use laws::{
     walks_satisfy,
 };
 // Names of `search_choices` and the crates below it that users of this crate need.
-pub use search_choices::{CandId, Candidate, Details, Sealed, SortedWords, Trace, is_same_id_by_nonempty_prefix};
+pub use search_choices::{
+    CandId, Candidate, Details, Sealed, SortedWords, Trace, is_same_id_by_nonempty_prefix,
+};
 pub use selection::solve;

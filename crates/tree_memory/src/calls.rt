@@ -284,6 +284,7 @@ pub fn an_endless_sink_runs_out_of_memory()
 /// A law: after k calls, the next call is to fail exactly if the plan makes call k + 1 fail: it is
 /// listed, or it is after the stop.
 pub fn a_call_fails_where_it_is_planned()
-    ensures { (plan : FailurePlanFromNextCall) (k : ℕ) → is_next_call_to_fail (plan_after_calls k plan)
+    ensures { (plan : FailurePlanFromNextCall) (k : ℕ)
+        → is_next_call_to_fail (plan_after_calls k plan)
         ≡ is_call_to_fail plan (k + 1) }
 {}

@@ -440,7 +440,8 @@ impl Tree for MemoryTree {
         ensures disk { IsErrOf result DiskFault
             → CountsNewFaultWithCause (counts_of self.old) (counts_of self.new) }
         // Ok is returned only if no fault was counted.
-        ensures kept { OnOk result (CountsNoNewFaultOrLackOfMemory (counts_of self.old) (counts_of self.new)) }
+        ensures kept { OnOk result (CountsNoNewFaultOrLackOfMemory (counts_of self.old)
+            (counts_of self.new)) }
         // If out of memory for the answer, no fault of the tree was counted.
         ensures memory { IsErrOf result Memory
             → CountsNoNewFaultOrLackOfMemory (counts_of self.old) (counts_of self.new) }

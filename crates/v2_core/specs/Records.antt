@@ -78,7 +78,8 @@ has_line_of_field f info = list_any (is_line_of_field f) info
 
 -- the lines on the package with one more line of the field `f`; None if it is a second line of a field
 -- that is no list
-abbrev pub with_info_values : InfoField → List TextNumberOrDependency → List InfoLine → Option (List InfoLine)
+abbrev pub with_info_values : InfoField → List TextNumberOrDependency → List InfoLine
+    → Option (List InfoLine)
 with_info_values f values info =
     if not (is_list_info_field f) && has_line_of_field f info then None
     else Some (info ++ info_line_from_parts f values ∷ [])

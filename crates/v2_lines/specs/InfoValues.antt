@@ -46,12 +46,14 @@ values_under_grammar Grammars.Sha1Text value = option_map list_of_one_text_value
 values_under_grammar Grammars.PackageName value = text_value_if (is_package_name value) value
 values_under_grammar Grammars.PackageVersion value = text_value_if (is_version value) value
 values_under_grammar Grammars.AnyText value = text_value_if true value
-values_under_grammar Grammars.Number value = option_map list_of_one_number_value (decimal_number_without_leading_zeros value)
+values_under_grammar Grammars.Number value =
+    option_map list_of_one_number_value (decimal_number_without_leading_zeros value)
 values_under_grammar Grammars.Commit value = Some (commit_values (hex_bytes value))
 values_under_grammar Grammars.Dependencies value =
     dependency_values_of_parts (nonempty_parts_between_spaces value)
 
 -- the dependencies `before`, followed by further ones; None if one of the further ones is no
 -- dependency
-abbrev pub with_needs : List TextNumberOrDependency → Option (List TextNumberOrDependency) → Option (List TextNumberOrDependency)
+abbrev pub with_needs : List TextNumberOrDependency → Option (List TextNumberOrDependency)
+    → Option (List TextNumberOrDependency)
 with_needs before needs = option_map (λ needs. before ++ needs) needs

@@ -152,7 +152,8 @@ fn read_needs<'a>(alloc: Global, text: &'a [u8]) -> Result<Option<Value<'a>>, Al
 fn add_need<'a>(needs: &mut Vec<Dep<'a>>, part: &'a [u8]) -> Result<bool, AllocError>
     // On Ok true, the definition gives the longer list; on Ok false, it gives None.
     ensures { IfOk result (λ good. (if good then Some (needs_view needs.new) else None)
-        ≡ with_needs (needs_view needs.old) (dependency_values_of_parts (nonempty_part part.entry.now))) }
+        ≡ with_needs (needs_view needs.old) (dependency_values_of_parts
+        (nonempty_part part.entry.now))) }
 {
     if part.is_empty() {
         return Ok(true);

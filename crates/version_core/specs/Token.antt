@@ -161,10 +161,12 @@ next_lexeme last [] = lexeme (token_without_value End) 0
 next_lexeme last (b ∷ rest) =
     if (b == 46) && is_component last then later_component_lexeme_by_digits (leading_digits rest) else
     if is_ascii_lowercase b && is_component last then lexeme (number_token Letter b) 1 else
-    if (b == 95) && is_allowed_before_suffix_or_hash last then suffix_lexeme_by_word (leading_letters rest) else
+    if (b == 95) && is_allowed_before_suffix_or_hash last then suffix_lexeme_by_word
+    (leading_letters rest) else
     if is_ascii_digit b && is_suffix last
     then number_lexeme_by_digits SuffixNumber 0 (leading_digits (b ∷ rest)) else
-    if (b == 126) && is_allowed_before_suffix_or_hash last then hash_lexeme_by_hex_digits (leading_hex_digits rest) else
+    if (b == 126) && is_allowed_before_suffix_or_hash last then hash_lexeme_by_hex_digits
+    (leading_hex_digits rest) else
     if (b == 45) && is_allowed_before_revision last then revision_lexeme_by_text_after_hyphen rest else
     stray_lexeme
 

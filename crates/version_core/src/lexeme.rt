@@ -212,7 +212,8 @@ fn hash(text: &[u8]) -> Lexeme<'_>
     // The text is not empty.
     requires { 0 < length text.now }
     // The lexeme is that of the digits after the mark.
-    ensures { lexeme_view text.now result ≡ hash_lexeme_by_hex_digits (leading_hex_digits (drop 1 text.now)) }
+    ensures { lexeme_view text.now result
+        ≡ hash_lexeme_by_hex_digits (leading_hex_digits (drop 1 text.now)) }
 {
     let digits = behind(text, 1);
     // A hash without a digit is no token of the grammar.

@@ -4,8 +4,8 @@
 
 use base_core::Words;
 use dep_core::{
-    Dep, Repos, ReposFault, World, WorldFault, dep_of, dep_text, is_dependency_name_by_bytes_and_length, is_package_name,
-    read_dep,
+    Dep, Repos, ReposFault, World, WorldFault, dep_of, dep_text,
+    is_dependency_name_by_bytes_and_length, is_package_name, read_dep,
 };
 use row_lines::{add_number, add_word, add_yes_or_no, number_of, word_at};
 use std::alloc::{AllocError, Global};

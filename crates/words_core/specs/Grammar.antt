@@ -65,7 +65,8 @@ flags_with_meaning_if_one_command_kind flags (Value rule) = None
 
 -- flags with an option added; None in the cases of *flags_with_meaning_if_one_command_kind*
 abbrev pub flags_with_option_if_one_command_kind : Flags → OptionSpec → Option Flags
-flags_with_option_if_one_command_kind flags option = flags_with_meaning_if_one_command_kind flags option.meaning
+flags_with_option_if_one_command_kind flags option =
+    flags_with_meaning_if_one_command_kind flags option.meaning
 
 -- flags with the option that a word spells added; None if it spells no option, or in the cases of
 -- *flags_with_meaning_if_one_command_kind*
@@ -83,7 +84,8 @@ or_err_at place next (Some x) = next x
 -- the site of an applet: the applet, whether the options have ended before it, and how many words are
 -- read, including its own
 abbrev pub applet_site_from_ended_read_applet : Bool → ℕ → Applet → AppletSite
-applet_site_from_ended_read_applet ended place applet = record { applet = applet; ended = ended; read = place }
+applet_site_from_ended_read_applet ended place applet =
+    record { applet = applet; ended = ended; read = place }
 
 -- the site of the applet that the word at a place names, or this place if it names none
 unfoldable pub applet_site_of_word : Bool → ℕ → List ℕ → Result AppletSite ℕ
@@ -192,12 +194,14 @@ state_with_meaning state place None (Kind flag) =
 -- not be given so
 abbrev pub with_option_word : List OptionSpec → OptionState → ℕ → List ℕ → Option OptionState
 with_option_word options state place word =
-    option_and_then (λ (o : OptionSpec). state_with_meaning state place (value_in_long_or_short_option_word word) o.meaning)
+    option_and_then (λ (o : OptionSpec). state_with_meaning state place
+    (value_in_long_or_short_option_word word) o.meaning)
     (option_of_word options (option_word_without_value word))
 
 -- whether a word is read as a value, since an option awaits one, or as an option
 abbrev pub is_option_or_value : OptionState → List ℕ → Bool
-is_option_or_value state word = is_some state.awaiting || (is_option_or_double_dash word && not (is_double_dash word))
+is_option_or_value state word =
+    is_some state.awaiting || (is_option_or_double_dash word && not (is_double_dash word))
 
 -- a state with the word at a place, by the option whose value is awaited, if one is: the word is its
 -- value, and otherwise an option; None if it cannot be read
@@ -301,7 +305,8 @@ unless_refused_at (Some place) otherwise = Err place
 unfoldable pub command_of_reading_with_end_place : ℕ → Applet → Reading → Result CommandLine ℕ
 command_of_reading_with_end_place behind applet reading =
     let rule = operand_rule_if_needed_kind_flag_given applet reading.state.flags in
-    unless_refused_at (option_or (place_of_first_operand_refused_by_rule rule reading.operands) reading.unread)
+    unless_refused_at (option_or
+    (place_of_first_operand_refused_by_rule rule reading.operands) reading.unread)
     (if lacks_operand_kind_flag_or_required_option applet rule reading then Err behind else Ok
     (command_from_end_place_and_reading behind applet reading))
 
@@ -362,7 +367,8 @@ next_word OptionOrCommand word =
 next_word CommandAlone word = next_word_of_applet_or_nothing OperandAlone (applet_of word)
 next_word (OptionOrOperand applet) word =
     if is_double_dash word then OperandAlone applet else
-    if is_option_or_double_dash word then next_word_after_option applet (awaited_rule (options_of applet) word) else
+    if is_option_or_double_dash word then next_word_after_option applet
+    (awaited_rule (options_of applet) word) else
     OptionOrOperand applet
 next_word (NextValue applet rule) word = OptionOrOperand applet
 next_word (OperandAlone applet) word = OperandAlone applet
@@ -405,7 +411,8 @@ operands_of_help_or_version words applet = []
 -- the command with the applet `Help` or `ProgramVersion` that words ask for: without flags and values
 abbrev pub command_with_help_or_version_applet : List (List ℕ) → Applet → CommandLine
 command_with_help_or_version_applet words applet =
-    command_from_parts_and_end_place applet no_flags (operands_of_help_or_version words applet) [] (length words + 1)
+    command_from_parts_and_end_place applet no_flags (operands_of_help_or_version words applet) []
+    (length words + 1)
 
 -- the command for the applet that the word at a place asks for; an error at this place if it asks for none
 abbrev pub help_or_version_or_err : List (List ℕ) → ℕ → Option Applet → Result CommandLine ℕ
@@ -414,7 +421,8 @@ help_or_version_or_err words place (Some applet) = Ok (command_with_help_or_vers
 
 -- the command that was spelled; otherwise the one that the first wrong word asks for, as `--help` does; otherwise an
 -- error at the place of this word
-abbrev pub command_else_help_or_version_at_error : List (List ℕ) → Result CommandLine ℕ → Result CommandLine ℕ
+abbrev pub command_else_help_or_version_at_error : List (List ℕ) → Result CommandLine ℕ
+    → Result CommandLine ℕ
 command_else_help_or_version_at_error words (Ok command) = Ok command
 command_else_help_or_version_at_error words (Err place) =
     help_or_version_or_err words place (help_or_version_option_at words place)

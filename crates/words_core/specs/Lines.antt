@@ -25,7 +25,8 @@ operand_words options rule place [] = []
 operand_words options (Some rule) place (word ∷ words) = operand_words options None (place + 1) words
 operand_words options None place (word ∷ words) =
     if is_double_dash word then words_as_operands_from_place (place + 1) words else
-    if is_option_or_double_dash word then operand_words options (awaited_rule options word) (place + 1) words else
+    if is_option_or_double_dash word then operand_words options (awaited_rule options word)
+    (place + 1) words else
     operand_at place word ∷ operand_words options None (place + 1) words
 
 -- the words that are options, up to `--`. With a rule the first word is the value of the option with this rule
@@ -34,7 +35,8 @@ words_that_are_options options rule [] = []
 words_that_are_options options (Some rule) (word ∷ words) = words_that_are_options options None words
 words_that_are_options options None (word ∷ words) =
     if is_double_dash word then [] else
-    if is_option_or_double_dash word then word ∷ words_that_are_options options (awaited_rule options word) words else
+    if is_option_or_double_dash word then word
+    ∷ words_that_are_options options (awaited_rule options word) words else
     words_that_are_options options None words
 
 -- the value that an option's word at a place holds, as a list: `rule` is that of the option's values, and the last
@@ -57,7 +59,8 @@ values_of options (Some rule) place (word ∷ words) =
 values_of options None place (word ∷ words) =
     if is_double_dash word then Some [] else
     if is_option_or_double_dash word then
-    option_map (λ values. attached_values place (value_rule_of_word options word) (value_in_long_or_short_option_word word)
+    option_map (λ values. attached_values place (value_rule_of_word options word)
+    (value_in_long_or_short_option_word word)
     ++ values)
     (values_of options (awaited_rule options word) (place + 1) words) else
     values_of options None (place + 1) words

@@ -123,7 +123,8 @@ option_words_that_may_precede_applet =
 
 -- whether a word is an option that may precede the applet
 abbrev pub is_option_word_that_may_precede_applet : List ℕ → Bool
-is_option_word_that_may_precede_applet word = list_any (λ early. bytes_eq early word) option_words_that_may_precede_applet
+is_option_word_that_may_precede_applet word =
+    list_any (λ early. bytes_eq early word) option_words_that_may_precede_applet
 
 -- the word of an applet; no word names `Help` and `ProgramVersion`, which options ask for
 abbrev pub applet_word : Applet → List ℕ

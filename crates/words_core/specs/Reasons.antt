@@ -47,7 +47,8 @@ HasReading words P =
 -- a word spells an option of the applet, and P holds of the option's meaning
 abbrev pub HasOptionMeaning : Applet → List ℕ → (Meaning → Type 0) → Type 0
 HasOptionMeaning applet word P =
-    (option : OptionSpec) × (option_of_word (options_of applet) (option_word_without_value word) ≡ Some option)
+    (option : OptionSpec) × (option_of_word (options_of applet) (option_word_without_value word)
+    ≡ Some option)
     × P option.meaning
 
 -- a rule is that of the option whose value is awaited, or of the option with values that a word spells
@@ -80,7 +81,8 @@ IsUsageReason CommandMissing words place =
 IsUsageReason CommandUnknown words place = HasWordAt words place (λ word. applet_of word ≡ None)
 -- the word at the place is an option or `--`, and none of the options that may precede the applet
 IsUsageReason OptionEarly words place =
-    HasWordAt words place (λ word. IsTrue (is_option_or_double_dash word) × IsTrue (not (is_option_word_that_may_precede_applet word)))
+    HasWordAt words place (λ word. IsTrue (is_option_or_double_dash word)
+    × IsTrue (not (is_option_word_that_may_precede_applet word)))
 -- the word at the place spells no option of the applet that was found
 IsUsageReason OptionUnknown words place =
     HasWordAt words place (λ word. HasApplet words (λ applet.

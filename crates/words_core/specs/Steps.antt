@@ -37,7 +37,8 @@ has_no_values applet = list_all is_option_without_value (options_of applet)
 abbrev pub flags_with_spelled_option : List OptionSpec → Flags → List ℕ → Option Flags
 flags_with_spelled_option options flags word =
     if is_some (value_in_long_or_short_option_word word) then None else
-    option_and_then (flags_with_option_if_one_command_kind flags) (option_of_word options (option_word_without_value word))
+    option_and_then (flags_with_option_if_one_command_kind flags)
+    (option_of_word options (option_word_without_value word))
 
 -- whether the flags decide which operands an applet takes
 abbrev pub operands_depend_on_flags : Applet → Bool

@@ -91,7 +91,8 @@ line_reason applet rule next (Some word) = word_reason rule word next
 -- is one
 abbrev pub command_reason : NextWord → Option (List ℕ) → UsageReason
 command_reason next None = CommandMissing
-command_reason OptionOrCommand (Some word) = if is_option_or_double_dash word then OptionEarly else CommandUnknown
+command_reason OptionOrCommand (Some word) =
+    if is_option_or_double_dash word then OptionEarly else CommandUnknown
 command_reason next (Some word) = CommandUnknown
 
 -- why a place up to the command is wrong: no command was found; or one was, and the word there is none of its options
@@ -102,7 +103,8 @@ early_reason (Ok site) next word = OptionUnknown
 -- which operands the command that was found takes, under all flags that are read
 abbrev pub operand_rule_of_words : List (List ℕ) → Start → Option OperandRule
 operand_rule_of_words words start =
-    operand_rule_if_needed_kind_flag_given start.applet (reading_of_rest_of_command_words start words).state.flags
+    operand_rule_if_needed_kind_flag_given start.applet
+    (reading_of_rest_of_command_words start words).state.flags
 
 -- why a place offends, by the start (the applet and the flags before it) that was found in the words, if one was
 abbrev pub usage_reason_after_start : List (List ℕ) → ℕ → Result Start ℕ → UsageReason

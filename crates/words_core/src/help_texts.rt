@@ -160,7 +160,8 @@ fn push_usage(text: &mut Vec<u8>, lines: &[&[u8]]) -> Result<(), AllocError>
 
 // Adds one way to call a command as a line, after the text `front`.
 fn push_usage_line(text: &mut Vec<u8>, front: &[u8], line: &[u8]) -> Result<(), AllocError>
-    ensures { OnOk result (text.new.items ≡ text.old.items ++ synopsis_line_with_prefix front.now line.now) }
+    ensures { OnOk result (text.new.items ≡ text.old.items
+        ++ synopsis_line_with_prefix front.now line.now) }
 {
     text.extend_from_slice(front)?;
     text.extend_from_slice(line)?;

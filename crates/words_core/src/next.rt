@@ -6,7 +6,10 @@ ghost use Rattle.words_core.specs.Options.{options_of};
 ghost use Rattle.words_core.specs.declared.next.NextWord.TheVariants.{OptionOrCommand, OptionOrOperand};
 
 use crate::options::{applet_of, applet_of_help_or_version_option, option_of_word};
-use crate::word::{value_in_long_or_short_option_word, is_double_dash, is_option_or_double_dash, option_word_without_value};
+use crate::word::{
+    is_double_dash, is_option_or_double_dash, option_word_without_value,
+    value_in_long_or_short_option_word,
+};
 use base_core::Words;
 use command_core::{Applet, ValueRule};
 

@@ -340,8 +340,12 @@ fn find_option(options: &[OptionRow], word: &[u8]) -> Option<OptionRow>
 }
 
 /// Flags with an option added. None if there is no option, or in the cases of `Meaning::with`.
-pub(crate) fn flags_with_option_word_if_one_command_kind(flags: Flags, option: Option<OptionRow>) -> Option<Flags>
-    ensures { result ≡ option_and_then (flags_with_option_if_one_command_kind flags) (option_map option_spec option) }
+pub(crate) fn flags_with_option_word_if_one_command_kind(
+    flags: Flags,
+    option: Option<OptionRow>,
+) -> Option<Flags>
+    ensures { result ≡ option_and_then (flags_with_option_if_one_command_kind flags)
+        (option_map option_spec option) }
 {
     option?.meaning.with(flags)
 }

@@ -87,7 +87,8 @@ fn command_with_help_or_version_applet(
     applet: Applet,
 ) -> Result<Command, AllocError>
     requires { IsTrue (is_valid_command (command_with_help_or_version_applet words.now applet)) }
-    ensures ok { IfOk result (λ command. command ≡ command_with_help_or_version_applet words.now applet) }
+    ensures ok { IfOk result (λ command. command
+        ≡ command_with_help_or_version_applet words.now applet) }
     // Memory runs out only for the operand of `Help`, and so only if an applet was found.
     ensures memory { OnErr result (IsTrue (is_ok (applet_site 1 words.now))) }
 {

@@ -11,10 +11,12 @@ ghost use Rattle.words_core.specs.Options.{options_of};
 ghost use Rattle.words_core.specs.Steps.{IsReadingStep};
 
 use crate::options::{
-    Meaning, applet_of, flags_with_option_word_if_one_command_kind, is_option_word_that_may_precede_applet, option_of_word,
+    Meaning, applet_of, flags_with_option_word_if_one_command_kind,
+    is_option_word_that_may_precede_applet, option_of_word,
 };
 use crate::word::{
-    MOST_PLACES, value_in_long_or_short_option_word, is_double_dash, is_option_or_double_dash, option_word_without_value, place_after_word,
+    MOST_PLACES, is_double_dash, is_option_or_double_dash, option_word_without_value,
+    place_after_word, value_in_long_or_short_option_word,
 };
 use base_core::Words;
 use command_core::{Applet, Flags, Operands, ValueRule, Values};
@@ -206,7 +208,11 @@ impl OptionState {
             (options_of applet) self.old place word.now)) }
     {
         match option_of_word(applet, option_word_without_value(word)) {
-            Some(option) => self.read_meaning(place, value_in_long_or_short_option_word(word), option.meaning),
+            Some(option) => self.read_meaning(
+                place,
+                value_in_long_or_short_option_word(word),
+                option.meaning,
+            ),
             None => Ok(false),
         }
     }

@@ -13,10 +13,15 @@ ghost use Rattle.words_core.specs.Usage.{space_before_help_topic, help_topic_wor
 
 use crate::help_rows::PROGRAM_USAGE;
 use crate::next::{NextWord, next_word_of_command_line};
-use crate::options::{Meaning, OptionRow, applet_word, flags_with_option_word_if_one_command_kind, option_of_word};
+use crate::options::{
+    Meaning, OptionRow, applet_word, flags_with_option_word_if_one_command_kind, option_of_word,
+};
 use crate::reading::{Start, find_applet, read_start};
 use crate::usage_texts::{description_of_expected_kind, reason_text};
-use crate::word::{value_in_long_or_short_option_word, is_double_dash, is_option_or_double_dash, option_word_without_value};
+use crate::word::{
+    is_double_dash, is_option_or_double_dash, option_word_without_value,
+    value_in_long_or_short_option_word,
+};
 use base_core::{Sink, SinkFault, Words, write_all};
 use command_core::{Applet, Flags, OperandKind, OperandRule, ValueKind, ValueRule};
 use itoa::Buffer;
@@ -185,7 +190,10 @@ fn free_reason(applet: Applet, rule: Option<OperandRule>, word: &[u8]) -> UsageR
     if is_double_dash(word) {
         return operand_reason(word, rule);
     }
-    option_reason(word, option_of_word(applet, option_word_without_value(word)))
+    option_reason(
+        word,
+        option_of_word(applet, option_word_without_value(word)),
+    )
 }
 
 // Why a word cannot be read as an option, by the option of the command that it spells, if it spells
@@ -315,7 +323,10 @@ fn flags_with_held_meaning(applet: Applet, flags: Flags, word: &[u8]) -> Option<
     if value_in_long_or_short_option_word(word).is_some() {
         return None;
     }
-    flags_with_option_word_if_one_command_kind(flags, option_of_word(applet, option_word_without_value(word)))
+    flags_with_option_word_if_one_command_kind(
+        flags,
+        option_of_word(applet, option_word_without_value(word)),
+    )
 }
 
 // ---- the line

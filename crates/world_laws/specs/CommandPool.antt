@@ -33,7 +33,8 @@ pub record IsIndexed (inputs : Inputs) (read : Reads) (place : ℕ) (repository 
   -- these bytes were read under the repository's path
   pub is_index : read (first_index_read_number + place) repository.path ≡ Some file
   -- the index has a package with this information
-  pub has : IsIn info (entries_of_field_at_index INDEX_PACKAGES_INDEX (root_value_of_payload Index (payload_in file)))
+  pub has : IsIn info (entries_of_field_at_index INDEX_PACKAGES_INDEX
+      (root_value_of_payload Index (payload_in file)))
 
 -- the candidate is the package with this information, of the repository with the index `place`, and is installed or
 -- not. Candidates number repositories from 1
@@ -74,7 +75,8 @@ pub record IsInstalledAlone (inputs : Inputs) (candidates : List Candidate) (c :
   -- the candidate is this package
   pub is : c ≡ installed_candidate pkg
   -- none of the candidates, if it is from an index, is the same package
-  pub alone : (other : Candidate) → IsIn other candidates → is_repository_package_same_as_installed c other ≡ false
+  pub alone : (other : Candidate) → IsIn other candidates → is_repository_package_same_as_installed c other
+      ≡ false
 
 -- The candidates of a command are the packages of all indexes, and the installed packages that no index
 -- has; none of either is missing.
@@ -90,7 +92,8 @@ pub record AreCandidates (inputs : Inputs) (read : Reads) (candidates : List Can
   -- each installed package is a candidate, or is the same as one from an index
   pub installed : (pkg : Plain) → IsIn pkg inputs.root.database.packages
       → (c : Candidate) × IsIn c candidates × (c.installed ≡ true)
-      × ((c ≡ installed_candidate pkg) ⊎ (is_repository_package_same_as_installed (installed_candidate pkg) c ≡ true))
+      × ((c ≡ installed_candidate pkg)
+      ⊎ (is_repository_package_same_as_installed (installed_candidate pkg) c ≡ true))
 
 -- ---- the names that are upgraded
 

@@ -156,7 +156,8 @@ pub fn a_selection_satisfies_world_exactly_if_packages_do()
         → (selection : List ℕ) × IsSatisfying pool selection
         × AreEqualSetsOfCandidates (candidates_at pool selection) packages }
     // A command has no selection exactly if no packages satisfy its new world.
-    ensures none { (command : CommandLine) (read : Reads) (inputs : Inputs) (pool : SelectionProblem)
+    ensures none { (command : CommandLine) (read : Reads) (inputs : Inputs)
+        (pool : SelectionProblem)
         → inputs_of command read ≡ Ok inputs → pool_of_command command read ≡ Ok pool
         → IsPreferredChoice pool None
         ↔ IsUnsatisfiable (candidates_of inputs) inputs.root.new_world }
