@@ -18,8 +18,8 @@ use crate::block::{Block, BlockKind, block_at, word_at};
 use base_core::Cause;
 use std::marker::Model;
 
-/// The blocks of a file, from the front. Contracts see the position of the reader: `PositionBetweenBlocks`
-/// of `specs/`.
+/// The blocks of a file, from the front. Contracts see the position of the reader:
+/// `PositionBetweenBlocks` of `specs/`.
 #[derive(Drop)]
 pub struct Blocks<'a> {
     /// The whole file.
@@ -83,12 +83,14 @@ impl<'a> Blocks<'a> {
     }
 
     /// Reads the next block. The result is None if and only if the file ends here. An error is the
-    /// first failed test, with the block's offset:
+    /// cause of the first failed test, with the block's offset. The tests are, in this order:
     ///
-    /// - truncated: the file has no block, or the block's header is not complete;
-    /// - block order: the block's kind is unknown or not allowed here;
-    /// - truncated: the block's raw size is less than its header, or goes past the file's end, or
-    ///   the payload of an ADB block has fewer than 8 bytes.
+    /// 1. The file has a block, and the block's header is complete. Otherwise the cause is
+    ///    `Truncated`.
+    /// 2. The block's kind is known, and allowed here. Otherwise the cause is `BlockOrder`.
+    /// 3. The block's raw size is at least the length of its header, and the block ends within the
+    ///    file. Otherwise the cause is `Truncated`.
+    /// 4. The payload of an ADB block has at least 8 bytes. Otherwise the cause is `Truncated`.
     ///
     /// After an error the reader has not moved, so the next call returns the same error.
     pub fn next(&mut self) -> Result<Option<Block<'a>>, Cause>

@@ -42,11 +42,13 @@ pub fn write_info(
     // The word `info` has a plain value: the information of a package.
     requires sound { is_sound (payload_of adb) (Kinds.Obj Tables.PkgInfo) info ≡ true }
     // Each text that `known` remembers is a blob of the draft, with the remembered word.
+    // Each remembered range has its period.
     requires known { AreRememberedBlobsOfDraft (payload_of adb) draft.old known.old }
     // On Ok, the draft gets the information, with `id`, `len`, and NULL for each integer 0.
     ensures info { OnOk result (draft.new ≡ draft_with (info_without_zeros_with_id_and_file_size
         (value_at (payload_of adb.entry) (Kinds.Obj Tables.PkgInfo) info) id.now len) draft.old) }
-    // On Ok, each text that `known` remembers is a blob of the new draft, with that word.
+    // On Ok, each text that `known` remembers is a blob of the new draft, with that word. Each
+    // remembered range has its period.
     ensures known { OnOk result (AreRememberedBlobsOfDraft
         (payload_of adb.entry) draft.new known.new) }
 {
@@ -98,11 +100,13 @@ fn write_info_texts(
     // The word `info` has a plain value: the information of a package.
     requires sound { is_sound (payload_of adb) (Kinds.Obj Tables.PkgInfo) info ≡ true }
     // Each text that `known` remembers is a blob of the draft, with the remembered word.
+    // Each remembered range has its period.
     requires known { AreRememberedBlobsOfDraft (payload_of adb) draft.old known.old }
     // On Ok, the draft gets these ten fields, in order.
     ensures texts { OnOk result (draft.new ≡ draft_with_all (plains_of_texts (info_texts
         (value_at (payload_of adb.entry) (Kinds.Obj Tables.PkgInfo) info) id.now)) draft.old) }
-    // On Ok, each text that `known` remembers is a blob of the new draft, with that word.
+    // On Ok, each text that `known` remembers is a blob of the new draft, with that word. Each
+    // remembered range has its period.
     ensures known { OnOk result (AreRememberedBlobsOfDraft
         (payload_of adb.entry) draft.new known.new) }
 {
@@ -151,11 +155,13 @@ pub fn write_text_list<'a>(
     // Each entry has a plain value of the kind that the array demands.
     requires sound { are_all_sound (payload_of adb) Kinds.Text (array_entries texts) ≡ true }
     // Each text that `known` remembers is a blob of the draft, with the remembered word.
+    // Each remembered range has its period.
     requires known { AreRememberedBlobsOfDraft (payload_of adb) draft.old known.old }
     // On Ok, the draft gets the array of these texts, or NULL if there are none.
     ensures texts { OnOk result (draft.new ≡ draft_with (without_zeros
         (array_at (payload_of adb.entry) Kinds.Text (array_entries texts.entry))) draft.old) }
-    // On Ok, each text that `known` remembers is a blob of the new draft, with that word.
+    // On Ok, each text that `known` remembers is a blob of the new draft, with that word. Each
+    // remembered range has its period.
     ensures known { OnOk result (AreRememberedBlobsOfDraft
         (payload_of adb.entry) draft.new known.new) }
 {
@@ -182,11 +188,13 @@ fn write_deps(
     // The field is an array of dependencies.
     requires kind { kind_at Tables.PkgInfo field ≡ Some (Kinds.ObjArr Tables.Dep) }
     // Each text that `known` remembers is a blob of the draft, with the remembered word.
+    // Each remembered range has its period.
     requires known { AreRememberedBlobsOfDraft (payload_of adb) draft.old known.old }
     // On Ok, the draft gets the array, in which each integer 0 is NULL.
     ensures deps { OnOk result (draft.new ≡ draft_with (without_zeros (entry_at_index
         (value_at (payload_of adb.entry) (Kinds.Obj Tables.PkgInfo) info) field)) draft.old) }
-    // On Ok, each text that `known` remembers is a blob of the new draft, with that word.
+    // On Ok, each text that `known` remembers is a blob of the new draft, with that word. Each
+    // remembered range has its period.
     ensures known { OnOk result (AreRememberedBlobsOfDraft
         (payload_of adb.entry) draft.new known.new) }
 {
@@ -206,11 +214,13 @@ fn write_dep_list<'a>(
     requires sound { are_all_sound (payload_of adb) (Kinds.Obj Tables.Dep) (array_entries deps)
         ≡ true }
     // Each text that `known` remembers is a blob of the draft, with the remembered word.
+    // Each remembered range has its period.
     requires known { AreRememberedBlobsOfDraft (payload_of adb) draft.old known.old }
     // On Ok, the draft gets the array, in which each integer 0 is NULL.
     ensures deps { OnOk result (draft.new ≡ draft_with (without_zeros (array_at
         (payload_of adb.entry) (Kinds.Obj Tables.Dep) (array_entries deps.entry))) draft.old) }
-    // On Ok, each text that `known` remembers is a blob of the new draft, with that word.
+    // On Ok, each text that `known` remembers is a blob of the new draft, with that word. Each
+    // remembered range has its period.
     ensures known { OnOk result (AreRememberedBlobsOfDraft
         (payload_of adb.entry) draft.new known.new) }
 {
@@ -233,11 +243,13 @@ fn write_dep(
     // The word `dep` has a plain value: a dependency.
     requires sound { is_sound (payload_of adb) (Kinds.Obj Tables.Dep) dep ≡ true }
     // Each text that `known` remembers is a blob of the draft, with the remembered word.
+    // Each remembered range has its period.
     requires known { AreRememberedBlobsOfDraft (payload_of adb) draft.old known.old }
     // On Ok, the draft gets the dependency, in which each integer 0 is NULL.
     ensures dep { OnOk result (draft.new ≡ draft_with (without_zeros
         (value_at (payload_of adb.entry) (Kinds.Obj Tables.Dep) dep)) draft.old) }
-    // On Ok, each text that `known` remembers is a blob of the new draft, with that word.
+    // On Ok, each text that `known` remembers is a blob of the new draft, with that word. Each
+    // remembered range has its period.
     ensures known { OnOk result (AreRememberedBlobsOfDraft
         (payload_of adb.entry) draft.new known.new) }
 {

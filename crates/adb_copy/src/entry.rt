@@ -35,11 +35,13 @@ pub fn write_acl(
     // The word `acl` has a plain value: an access list.
     requires sound { is_sound (payload_of adb) (Kinds.Obj Tables.Acl) acl ≡ true }
     // Each text that `known` remembers is a blob of the draft, with the remembered word.
+    // Each remembered range has its period.
     requires known { AreRememberedBlobsOfDraft (payload_of adb) draft.old known.old }
     // On Ok, the draft gets the access list, in which each integer 0 is NULL.
     ensures acl { OnOk result (draft.new ≡ draft_with (without_zeros
         (value_at (payload_of adb.entry) (Kinds.Obj Tables.Acl) acl)) draft.old) }
-    // On Ok, each text that `known` remembers is a blob of the new draft, with that word.
+    // On Ok, each text that `known` remembers is a blob of the new draft, with that word. Each
+    // remembered range has its period.
     ensures known { OnOk result (AreRememberedBlobsOfDraft
         (payload_of adb.entry) draft.new known.new) }
 {
@@ -69,11 +71,13 @@ pub fn write_file(
     // The word `file` has a plain value: the entry of a file.
     requires sound { is_sound (payload_of adb) (Kinds.Obj Tables.File) file ≡ true }
     // Each text that `known` remembers is a blob of the draft, with the remembered word.
+    // Each remembered range has its period.
     requires known { AreRememberedBlobsOfDraft (payload_of adb) draft.old known.old }
     // On Ok, the draft gets the entry of the file, in which each integer 0 is NULL.
     ensures file { OnOk result (draft.new ≡ draft_with (without_zeros
         (value_at (payload_of adb.entry) (Kinds.Obj Tables.File) file)) draft.old) }
-    // On Ok, each text that `known` remembers is a blob of the new draft, with that word.
+    // On Ok, each text that `known` remembers is a blob of the new draft, with that word. Each
+    // remembered range has its period.
     ensures known { OnOk result (AreRememberedBlobsOfDraft
         (payload_of adb.entry) draft.new known.new) }
 {
@@ -106,11 +110,13 @@ pub fn write_scripts(
     // The word `scripts` has a plain value: the scripts of a package.
     requires sound { is_sound (payload_of adb) (Kinds.Obj Tables.Scripts) scripts ≡ true }
     // Each text that `known` remembers is a blob of the draft, with the remembered word.
+    // Each remembered range has its period.
     requires known { AreRememberedBlobsOfDraft (payload_of adb) draft.old known.old }
     // On Ok, the draft gets the scripts.
     ensures scripts { OnOk result (draft.new ≡ draft_with (without_zeros
         (value_at (payload_of adb.entry) (Kinds.Obj Tables.Scripts) scripts)) draft.old) }
-    // On Ok, each text that `known` remembers is a blob of the new draft, with that word.
+    // On Ok, each text that `known` remembers is a blob of the new draft, with that word. Each
+    // remembered range has its period.
     ensures known { OnOk result (AreRememberedBlobsOfDraft
         (payload_of adb.entry) draft.new known.new) }
 {

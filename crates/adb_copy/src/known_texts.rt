@@ -62,11 +62,13 @@ impl KnownTexts {
         // The word `word` has a plain value: a text.
         requires sound { is_sound (payload_of adb) Kinds.Text word ≡ true }
         // Each text that `self` remembers is a blob of the draft, with the remembered word.
+        // Each remembered range has its period.
         requires known { AreRememberedBlobsOfDraft (payload_of adb) draft.old self.old }
         // On Ok, the draft gets the text, or NULL if it is empty.
         ensures text { OnOk result (draft.new ≡ draft_with
             (blob_or_null (text_in (value_at (payload_of adb.entry) Kinds.Text word))) draft.old) }
-        // On Ok, each text that `self` remembers is a blob of the new draft, with that word.
+        // On Ok, each text that `self` remembers is a blob of the new draft, with that word. Each
+        // remembered range has its period.
         ensures known { OnOk result (AreRememberedBlobsOfDraft
             (payload_of adb.entry) draft.new self.new) }
     {
@@ -95,11 +97,13 @@ impl KnownTexts {
         // By its table, the field is a text.
         requires kind { kind_at which field ≡ Some Kinds.Text }
         // Each text that `self` remembers is a blob of the draft, with the remembered word.
+        // Each remembered range has its period.
         requires known { AreRememberedBlobsOfDraft (payload_of adb) draft.old self.old }
         // On Ok, the draft gets the text of the field, or NULL if it is empty.
         ensures text { OnOk result (draft.new ≡ draft_with (blob_or_null (text_in (entry_at_index
             (value_at (payload_of adb.entry) (Kinds.Obj which) object) field))) draft.old) }
-        // On Ok, each text that `self` remembers is a blob of the new draft, with that word.
+        // On Ok, each text that `self` remembers is a blob of the new draft, with that word. Each
+        // remembered range has its period.
         ensures known { OnOk result (AreRememberedBlobsOfDraft
             (payload_of adb.entry) draft.new self.new) }
     {
@@ -161,11 +165,13 @@ impl KnownTexts {
         // The word `word` has a plain value: a text.
         requires sound { is_sound (payload_of adb) Kinds.Text word ≡ true }
         // Each text that `self` remembers is a blob of the draft, with the remembered word.
+        // Each remembered range has its period.
         requires known { AreRememberedBlobsOfDraft (payload_of adb) draft.old self.old }
         // On Ok, the draft gets the text, or NULL if it is empty.
         ensures text { OnOk result (draft.new ≡ draft_with
             (blob_or_null (text_in (value_at (payload_of adb.entry) Kinds.Text word))) draft.old) }
-        // On Ok, each text that `self` remembers is a blob of the new draft, with that word.
+        // On Ok, each text that `self` remembers is a blob of the new draft, with that word. Each
+        // remembered range has its period.
         ensures known { OnOk result (AreRememberedBlobsOfDraft
             (payload_of adb.entry) draft.new self.new) }
     {
@@ -184,11 +190,13 @@ impl KnownTexts {
         // The word `word` has a plain value: a text.
         requires sound { is_sound (payload_of adb) Kinds.Text word ≡ true }
         // Each text that `self` remembers is a blob of the draft, with the remembered word.
+        // Each remembered range has its period.
         requires known { AreRememberedBlobsOfDraft (payload_of adb) draft.old self.old }
         // On Ok, the draft gets the text, or NULL if it is empty.
         ensures text { OnOk result (draft.new ≡ draft_with
             (blob_or_null (text_in (value_at (payload_of adb.entry) Kinds.Text word))) draft.old) }
-        // On Ok, each text that `self` remembers is a blob of the new draft, with that word.
+        // On Ok, each text that `self` remembers is a blob of the new draft, with that word. Each
+        // remembered range has its period.
         ensures known { OnOk result (AreRememberedBlobsOfDraft
             (payload_of adb.entry) draft.new self.new) }
     {

@@ -1,5 +1,5 @@
--- Which pair of positions with the same name is the first, stated independently of how it is computed. Serves the laws
--- of `src/pairs.rt`; the rule is in `docs/formats.md`, "Names that stand twice".
+-- The first pair of positions with the same name, stated independently of how it is computed. Serves the laws of
+-- `src/pairs.rt`; the rule is in `docs/formats.md`, "Names that stand twice".
 use Rattle.std.specs.Prelude.{◌≡◌, ℕ, ◌<◌, ◌≤◌, ◌⊎◌, List, [], ◌∷◌, Option, Some, None}
 pub use Rattle.base_core.specs.Lists.{IsIn}
 use Rattle.adb_fields.specs.Pairs.{NameWithPosition}

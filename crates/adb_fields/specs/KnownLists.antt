@@ -1,5 +1,7 @@
--- The remembered results for lists of objects to which many words may refer. Serves the contract of
--- `KnownLists::least_positions_of_name_twice_in_list`; the rule is in `docs/formats.md`, "Names that stand twice".
+-- The remembered results of the searches for a repeated name in lists of objects. The result for a list is the
+-- first pair of positions with the same name, or None. It is remembered by the word of the list, since many folders
+-- or packages may share one list. Serves the contract of `KnownLists::least_positions_of_name_twice_in_list`; the
+-- rule is in `docs/formats.md`, "Names that stand twice".
 use Rattle.std.specs.Prelude.{◌≡◌, ℕ, List, map, Option, Some}
 use Rattle.std.specs.BTreeMap.{BTreeMap, get}
 use Rattle.std.specs.Ordering.{nat_cmp}

@@ -14,8 +14,8 @@ use Rattle.adb_fields.specs.Fields.{array_at}
 use Rattle.adb_view.specs.declared.tables.Kind.{Kind}
 use Rattle.adb_fields.specs.declared.pairs.PathWithPosition.{PathWithPosition}
 
--- the name with its position that an entry of the program's list represents; if the entry has a folder, the name is the
--- joined path
+-- the name with its position that an entry of the program's list represents. If the entry has a folder, the name is
+-- the joined path
 abbrev pub joined_name_with_position : PathWithPosition → NameWithPosition
 joined_name_with_position e = record { name = joined_path e.path; position = e.position }
 
@@ -23,14 +23,14 @@ joined_name_with_position e = record { name = joined_path e.path; position = e.p
 abbrev pub name_with_position_cmp : NameWithPosition → NameWithPosition → Ordering
 name_with_position_cmp x y = ordering_then (slice_cmp nat_cmp x.name y.name) (nat_cmp x.position y.position)
 
--- for the name x and each of the names after it: the pair of positions of this name and the next one, if the two names
--- are equal, otherwise None
+-- for the name x and each of the names after it: the pair of positions of this name and the next one, if the two
+-- names are equal and this position is the smaller one, otherwise None
 abbrev pub neighbours_from : NameWithPosition → List NameWithPosition → List (Option Pair)
 neighbours_from x [] = []
 neighbours_from x (y ∷ ys) = pair_if_same_name_and_first_precedes x y ∷ neighbours_from y ys
 
 -- for each name of a list but the last: the pair of positions of this name and the next one, if the two names are
--- equal, otherwise None
+-- equal and this position is the smaller one, otherwise None
 abbrev pub neighbours : List NameWithPosition → List (Option Pair)
 neighbours [] = []
 neighbours (x ∷ xs) = neighbours_from x xs

@@ -22,12 +22,13 @@ abbrev pub numbered_from : ℕ → List (List ℕ) → List NameWithPosition
 numbered_from n [] = []
 numbered_from n (name ∷ names) = record { name = name; position = n } ∷ numbered_from (n + 1) names
 
--- of all pairs of positions at which a list has the same name, the one that is reported; None if each name occurs once
+-- the pair of positions at which a list has the same name; of all such pairs the one that is reported. None if each
+-- name occurs once
 abbrev pub least_positions_of_name_twice_in_list : List (List ℕ) → Option Pair
 least_positions_of_name_twice_in_list names = least_pair_of_equal_names (numbered_from 1 names)
 
--- of all pairs of positions at which one of several lists has the same name, the one that is reported; None if in each
--- list each name occurs once
+-- the pair of positions at which one of several lists has the same name; of all such pairs the one that is
+-- reported. None if in each list each name occurs once
 abbrev pub least_positions_of_name_twice_in_one_list : List (List (List ℕ)) → Option Pair
 least_positions_of_name_twice_in_one_list lists =
     least_pair (map least_positions_of_name_twice_in_list lists)
@@ -42,7 +43,8 @@ names_with_list_positions n [] = []
 names_with_list_positions n (names ∷ lists) =
     names_all_at_position n names ++ names_with_list_positions (n + 1) lists
 
--- of all pairs of positions of two lists that share a name, the one that is reported; None if no two lists share one
+-- the pair of positions of two lists that share a name; of all such pairs the one that is reported. None if no two
+-- lists share one
 abbrev pub least_pair_of_lists_sharing_a_name : List (List (List ℕ)) → Option Pair
 least_pair_of_lists_sharing_a_name lists = least_pair_of_equal_names (names_with_list_positions 1 lists)
 

@@ -1,7 +1,7 @@
-//! Paths of files as two separate texts, folder and name, and the order of such paths. Serves the
-//! search for a path that two packages have (`docs/formats.md`, "Names that stand twice"), and the
-//! sorting of files by path. The path of a file is defined in `docs/formats.md`, "Schemas" ("The
-//! path of a file").
+//! This module represents the path of a file by two separate texts: the folder and the name. It
+//! compares such paths. Serves the search for a path that two packages have (`docs/formats.md`,
+//! "Names that stand twice"), and the sorting of files by path. The path of a file is defined in
+//! `docs/formats.md`, "Schemas" ("The path of a file").
 
 ghost use Rattle.std.specs.Prelude.{◌≡◌, ◌<◌, ◌≤◌, ◌+◌, ◌^◌, length, take, drop, slice_get, IfSome};
 ghost use Rattle.std.specs.Cmp.Lexicographic.{slice_cmp};

@@ -1,5 +1,5 @@
-//! Reads of the fields of a walked payload, which cannot fail, arrays as lists of views, and the
-//! search for repeated names.
+//! This crate reads the fields of a walked payload; such a read cannot fail. It shows arrays as
+//! lists of views, and searches for repeated names.
 //!
 //! A word is *sound* if it has a plain value of its kind, and each read returns a part of that
 //! value. `repeated_names` returns a name that occurs twice in a package, a database or a journal

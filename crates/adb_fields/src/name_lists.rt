@@ -1,6 +1,7 @@
-//! Makes the lists of names that must not repeat, each name with its position: names of folders, of
-//! files and of packages, paths of files, and the texts of a journal entry. `repeated` searches
-//! these lists. They are in the table of `docs/formats.md`, "Names that stand twice".
+//! This module makes the lists of names that must not repeat, each name with its position. These
+//! are names of folders, files and packages, paths of files, and texts of a journal entry.
+//! `repeated` searches these lists. The table of `docs/formats.md`, "Names that stand twice", has
+//! the kinds of names.
 
 ghost use Rattle.std.specs.Prelude.{◌≡◌, ◌+◌, ◌<◌, ◌^◌, ◌++◌, ◌∷◌, [], true, Some, map, length, IfOk};
 ghost use Rattle.std.specs.Vec.{vec_len};

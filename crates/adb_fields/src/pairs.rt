@@ -1,6 +1,6 @@
-//! If names repeat in a list, which two positions are reported. `repeated` uses this. The rule is
-//! in `docs/formats.md`, "Names that stand twice", below the table ("the pair with the smallest
-//! second position").
+//! If names repeat in a list, this module finds the two positions that are reported. `repeated`
+//! uses this. The rule is in `docs/formats.md`, "Names that stand twice", below the table ("the
+//! pair with the smallest second position").
 
 ghost use Rattle.std.specs.Prelude.{◌≡◌, ◌<◌, ◌^◌, ◌+◌, ◌≤◌, length, map, take, drop, slice_get, IfSome, ℕ, List};
 ghost use Rattle.std.specs.Cmp.Lexicographic.{slice_cmp};
@@ -46,7 +46,7 @@ impl Pair {
     }
 }
 
-/// Of two pairs the one that is reported; None if there is neither.
+/// The one of two pairs that is reported; None if there is neither.
 pub(crate) fn lesser_pair(one: Option<Pair>, other: Option<Pair>) -> Option<Pair>
     ensures { result ≡ lesser_pair one other }
 {
@@ -61,9 +61,9 @@ pub(crate) fn lesser_pair(one: Option<Pair>, other: Option<Pair>) -> Option<Pair
     }
 }
 
-/// Of all pairs of positions at which `entries` have the same name, the one that is reported: the
-/// one with the smallest second position, and of those the one with the smallest first position.
-/// None if no name repeats. Afterwards the entries are sorted by name.
+/// The pair that is reported, of all pairs of positions at which `entries` have the same name. It
+/// has the smallest second position, and of the pairs with this second position the smallest first
+/// position. None if no name repeats. Afterwards the entries are sorted by name.
 pub(crate) fn least_pair_of_equal_names(entries: &mut [PathWithPosition<'_>]) -> Option<Pair>
     ensures { result ≡ least_pair_of_equal_names (map joined_name_with_position entries.old) }
 {
@@ -71,8 +71,9 @@ pub(crate) fn least_pair_of_equal_names(entries: &mut [PathWithPosition<'_>]) ->
     first_of_neighbours(entries)
 }
 
-/// Of the pairs of positions that each entry and the next one have, if their names are equal, the
-/// one that is reported. If the entries are sorted, it is the one of all pairs.
+/// The pair that is reported, of the pairs of positions of neighbours: of an entry and the next
+/// one. Two neighbours make a pair if their names are equal and the first has the smaller position.
+/// If the entries are sorted, the result is the pair that is reported of all pairs.
 fn first_of_neighbours(entries: &[PathWithPosition<'_>]) -> Option<Pair>
     ensures { result ≡ least_pair (neighbours (map joined_name_with_position entries.now)) }
 {
@@ -118,8 +119,8 @@ fn compared(one: &PathWithPosition<'_>, other: &PathWithPosition<'_>) -> Orderin
     names.then(one.position.cmp(&other.position))
 }
 
-/// A law: if names repeat in a list, the first pair of positions with the same name is reported:
-/// the one with the smallest second position, and of those the one with the smallest first
+/// A law: if names repeat in a list, the first pair of positions with the same name is reported. It
+/// has the smallest second position, and of the pairs with this second position the smallest first
 /// position.
 pub fn the_first_pair_of_a_list_is_reported()
     ensures { (names : List (List ℕ))
@@ -135,9 +136,9 @@ pub fn the_first_pair_in_one_of_several_lists_is_reported()
         (least_positions_of_name_twice_in_one_list lists) }
 {}
 
-/// A law: if several lists share names, the positions of two lists that share one are reported: of
-/// all such pairs of lists, the one with the smallest second position, and then the smallest first
-/// one. A name that one list has twice does not count.
+/// A law: if several lists share names, the positions of two lists that share one are reported. Of
+/// all such pairs of positions, this one has the smallest second position, and then the smallest
+/// first position. A name that one list has twice does not count.
 pub fn the_first_pair_of_two_lists_is_reported()
     ensures { (lists : List (List (List ℕ)))
         → IsLeastPairIfAny (IsPairOfEqualNames (names_with_list_positions 1 lists))

@@ -1,9 +1,11 @@
-//! Reads of words, and of the fields of objects, that cannot fail, since the words are *sound*:
-//! each has a plain value of the kind that is read. After the shape of a payload was tested, all
-//! its words are sound. Indexes of fields count from 0, and a missing field is Null. The meaning of
-//! a word, a field and an entry is defined in `docs/formats.md`, "Values". The fields of each table
-//! are in "Schemas", where they count from 1; `field_indexes` of `adb_view` names their indexes.
-//! Where a reader would refuse a word, the code is `unreachable!`, since no sound word is refused.
+//! The functions of this module read words, and fields of objects. No read can fail, since the
+//! words are *sound*: each has a plain value of the kind that is read. After the shape of a payload
+//! was tested, all its words are sound. Where a reader would refuse a word, the code is
+//! `unreachable!`, since no sound word is refused.
+//!
+//! Indexes of fields count from 0, and a missing field is Null. `field_indexes` of `adb_view` names
+//! the indexes. The meaning of a word, a field and an entry is defined in `docs/formats.md`,
+//! "Values". The fields of each table are in "Schemas", where they count from 1.
 
 ghost use Rattle.std.specs.Prelude.{◌≡◌, ◌<◌, true, Some, length, slice_index, slice_index_or};
 ghost use Rattle.adb_view.specs.Adb.{payload_of};

@@ -49,17 +49,17 @@ mod field_numbers {
 
 /// Searches a container, whose shape was tested, for a repeated name. It returns the cause
 /// `Repeated`, or None if and only if no name repeats. The kinds of names are searched in this
-/// order:
+/// order, and each kind in all packages before the next kind:
 ///
-/// - in a package and in a database, a folder that a package lists twice, over all packages;
-/// - then a file that a folder lists twice;
-/// - in a database also a name of two packages;
-/// - then a path in two packages, at the positions of the packages;
-/// - in a journal entry a name that occurs twice in its removals followed by its writes.
+/// 1. in a package and in a database, a folder that one package lists twice;
+/// 2. in a package and in a database, a file that one folder lists twice;
+/// 3. in a database, a name that two packages have;
+/// 4. in a database, a path that two packages list, at the positions of the packages;
+/// 5. in a journal entry, a name that occurs twice in its removals followed by its writes.
 ///
-/// The first kind with a repeated name is reported, by the two positions of the name. Of all such
-/// pairs of positions, the one with the smallest second position is reported, and of those the one
-/// with the smallest first position.
+/// The first kind with a repeated name is reported, by the two positions of the name. If names
+/// repeat at several pairs of positions, the pair with the smallest second position is reported. Of
+/// the pairs with this second position, the one with the smallest first position is reported.
 #[tactic(auto, unfolding(crate::specs::Repeated::repeated_fault))]
 pub fn repeated_names(alloc: Global, shaped: &Shaped<'_>) -> Result<Option<Cause>, AllocError>
     // On Ok, the cause, or None, is that of the definition.

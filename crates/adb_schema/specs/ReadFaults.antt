@@ -14,8 +14,8 @@ abbrev pub IsReadFault : ReadFault → Option Cause → Type 0
 IsReadFault (Bad cause) reported = reported ≡ Some cause
 IsReadFault Memory reported = Unit {0}
 
--- the first block of a reading has this payload, which passes the tests of a payload with the table
--- `which` at its root, and `later` is the reading of the blocks after it
+-- the first block of a reading has this payload, and `later` is the reading of the blocks after it. The payload
+-- passes the tests of a payload with the table `which` at its root
 abbrev pub IsAfterFirstBlock : Which → List ℕ → Reading → Reading → Type 0
 IsAfterFirstBlock which payload done later = ⊥
 IsAfterFirstBlock which payload (fault c) later = ⊥

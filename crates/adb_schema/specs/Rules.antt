@@ -33,8 +33,8 @@ is_folder_name (b ∷ rest) = is_name (b ∷ rest)
 abbrev pub is_one_part : List ℕ → Bool
 is_one_part name = is_name name && not (list_any (λ b. b == 47) name)
 
--- whether bytes name a file of this folder: one part of a path, and the path of the folder and the
--- file has at most 1,024 bytes
+-- whether bytes name a file of this folder: they are one part of a path, and the path of the folder and the file
+-- has at most 1,024 bytes
 abbrev pub is_valid_file_name_in_folder : List ℕ → List ℕ → Bool
 is_valid_file_name_in_folder folder name = is_one_part name && nat_le (length (path_of folder name)) 1024
 
@@ -45,8 +45,8 @@ is_name_allowed_in_intent path = is_name path && not (is_intent_or_stage_name pa
 
 -- ---- other texts
 
--- whether bytes are a link's target: 0 and 160, which are the type 0xa000 of a symbolic link with the
--- low byte first, and a UTF-8 text that is not empty
+-- whether bytes are a link's target: the bytes 0 and 160, and then a UTF-8 text that is not empty. The two bytes
+-- are the type 0xa000 of a symbolic link, with the low byte first
 abbrev pub is_link_target : List ℕ → Bool
 is_link_target [] = false
 is_link_target (low ∷ []) = false

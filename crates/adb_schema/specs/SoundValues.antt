@@ -24,8 +24,8 @@ pub record ObeysTextAndNumberRulesOfDependency (v : Plain) : Type 0 where
   -- field 103: the match number
   pub matching : is_match_number (int_in (entry_at_index v DEP_MATCH_INDEX)) ≡ true
 
--- the information `v` of a package obeys the rules of its fields, in a container with the table `root` at its
--- root: in an index it has a hash
+-- the information `v` of a package obeys the rules of its fields, in a container with the table `root` at its root.
+-- In an index it has a hash
 pub record ObeysTextAndNumberRulesOfInformation (root : Which) (v : Plain) : Type 0 where
   -- field 301: the name of a package
   pub name : is_package_name (text_in (entry_at_index v INFO_NAME_INDEX)) ≡ true

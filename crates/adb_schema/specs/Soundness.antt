@@ -56,14 +56,15 @@ folder_and_file_positions_from_payload payload = (
   from_le_bytes w32 (take 4 (drop 4 payload)),
 )
 
--- the cause for a block of contents that is not allowed, at the offset `at` of the file. Either it is too short
--- for its two positions (8 bytes), or it has the positions of a file, while (0, 0) was expected, which is no file
+-- the cause for a block of contents, at the offset `at` of the file, where no contents are allowed. A payload of
+-- fewer than 8 bytes is too short for its two positions. A longer one has the positions of a file, while (0, 0),
+-- which is no file, was expected
 abbrev pub truncated_or_unexpected_contents_cause : List ℕ → ℕ → Cause
 truncated_or_unexpected_contents_cause payload at = if nat_lt (length payload) 8 then Truncated at
     else DataOrder (0, 0) (folder_and_file_positions_from_payload payload)
 
--- why a block is not allowed after the first in a container without files, if it has contents; a block
--- of another kind is allowed
+-- why a block after the first is not allowed in a container without files: it has contents. None for a block of
+-- another kind, which is allowed
 abbrev pub truncated_or_unexpected_contents_fault : BlockKind → List ℕ → ℕ → Option Cause
 truncated_or_unexpected_contents_fault Contents payload at =
     Some (truncated_or_unexpected_contents_cause payload at)
@@ -77,16 +78,16 @@ remaining_blocks_fault (fault c) = Some c
 remaining_blocks_fault (more b at r) =
     option_or (truncated_or_unexpected_contents_fault b.kind b.payload at) (remaining_blocks_fault r)
 
--- the first fault of the blocks after the first; none for a package, whose further blocks `pkg_core`
--- tests against the list of files
+-- the first fault of the blocks after the first. None for a package: `pkg_core` tests its further blocks against
+-- the list of files
 abbrev pub remaining_blocks_fault_unless_package : Which → Reading → Option Cause
 remaining_blocks_fault_unless_package Package r = None
 remaining_blocks_fault_unless_package which r = remaining_blocks_fault r
 
 -- ---- all tests in order
 
--- whether `schema`, that of a file, is the schema `word` of a table; false for None, which a table has that is no
--- root
+-- whether the schema of a file, the second argument, is that of a table, the first argument. False for None: the
+-- table is no root, and has no schema
 abbrev pub is_wanted_schema_present_and_equal : Option ℕ → ℕ → Bool
 is_wanted_schema_present_and_equal (Some word) schema = word == schema
 is_wanted_schema_present_and_equal None schema = false

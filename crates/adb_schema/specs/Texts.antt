@@ -63,8 +63,8 @@ is_file_hash_length around len =
 
 -- ---- the rule of each field
 
--- whether the number `n` obeys the rule of the field with the number `place`, which is 100 times that of the
--- field's table plus the field's own. Only the match number of a dependency has a rule
+-- whether the number `n` obeys the rule of the field with the number `place`. This is 100 times the number of the
+-- field's table, plus the number of the field in it. Only the match number of a dependency has a rule
 abbrev pub is_allowed_number_of_field : ℕ → ℕ → Bool
 is_allowed_number_of_field place n =
     if place == place_in_causes_of_field_at_index Dep DEP_MATCH_INDEX then is_match_number n else true

@@ -1,6 +1,6 @@
 //! A checked payload, and the four views of its root. The tests are in `docs/formats.md`, "The
-//! texts"; the fields of the roots in "Schemas", tables 7 to 10. In the clauses of `Checked::new`
-//! `bad` says which cause is returned, and `sound` that no text is bad.
+//! texts"; the fields of the roots in "Schemas", tables 7 to 10. The clause `bad` of `Checked::new`
+//! says which cause is returned, and the clause `sound` that no text is bad.
 
 ghost use Rattle.std.specs.Prelude.{◌≡◌, ◌<◌, true, is_none, None, IfErr, IfOk};
 ghost use Rattle.adb_view.specs.Adb.{payload_of};

@@ -1,5 +1,5 @@
-//! The containers (apk-v3(5)): the reader of whole containers, views of what was tested, and the
-//! rules for single texts and numbers (apk-package(5)).
+//! This crate reads whole containers (apk-v3(5)). It has views of what was tested, and the rules
+//! for single texts and numbers (apk-package(5)).
 //!
 //! `shape` makes a `Shaped` of a payload, and `Checked::new` makes a `Checked` of a `Shaped`. The
 //! views of a `Checked` borrow from the payload; they have one method per field, which cannot fail.

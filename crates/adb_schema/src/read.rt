@@ -1,7 +1,7 @@
-//! The reader of a whole container, and the search for repeated names in it. The order of the tests
-//! is in `docs/formats.md`, "Tests of a container"; the tests after the first block in "The other
-//! blocks"; the schema words in "Schemas". In the clauses `bad` says which cause is returned,
-//! `sound` that no test failed, and `table`, `payload` and `value` what was read.
+//! This module reads a whole container, and searches it for repeated names. The order of the tests
+//! is in `docs/formats.md`, "Tests of a container". The tests after the first block are in "The
+//! other blocks", and the schema words in "Schemas". The clause `bad` says which cause is returned,
+//! and `sound` that no test failed. The clauses `table`, `payload` and `value` say what was read.
 
 ghost use Rattle.std.specs.Prelude.{ℕ, List, All, ◌<◌, ◌≡◌, ◌≤◌, None, Some, length, codes, IfOk, IfErr};
 ghost use Rattle.std.specs.Result.{result_err};
@@ -96,16 +96,18 @@ pub fn header_schema_if_root_table(which: Which) -> Option<u32>
 }
 
 /// Searches a checked container for a repeated name. It returns the cause `Repeated`, or None if
-/// and only if no name repeats. These kinds of repeated names are searched in this order:
+/// and only if no name repeats. The kinds of names are searched in this order, and each kind in all
+/// packages before the next kind:
 ///
-/// - in a package and in a database, a folder that a package lists twice, over all packages;
-/// - then a file that a folder lists twice;
-/// - in a database also a name of two packages;
-/// - then a path in two packages, at the positions of the packages;
-/// - in a journal entry a name that occurs twice in its removals followed by its writes.
+/// 1. in a package and in a database, a folder that one package lists twice;
+/// 2. in a package and in a database, a file that one folder lists twice;
+/// 3. in a database, a name that two packages have;
+/// 4. in a database, a path that two packages list, at the positions of the packages;
+/// 5. in a journal entry, a name that occurs twice in its removals followed by its writes.
 ///
-/// The first kind with a repeated name is reported, by the pair with the smallest second position,
-/// and among those the one with the smallest first position.
+/// The first kind with a repeated name is reported, by the pair of positions with the smallest
+/// second position. Of the pairs with this second position, the one with the smallest first
+/// position is reported.
 pub fn repeated(alloc: Global, checked: &Checked<'_>) -> Result<Option<Cause>, AllocError>
     // On Ok, the result is the cause of the definition, or None.
     ensures { IfOk result (λ cause. cause
@@ -114,15 +116,16 @@ pub fn repeated(alloc: Global, checked: &Checked<'_>) -> Result<Option<Cause>, A
     repeated_names(alloc, &checked.shaped())
 }
 
-/// Reads a container (apk-v3(5)) with this table at its root. The tests are, in this order: the
-/// header and the schema of the file; the framing, the head, the shape, the texts and the repeated
-/// names of the first block; then, except for a package, the framing of the further blocks, and
-/// that none of these blocks has contents.
+/// Reads a container (apk-v3(5)) with this table at its root. These tests are made in this order:
+///
+/// 1. the header and the schema of the file;
+/// 2. the framing, the head, the shape, the texts and the repeated names of the first block;
+/// 3. except for a package, the framing of the further blocks, and that none of them has contents.
 ///
 /// # Errors
 ///
-/// `Bad` with the cause of the first failed test, or `Memory`. Each schema is wrong for a table
-/// that is no root.
+/// `Bad` with the cause of the first failed test, or `Memory`. If the table is no root, each schema
+/// is wrong.
 #[tactic(auto, unfolding(crate::specs::Soundness::container_fault_except_contents, crate::specs::Soundness::payload_in))]
 pub fn read_adb<'a>(alloc: Global, bytes: &'a [u8], which: Which) -> Result<Checked<'a>, ReadFault>
     // The error is the first failed test, or out of memory.
@@ -258,9 +261,9 @@ fn truncated_or_unexpected_contents_fault(block: &Block<'_>) -> Option<Cause>
     }
 }
 
-/// The cause for contents that are not allowed, in a block at the offset `at`. Contents shorter
-/// than their two positions (8 bytes) are too short; others are a file where none, (0, 0), was
-/// expected.
+/// The cause for a block of contents, at the offset `at`, where no contents are allowed. A payload
+/// of fewer than 8 bytes is too short for its two positions. A longer one has the positions of a
+/// file, while (0, 0), which is no file, was expected.
 fn truncated_or_unexpected_contents_cause(payload: &[u8], at: u64) -> Cause
     ensures { result ≡ truncated_or_unexpected_contents_cause payload.now at }
 {

@@ -267,10 +267,10 @@ fn keeps_change_name(judged: &mut Judged<'_>, word: Val, text: &[u8]) -> Result<
     Ok(!is_intent_or_stage_name(text))
 }
 
-/// Tests each text and number of `shaped` by the rule of its field. It returns the cause
-/// `BadText` with the number of the first field that breaks its rule, depth first and field by
-/// field, or None if and only if each obeys its own. A missing field counts as Null. A text of more
-/// than 64 bytes is judged once, however many places share it.
+/// Tests each text and number of `shaped` by the rule of its field, depth first and field by field.
+/// It returns the cause `BadText` with the number of the first field that breaks its rule. It
+/// returns None if and only if each text and number obeys the rule of its field. A missing field
+/// counts as Null. A text of more than 64 bytes is judged once, however many places share it.
 pub fn check_texts(alloc: Global, shaped: Shaped<'_>) -> Result<Option<Cause>, AllocError>
     // On Ok, the result is the cause for the first text or number that breaks its rule, or None.
     ensures { IfOk result (λ cause. cause
@@ -288,9 +288,9 @@ pub fn check_texts(alloc: Global, shaped: Shaped<'_>) -> Result<Option<Cause>, A
 }
 
 /// Checks a value and the values inside it, and returns the number of the first field that breaks
-/// its rule. `word` is the word of the value, `kind` its kind, `field_place_in_causes` its field, and
-/// `around` its surroundings; `judged` remembers long texts. (A cause has 150 bytes, too many to
-/// pass from value to value.)
+/// its rule. The value has the word `word`, the kind `kind`, and the surroundings `around`. It is
+/// in the field with the number `field_place_in_causes`. `judged` remembers long texts. (A cause
+/// has 150 bytes, too many to pass from value to value.)
 #[cycle(check)]
 fn check_value<'a>(
     adb: Adb<'a>,
@@ -356,8 +356,9 @@ fn check_value<'a>(
     }
 }
 
-/// Checks the entries of an array, as `check_value` does for one value; of adjacent equal words it
-/// checks only the first. `kind` is the kind of each entry, `field_place_in_causes` the field of the array.
+/// Checks the entries of an array, as `check_value` does for one value. Of adjacent equal words it
+/// checks only the first. Each entry has the kind `kind`, and the array is in the field with the
+/// number `field_place_in_causes`.
 #[cycle(check)]
 fn check_entries<'a>(
     adb: Adb<'a>,
@@ -514,7 +515,8 @@ fn check_number(field_place_in_causes: u16, n: u64) -> Option<u16>
     }
 }
 
-/// Checks the text of a word, and returns `field_place_in_causes` if the text breaks the rule of this field.
+/// Checks the text of a word, and returns `field_place_in_causes` if the text breaks the rule of
+/// this field.
 fn check_text(
     judged: &mut Judged<'_>,
     field_place_in_causes: u16,
@@ -547,7 +549,8 @@ pub fn the_first_bad_text_is_reported()
 {}
 
 /// A law: the text walk reports no fault in a value if and only if each text and number in the
-/// value obeys the rule of its field. *ObeysTextAndNumberRulesOfTable* states the rules for each table.
+/// value obeys the rule of its field. *ObeysTextAndNumberRulesOfTable* states the rules for each
+/// table.
 pub fn no_text_is_bad_where_each_keeps_its_rule()
     // No fault is reported if and only if the value obeys the rules of its table.
     ensures { (which : Which) (value : Plain) → (text_or_number_fault which value ≡ None)

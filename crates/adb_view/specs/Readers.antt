@@ -31,14 +31,15 @@ int_of payload word =
     (number_at w64 payload (low_28_bits word))
     else Err (WrongKind word)
 
--- the bytes of a blob at the offset `at` of the payload: the blob's length, a number of the width `w`, precedes them
+-- the bytes of the blob at the offset `at` of the payload. At this offset is the blob's length, a number of the
+-- width `w`, and the bytes follow it
 abbrev pub length_prefixed_bytes_at : Width → List ℕ → ℕ → Option (List ℕ)
 length_prefixed_bytes_at w payload at =
     option_and_then (λ len. bytes_at_with_len payload (at + byte_len w) len)
     (number_at w payload at)
 
--- the bytes of the blob to which `word` refers; their length in 1, 2 or 4 bytes (kinds 8, 9, 10) precedes them. NULL
--- has no bytes
+-- the bytes of the blob to which `word` refers. At the word's offset is their length in 1, 2 or 4 bytes (kinds 8,
+-- 9, 10), and then they follow. NULL has no bytes
 unfoldable pub blob_of : List ℕ → ℕ → Result (List ℕ) Cause
 blob_of payload word =
     if word == 0 then Ok []

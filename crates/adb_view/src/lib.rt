@@ -13,8 +13,8 @@
 //! - `Plain`: plain values and the shapes of fields;
 //! - `Shaped`: the values of a shape;
 //! - `Visits`: the words below a word;
-//! - `Schema`: the tables, and their shapes;
-//! - `FormatTables`: the tables as the formats list them;
+//! - `Schema`: the tables, as the program's constants have them, and the shapes of their fields;
+//! - `FormatTables`: the same tables, as `docs/formats.md` lists them;
 //! - `Walk`: the first fault of the walk;
 //! - `Values`: plain values of words, and their fields;
 //! - `ShapedPayload`: the contents of a walked payload.

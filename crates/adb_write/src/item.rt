@@ -328,6 +328,8 @@ fn blob_fingerprint(bytes: &[u8]) -> u64
 {
     // A number from the first four bytes, and from the four before the last two.
     let neighbourhood = low_nibbles(bytes, 0) + low_nibbles(bytes, bytes.len().saturating_sub(6));
+    // The neighbourhood is shifted by only 16 bits, so the top 6 of these 22 bits are added to its
+    // low 6 bits. So blobs of one neighbourhood can have 2^22 fingerprints, not only 2^16.
     let hash = blob_hash(bytes).wrapping_add(bytes.len() as u64) % (1 << 22);
     (neighbourhood * (1 << 16) + hash) % (1 << 32)
 }
@@ -387,7 +389,7 @@ fn entries<'a>(adb: &Adb<'a>, list: ListKind, word: Val) -> Result<Arr<'a>, Caus
 {
     match list {
         ListKind::Array => adb.arr(word),
-        // Only the entries are read, no field.
+        // `0`: no field is read by its number, since all entries are returned.
         ListKind::Object => Ok(adb.obj::<0>(word)?.entries()),
     }
 }

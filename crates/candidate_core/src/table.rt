@@ -156,7 +156,8 @@ impl<'a> Table<'a> {
     }
 }
 
-// Adds a name with its first candidate to the map `singles`.
+// Adds a name with its first candidate to the map `singles`, which has the first candidate of each
+// name.
 fn insert_single<'a>(
     singles: &mut IndexMap<&'a [u8], CandId>,
     name: &'a [u8],

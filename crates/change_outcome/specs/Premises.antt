@@ -10,7 +10,7 @@ use Rattle.change_inputs.specs.Inputs.{Root}
 use Rattle.change_inputs.specs.World.{found_text_or_empty}
 use Rattle.root_names.specs.RootNames.{database_name, world_name}
 
--- no package before the change and no added package lists a reserved path
+-- no package before the change and no added package lists a reserved path (`docs/formats.md`, "The texts")
 pub record OldAndAddedPackagesListNoReservedPath (change : FileChange) : Type 0 where
   -- no package before lists a reserved path
   pub before : All (λ l. is_reserved l.path ≡ false) (old_listings change)

@@ -1,4 +1,4 @@
--- When flags, operands and values form a command: each is allowed for its applet, and none is missing.
+-- When flags, operands and values form a command: each is allowed for its applet, and no required value is missing.
 -- The rules are in `docs/commands.md`, "Words", the table of options and what follows it.
 use Rattle.std.specs.Prelude.{ℕ, ◌==◌, nat_le, Bool, true, false, not, ◌&&◌, ◌||◌, List, [], ◌∷◌, length, Option, Some, None, IsTrue}
 use Rattle.std.specs.List.{find, list_all, list_any}
@@ -116,7 +116,7 @@ are_allowed_values rules (v ∷ vs) =
 
 -- ---- the command
 
--- whether the applet may have flags, operands and values together, and none is missing
+-- whether the applet may have flags, operands and values together, and no required value is missing
 abbrev pub is_valid_command : CommandLine → Bool
 is_valid_command c =
     may_have_flags c.applet c.flags
@@ -124,6 +124,6 @@ is_valid_command c =
     && are_allowed_values (value_rules c.applet) c.values
     && not (is_required_value_missing (required_option_letter c.applet) c.values)
 
--- a command line is valid: its applet may have its flags, operands and values, and none is missing
+-- a command line is valid: its applet may have its flags, operands and values, and no required value is missing
 abbrev pub IsValidCommand : CommandLine → Type 0
 IsValidCommand command = IsTrue (is_valid_command command)

@@ -287,7 +287,7 @@ impl Command {
         values: Values,
         behind: u32,
     ) -> Command
-        // The applet may have these flags, operands and values, and none is missing.
+        // The applet may have these flags, operands and values, and no required value is missing.
         requires { IsTrue (is_valid_command
             (command_from_parts_and_end_place applet flags operands values behind)) }
         ensures { result ≡ command_from_parts_and_end_place applet flags operands values behind }

@@ -156,8 +156,8 @@ pub struct Operand {
 struct OperandEntry {
     /// The operand.
     operand: Operand,
-    // The name of the file. It is read when the operand is added, so that lending it allocates no
-    // memory.
+    // The name of the file that the text names; None if the text is no valid name. It is made when
+    // the operand is added, so that lending it allocates no memory.
     file: Option<Name>,
 }
 

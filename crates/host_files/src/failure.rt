@@ -40,7 +40,7 @@ pub enum Reason {
 }
 
 impl Reason {
-    /// The reason as it is printed.
+    /// The reason as it is printed, after the paths of the call: `apk: CALL PATH: REASON`.
     pub fn text(self) -> &'static str {
         match self {
             Reason::Link => "Is a symbolic link",
@@ -54,7 +54,7 @@ impl Reason {
             Reason::LostWrite => "An earlier write was lost",
             Reason::Locked => "Another run holds this folder",
             Reason::NoLockFolder => "Cannot be made",
-            Reason::SameName => "Is the same name",
+            Reason::SameName => "Already has this name",
             Reason::OtherFileSystem => "Is on another file system",
             Reason::Reserved => "Is a name of the program's own",
         }

@@ -44,9 +44,8 @@ NamesOutsideJournalAreDurableIfNoIntent w = w.names intent_name ≡ None → Nam
 -- What holds at each moment of a change that leads to `files`. The change begins at the tree `v`, the newest state of
 -- the history `old`; `now` is the history since.
 pub record IsRunOfStagedChange (files : Files) (v : TreeState) (old now : List TreeState) : Type 0 where
-  -- If the tree `v` is durable, each later moment is durable, and a crash at it leaves a state from before or that of
-  -- the files.
-  -- Until an intent of this change has been under its name, a crash leaves a state from before.
+  -- If the tree `v` is durable, each later moment is durable, and a crash at it leaves a state from before or that
+  -- of the files. Until an intent of this change has been under its name, a crash leaves a state from before.
   pub moments : (ignored : List ℕ → Bool) → IsDurable (StateDependsOn ignored) v
       → SinceGivenEarlierAddedMoments (IsOldUntilCommit ignored files v) old now
   -- at each moment the files as read are the old ones, except for staged files; or recovery by an intent leaves the

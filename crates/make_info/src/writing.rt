@@ -212,8 +212,8 @@ pub fn write_number(draft: &mut Draft, number: Option<u64>) -> Result<(), AllocE
 }
 
 // The match number of a dependency: its operator's, plus 16 for a conflict, and 23 (7 and 16) for a
-// conflict without version. None if there is no conflict, and any version is allowed or only the
-// named one (`=`, which is 1).
+// conflict without version. None for a dependency that is no conflict, and that allows any version
+// or only the named one (`=`, which is 1).
 fn match_number_of(dep: &Dep<'_>) -> Option<u64>
     ensures { result ≡ (dep_value (dependency dep.now)).matching }
 {

@@ -14,7 +14,7 @@ use Rattle.package_verifier.specs.declared.files.FilesTest.{FilesTest}
 use Rattle.package_verifier.specs.declared.files.FilesTest.TheVariants.{Bad, Sound}
 use Rattle.package_verifier.specs.declared.places.FilePlace.{FilePlace}
 
--- ---- of the bytes of a package
+-- ---- places in the bytes of a package
 
 -- the contents are those of the file with the positions of this place, and begin at its offset in a
 -- package of these bytes

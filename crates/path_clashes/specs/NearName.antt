@@ -119,7 +119,8 @@ pub record IsNewClashOverSomeFiles (change : NameChange) (before name : List ℕ
 -- written name before it.
 pub record MayBeClashNear (change : NameChange) (before name : List ℕ)
     (found : Option NamePair) : Type 0 where
-  -- a found pair is a clash over some files
+  -- A found pair is a clash over some files. Its first name counts as written, or the pair is new at `name`
+  -- (*IsNewClashOverSomeFiles*).
   pub one : IfSome found (IsNewClashOverSomeFiles change before name)
   -- each folder above `name` is also above `before`; or, with written names alone, it makes no clash with `name` that
   -- precedes the found pair

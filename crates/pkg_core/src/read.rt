@@ -46,8 +46,8 @@ pub fn read_front<T: Tree>(
         × (front_end front ≡ length seen)
         × ((file : List ℕ) → length file ≡ front_file_len front → HasBytesAtOffset file 0 seen
         → IsFrontOf schema file front))) }
-    // The tree is unchanged. `Disk` is returned only if the tree failed, and no call is a misuse if
-    // the tree is observable.
+    // The tree is unchanged. `Disk` (below: `DiskFault`) is returned only if the tree failed, and
+    // no call is a misuse if the tree is observable.
     ensures tree { OnlyReads DiskFault (T.history tree.old) (T.history tree.new)
         (T.counts tree.old) (T.counts tree.new) result }
 {
@@ -93,8 +93,8 @@ impl Header {
             → AreBytesRead (T.history tree.old) name.now file_len 0 header) }
         // The only error is that the tree failed.
         ensures disk { IfErr result (λ fault. fault ≡ DiskFault) }
-        // The tree is unchanged. `Disk` is returned only if the tree failed, and no call is a
-        // misuse if the tree has a file of this length under the name.
+        // The tree is unchanged. `Disk` (below: `DiskFault`) is returned only if the tree failed,
+        // and no call is a misuse if the tree has a file of this length under the name.
         ensures tree { ReadsFile name.now len DiskFault (T.history tree.old) (T.history tree.new)
             (T.counts tree.old) (T.counts tree.new) result }
     {
@@ -130,8 +130,8 @@ fn read_payload<T: Tree>(
         → AreBytesRead (T.history tree.old) name.now file_len at payload.items) }
     // An error is that the tree failed, or out of memory.
     ensures good { IfErr result (λ fault. IsDiskOrMemoryFault fault) }
-    // The tree is unchanged. `Disk` is returned only if the tree failed, and no call is a misuse if
-    // the tree has a file of this length under the name.
+    // The tree is unchanged. `Disk` (below: `DiskFault`) is returned only if the tree failed, and
+    // no call is a misuse if the tree has a file of this length under the name.
     ensures tree { (file_len : ℕ) → at + len ≤ file_len → ReadsFile name.now file_len DiskFault
         (T.history tree.old) (T.history tree.new) (T.counts tree.old) (T.counts tree.new) result }
 {
@@ -156,8 +156,8 @@ fn read_present<T: Tree>(
     ensures front { (seen : List ℕ) × IsSeenIn (T.history tree.old) name.now len 0 seen
         × ((file : List ℕ) → length file ≡ len → HasBytesAtOffset file 0 seen
         → IsFrontReadOfFile schema result (length seen) file) }
-    // The tree is unchanged. `Disk` is returned only if the tree failed, and no call is a misuse if
-    // the tree has a file of this length under the name.
+    // The tree is unchanged. `Disk` (below: `DiskFault`) is returned only if the tree failed, and
+    // no call is a misuse if the tree has a file of this length under the name.
     ensures tree { ReadsFile name.now len DiskFault (T.history tree.old) (T.history tree.new)
         (T.counts tree.old) (T.counts tree.new) result }
 {

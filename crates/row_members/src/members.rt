@@ -48,8 +48,8 @@ pub fn name_at<'a>(db: &Db<'a>, i: usize, _mark: PhantomData<PackageView<'a>>) -
 }
 
 /// Adds the installed package with the index `i` in the database as a kept member. Returns false,
-/// and adds nothing, if there is no such package, or if its name is not after the names of the
-/// members.
+/// and adds nothing, if there are `MOST_MEMBERS` members already, if there is no such package, or
+/// if its name is not after the names of the members.
 pub fn add_installed(members: &mut Members<'_>, i: usize) -> Result<bool, AllocError> {
     if members.len() >= MOST_MEMBERS || i >= members.db().len() {
         return Ok(false);
@@ -62,7 +62,8 @@ pub fn add_installed(members: &mut Members<'_>, i: usize) -> Result<bool, AllocE
 }
 
 /// Adds the package with this front as an added member. Returns false, and adds nothing, if the
-/// package is bad, or if its name is not after the names of the members.
+/// package is bad, if there are `MOST_MEMBERS` members already, or if its name is not after the
+/// names of the members.
 pub fn add_coming<'a>(
     alloc: Global,
     members: &mut Members<'a>,
@@ -75,8 +76,8 @@ pub fn add_coming<'a>(
     }
 }
 
-/// Adds a package as an added member. Returns false, and adds nothing, if there are too many
-/// members, or if its name is not after the names of the members.
+/// Adds a package as an added member. Returns false, and adds nothing, if there are `MOST_MEMBERS`
+/// members already, or if its name is not after the names of the members.
 fn add_contents<'a>(
     members: &mut Members<'a>,
     contents: &Contents<'a>,

@@ -89,7 +89,7 @@ fn name_at<'a>(pool: &'a Sealed<'_>, id: CandId) -> &'a [u8]
     }
 }
 
-// Appends the rank of the candidate `id` (its index in the list of install-ifs) under the name of
+// Appends `rank`, the index of the candidate `id` in the list of install-ifs, under the name of
 // each entry of its install-if.
 fn add_install_if<'p>(
     waiting: &mut NameTable<'p, usize>,

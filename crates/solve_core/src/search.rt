@@ -454,8 +454,8 @@ impl<'p> Search<'p> {
     }
 }
 
-// Remembers where an option is ruled out, in place of an earlier entry. No contract mentions hints:
-// a wrong one only costs time.
+// Remembers where an option is ruled out (the turn, and the index in its frame), in place of an
+// earlier entry. No contract mentions hints: a wrong one only costs time.
 fn remember(hints: &mut Vec<Option<Hint>>, id: CandId, hint: Hint) -> Result<(), AllocError> {
     let place = id.place as usize;
     while hints.len() <= place {
