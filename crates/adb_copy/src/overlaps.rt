@@ -92,7 +92,7 @@ pub struct Overlaps {
     words: BTreeMap<(usize, usize), u32>,
     /// Maps the word of a text in the draft and a stretch of the payload to the offset of the last
     /// remembered text with this word there.
-    places: BTreeMap<(u32, usize), usize>,
+    text_offsets: BTreeMap<(u32, usize), usize>,
     /// Maps the relative places of two equal texts (`repeat_place`) to the index in `ranges` of the
     /// last range that was found with such texts.
     repeats: BTreeMap<(usize, usize, usize), usize>,
@@ -107,7 +107,7 @@ impl Overlaps {
             ranges: Vec::new(alloc),
             latest: BTreeMap::new(alloc),
             words: BTreeMap::new(alloc),
-            places: BTreeMap::new(alloc),
+            text_offsets: BTreeMap::new(alloc),
             repeats: BTreeMap::new(alloc),
         }
     }
@@ -243,7 +243,7 @@ impl Overlaps {
         // Two equal texts of one stretch have the distance between them as a period.
         let place = (known.word(), text.stretch());
         // The last text in this stretch with the same word in the draft is equal to this text.
-        if let Some(from) = self.places.insert(place, text.from)? {
+        if let Some(from) = self.text_offsets.insert(place, text.from)? {
             self.keep_range(adb, text, text.from.abs_diff(from))?;
         }
         self.keep_word(text, word)

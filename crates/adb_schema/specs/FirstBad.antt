@@ -1,6 +1,5 @@
 -- When a text or number is the first that breaks its rule. Serves the law
--- `the_first_bad_text_is_reported`; the rule is in `docs/formats.md`, "The texts" ("The first that
--- breaks its rule").
+-- `the_first_bad_text_is_reported`; the rule is in `docs/formats.md`, "The texts".
 use Rattle.std.specs.Prelude.{◌≡◌, ℕ, ◌<◌, true, false, List, slice_get, Option, Some, None}
 use Rattle.std.specs.List.{list_all}
 use Rattle.base_core.specs.declared.cause.Cause.{Cause}

@@ -1,5 +1,5 @@
 -- Plain values, the shapes by which words are read, and the plain value of a word. All crates that read or write
--- containers use them. The rules are in `docs/formats.md`, "Values" ("A table of fields gives each word a shape").
+-- containers use them. The rules are in `docs/formats.md`, "Values".
 use Rattle.std.specs.Prelude.{◌≡◌, ◌≢◌, ℕ, suc, ◌<◌, ◌^◌, List, [], ◌∷◌, Option, Some, None, option_map, option_and_then, Result, Ok, Err, ◌==◌, if◌then◌else◌}
 use Rattle.adb_view.specs.Readers.{int_of, blob_of, run_entries_of_kind_in_payload_at_word, ARRAY, OBJECT}
 use Rattle.adb_view.specs.Head.{root_word_of_payload}

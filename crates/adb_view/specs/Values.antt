@@ -1,5 +1,5 @@
 -- The plain value of a word that is known to have one, and the fields and entries of plain values. Most contracts on
--- containers use them. The rule is in `docs/formats.md`, "Values" ("A table of fields gives each word a shape").
+-- containers use them. The rule is in `docs/formats.md`, "Values".
 use Rattle.std.specs.Prelude.{ℕ, zero, suc, Bool, List, [], is_some, Option, unwrap_or, option_map, slice_get}
 use Rattle.adb_view.specs.Plain.{Plain, null, int, blob, arr, obj, Plains, none, more, plain_of}
 pub use Rattle.adb_view.specs.Plain.{count_of}

@@ -52,9 +52,9 @@ with_flag Check flags = record flags { check = true }
 
 -- the flags of which each selects the kind of a command (which of its tasks it does): those of `info`, of `list`, and
 -- of `version`
-abbrev pub kinds : List Flag
-kinds = Installed ∷ (Contents ∷ (Depends ∷ (WhoOwns ∷ (Test ∷ (Check ∷ [])))))
+abbrev pub command_kind_flags : List Flag
+command_kind_flags = Installed ∷ (Contents ∷ (Depends ∷ (WhoOwns ∷ (Test ∷ (Check ∷ [])))))
 
 -- whether a flag that selects the kind of the command was given
 abbrev pub has_command_kind_flag : Flags → Bool
-has_command_kind_flag flags = list_any (λ flag. has_flag flag flags) kinds
+has_command_kind_flag flags = list_any (λ flag. has_flag flag flags) command_kind_flags

@@ -13,7 +13,7 @@ use Rattle.command_core.specs.declared.values.OptionValue.{OptionValue}
 use Rattle.command_core.specs.declared.values.ValueRule.{ValueRule}
 use Rattle.command_core.specs.Applets.{required_option_letter, operand_rule_if_needed_kind_flag_given}
 use Rattle.command_core.specs.Command.{CommandLine}
-use Rattle.command_core.specs.Flags.{has_flag, kinds, no_flags, with_flag}
+use Rattle.command_core.specs.Flags.{has_flag, command_kind_flags, no_flags, with_flag}
 use Rattle.command_core.specs.Operands.{is_operand_of_kind}
 use Rattle.command_core.specs.Values.{compression_rule, description_rule, excludes, files_rule, info_rule, is_value_of_kind, is_required_value_missing, output_rule, script_rule, repeatable_nonempty_trigger_rule}
 
@@ -58,7 +58,7 @@ allowed_flags applet = common_flags
 -- whether an applet may have the flags that were given: each is allowed for the applet, and at most one selects the
 -- kind of the command
 abbrev pub may_have_flags : Applet → Flags → Bool
-may_have_flags applet flags = are_flags_allowed (allowed_flags applet) flags && has_at_most_one kinds flags
+may_have_flags applet flags = are_flags_allowed (allowed_flags applet) flags && has_at_most_one command_kind_flags flags
 
 -- ---- operands
 

@@ -15,7 +15,7 @@ ghost use Rattle.command_core.specs.declared.operands.OperandRule.{OperandRule};
 ghost use Rattle.command_core.specs.declared.values.OptionValue.{OptionValue};
 
 use crate::texts::{
-    is_demo_number, is_file_argument, is_name_with_optional_leading_slash, is_pattern, read_file,
+    file_name, is_demo_number, is_file_argument, is_name_with_optional_leading_slash, is_pattern,
 };
 use crate::values::{FILES, OUTPUT, SCRIPT};
 use base_core::{Name, Text};
@@ -205,7 +205,7 @@ impl Operands {
         ensures ok { OnOk result (self.new ≡ self.old ++ operand_at place word.now ∷ []) }
         ensures err { OnErr result (self.new ≡ self.old) }
     {
-        let file = read_file(self.alloc, word)?;
+        let file = file_name(self.alloc, word)?;
         let text = Text::of(self.alloc, word)?;
         self.entries.push(OperandEntry {
             operand: Operand { place, text },

@@ -54,7 +54,7 @@ pub(crate) fn is_file_argument(text: &[u8]) -> bool
 
 /// The name of the file that a text names: the text without one leading `./`. None if that is no
 /// valid name.
-pub(crate) fn read_file(alloc: Global, text: &[u8]) -> Result<Option<Name>, AllocError>
+pub(crate) fn file_name(alloc: Global, text: &[u8]) -> Result<Option<Name>, AllocError>
     ensures { IfOk result (λ file. file ≡ file_name text.now) }
 {
     Name::read(alloc, without_one_leading_dot_slash(text))

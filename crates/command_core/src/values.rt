@@ -8,7 +8,7 @@ ghost use Rattle.command_core.specs.Values.{excludes, is_excluded_by_earlier_val
 ghost use Rattle.command_core.specs.declared.values.OptionValue.{OptionValue};
 
 use crate::texts::{
-    is_file_argument, is_file_argument_within_output_length, is_script_argument, read_file,
+    file_name, is_file_argument, is_file_argument_within_output_length, is_script_argument,
     script_file, script_type,
 };
 use base_core::{Name, Text};
@@ -290,7 +290,7 @@ fn read_value_file(alloc: Global, letter: u8, text: &[u8]) -> Result<Option<Name
     ensures { IfOk result (λ file. file ≡ file_name (file_part_of_value letter text.now)) }
 {
     if letter == SCRIPT {
-        return read_file(alloc, script_file(text));
+        return file_name(alloc, script_file(text));
     }
-    read_file(alloc, text)
+    file_name(alloc, text)
 }

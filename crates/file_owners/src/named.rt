@@ -1,7 +1,6 @@
 //! `places_of_each`: for each member, which members its field `replaces` names.
-//! The rule is in `docs/commands.md`, "Files that several packages list": "One package *names*
-//! another where an entry of its `replaces` that is no conflict is met by the other's name and
-//! version." Since no two members have one name, an entry names one at most.
+//! The rule is in `docs/commands.md`, "Files that several packages list". No two members have the
+//! same name, so an entry names at most one member.
 
 ghost use Rattle.std.specs.Prelude.{◌≡◌, ◌==◌, IfOk, map, true};
 ghost use Rattle.std.specs.List.{list_any};

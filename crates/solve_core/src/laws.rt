@@ -1,6 +1,5 @@
 //! Theorems about selections and walks, each proved as the contract of an empty function. The rules
-//! are in `docs/selection.md`, "Which selection is taken": "the selection that is taken is the
-//! *first* one" and the text after it.
+//! are in `docs/selection.md`, "Which selection is taken".
 ghost use Rattle.std.specs.Prelude.{◌≡◌, ◌⊎◌, ℕ, true, List, [], ◌∷◌, ◌++◌, Some};
 ghost use Rattle.search_choices.specs.candidate_core.Candidates.{Need};
 ghost use Rattle.search_choices.specs.candidate_core.Rank.{SelectionProblem, is_better, meets_at};

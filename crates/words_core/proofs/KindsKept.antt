@@ -13,7 +13,7 @@ use Rattle.command_core.specs.declared.command.Flag.{Flag}
 use Rattle.command_core.specs.declared.command.Flag.TheVariants.{AllowUntrusted, Check, Contents, Depends, Initdb, Installed, NoScripts, Purge, Simulate, Test, WhoOwns}
 use Rattle.command_core.specs.declared.command.Flags.{Flags}
 use Rattle.command_core.specs.Sound.{allowed_flags, may_have_flags, all_flags, are_flags_allowed, has_at_most_one}
-use Rattle.command_core.specs.Flags.{has_flag, has_command_kind_flag, kinds, no_flags, with_flag}
+use Rattle.command_core.specs.Flags.{has_flag, has_command_kind_flag, command_kind_flags, no_flags, with_flag}
 use Rattle.words_core.specs.declared.options.Meaning.{Meaning}
 use Rattle.words_core.specs.declared.options.Meaning.TheVariants.{Flag as Plain, Kind, Value}
 use Rattle.words_core.specs.declared.reading.AppletSite.{AppletSite}
@@ -131,7 +131,7 @@ pub within_less : (allowed flags : Flags) (g : Flag) → are_flags_allowed allow
 within_less allowed flags g w =
     within_from allowed flags (λ f h. within_at allowed (with_flag g flags) f w (has_more flags g f h))
 
--- ---- kinds
+-- ---- command_kind_flags
 
 abbrev pub is_kind : Flag → Bool
 is_kind Installed = true
@@ -143,7 +143,7 @@ is_kind Check = true
 is_kind flag = false
 
 -- a flag that is no kind changes nothing
-single_plain : (g : Flag) (flags : Flags) → is_kind g ≡ false → has_at_most_one kinds flags ≡ true → has_at_most_one kinds (with_flag g flags) ≡ true
+single_plain : (g : Flag) (flags : Flags) → is_kind g ≡ false → has_at_most_one command_kind_flags flags ≡ true → has_at_most_one command_kind_flags (with_flag g flags) ≡ true
 single_plain Installed flags k s = absurd (true≢false k)
 single_plain Contents flags k s = absurd (true≢false k)
 single_plain Depends flags k s = absurd (true≢false k)
@@ -168,7 +168,7 @@ flags_by a b c d e i o p w t k = record {
 }
 
 -- the first kind is the only one
-single_first_by : (g : Flag) (a b c d e i o p w t k : Bool) → has_command_kind_flag (flags_by a b c d e i o p w t k) ≡ false → has_at_most_one kinds (with_flag g (flags_by a b c d e i o p w t k)) ≡ true
+single_first_by : (g : Flag) (a b c d e i o p w t k : Bool) → has_command_kind_flag (flags_by a b c d e i o p w t k) ≡ false → has_at_most_one command_kind_flags (with_flag g (flags_by a b c d e i o p w t k)) ≡ true
 single_first_by g a b c d e true o p w t k h = absurd (true≢false h)
 single_first_by g a b c d e false true p w t k h = absurd (true≢false h)
 single_first_by g a b c d e false false true w t k h = absurd (true≢false h)
@@ -187,7 +187,7 @@ single_first_by WhoOwns a b c d e false false false false false false h = refl
 single_first_by Test a b c d e false false false false false false h = refl
 single_first_by Check a b c d e false false false false false false h = refl
 
-pub single_first : (g : Flag) (s : Flags) → has_command_kind_flag s ≡ false → has_at_most_one kinds (with_flag g s) ≡ true
+pub single_first : (g : Flag) (s : Flags) → has_command_kind_flag s ≡ false → has_at_most_one command_kind_flags (with_flag g s) ≡ true
 single_first g s h = single_first_by g s.allow_untrusted s.no_scripts s.initdb s.simulate s.purge s.installed s.contents s.depends s.who_owns s.test s.check h
 
 any_more : (flags more : Flags) (xs : List Flag) → ((f : Flag) → has_flag f flags ≡ true → has_flag f more ≡ true) → list_any (λ f. has_flag f flags) xs ≡ true → list_any (λ f. has_flag f more) xs ≡ true
@@ -246,7 +246,7 @@ clash flags more g (x ∷ xs) m n o (inr later) h =
     and_false true c h = h
     and_false false c h = refl
 
-among_kinds : (g : Flag) → is_kind g ≡ true → IsOneOf g kinds
+among_kinds : (g : Flag) → is_kind g ≡ true → IsOneOf g command_kind_flags
 among_kinds Installed k = inl refl
 among_kinds Contents k = inr (inl refl)
 among_kinds Depends k = inr (inr (inl refl))
@@ -255,8 +255,8 @@ among_kinds Test k = inr (inr (inr (inr (inl refl))))
 among_kinds Check k = inr (inr (inr (inr (inr (inl refl)))))
 among_kinds g k = absurd (false≢true k)
 
-pub second_kind : (g : Flag) (flags : Flags) → is_kind g ≡ true → has_command_kind_flag flags ≡ true → has_flag g flags ≡ false → has_at_most_one kinds (with_flag g flags) ≡ false
-second_kind g flags k h n = clash flags (with_flag g flags) g kinds (has_more flags g) n (has_it flags g) (among_kinds g k) h
+pub second_kind : (g : Flag) (flags : Flags) → is_kind g ≡ true → has_command_kind_flag flags ≡ true → has_flag g flags ≡ false → has_at_most_one command_kind_flags (with_flag g flags) ≡ false
+second_kind g flags k h n = clash flags (with_flag g flags) g command_kind_flags (has_more flags g) n (has_it flags g) (among_kinds g k) h
 
 -- ---- the flags of an applet
 
@@ -279,16 +279,16 @@ unfolding common_options options_of
 own_meanings Add = refl
 own_meanings applet = refl
 
-may_have_with : (applet : Applet) (flags : Flags) (g : Flag) → has_flag g (allowed_flags applet) ≡ true → has_at_most_one kinds (with_flag g flags) ≡ true → may_have_flags applet flags ≡ true → may_have_flags applet (with_flag g flags) ≡ true
+may_have_with : (applet : Applet) (flags : Flags) (g : Flag) → has_flag g (allowed_flags applet) ≡ true → has_at_most_one command_kind_flags (with_flag g flags) ≡ true → may_have_flags applet flags ≡ true → may_have_flags applet (with_flag g flags) ≡ true
 may_have_with applet flags g o s m =
-    and_from (are_flags_allowed (allowed_flags applet) (with_flag g flags)) (has_at_most_one kinds (with_flag g flags))
-    (within_with (allowed_flags applet) flags g o (and_parts (are_flags_allowed (allowed_flags applet) flags) (has_at_most_one kinds flags) m).0) s
+    and_from (are_flags_allowed (allowed_flags applet) (with_flag g flags)) (has_at_most_one command_kind_flags (with_flag g flags))
+    (within_with (allowed_flags applet) flags g o (and_parts (are_flags_allowed (allowed_flags applet) flags) (has_at_most_one command_kind_flags flags) m).0) s
 
 pub meaning_kept : (applet : Applet) (flags : Flags) (meaning : Meaning) → is_own_meaning applet meaning ≡ true → may_have_flags applet flags ≡ true → pass_or_none (may_have_flags applet) (flags_with_meaning_if_one_command_kind flags meaning) ≡ true
 meaning_kept applet flags (Value rule) o m = refl
 meaning_kept applet flags (Plain g) o m =
     let own = and_parts (has_flag g (allowed_flags applet)) (not (is_kind g)) o in
-    may_have_with applet flags g own.0 (single_plain g flags (is_not (is_kind g) own.1) (and_parts (are_flags_allowed (allowed_flags applet) flags) (has_at_most_one kinds flags) m).1) m
+    may_have_with applet flags g own.0 (single_plain g flags (is_not (is_kind g) own.1) (and_parts (are_flags_allowed (allowed_flags applet) flags) (has_at_most_one command_kind_flags flags) m).1) m
   where
     is_not : (b : Bool) → not b ≡ true → b ≡ false
     is_not true h = sym h

@@ -12,7 +12,7 @@ use Rattle.command_core.specs.declared.command.Flags.{Flags}
 use Rattle.command_core.specs.declared.values.OptionValue.{OptionValue}
 use Rattle.command_core.specs.declared.values.ValueRule.{ValueRule}
 use Rattle.command_core.specs.Sound.{allowed_flags, may_have_flags, are_flags_allowed, has_at_most_one, may_both_be_given, are_allowed_values, are_exclusive_values, is_allowed_value, value_rule_of_letter}
-use Rattle.command_core.specs.Flags.{has_flag, has_command_kind_flag, kinds, with_flag}
+use Rattle.command_core.specs.Flags.{has_flag, has_command_kind_flag, command_kind_flags, with_flag}
 use Rattle.command_core.specs.Values.{excludes, is_excluded_by_earlier_value, is_given, is_single_and_given, is_value_of_kind, option_value_from_place_letter_and_text}
 use Rattle.words_core.specs.declared.options.Meaning.{Meaning}
 use Rattle.words_core.specs.declared.options.Meaning.TheVariants.{Flag as Plain, Kind, Value}
@@ -31,10 +31,10 @@ same_tail x y xs ys e = cc
 -- flags are an applet's where they are so with one more
 pub less_by : (applet : Applet) (flag : Flag) (flags : Flags) → may_have_flags applet (with_flag flag flags) ≡ true → may_have_flags applet flags ≡ true
 less_by applet flag flags m =
-    let parts = and_parts (are_flags_allowed (allowed_flags applet) (with_flag flag flags)) (has_at_most_one kinds (with_flag flag flags)) m in
-    and_from (are_flags_allowed (allowed_flags applet) flags) (has_at_most_one kinds flags)
+    let parts = and_parts (are_flags_allowed (allowed_flags applet) (with_flag flag flags)) (has_at_most_one command_kind_flags (with_flag flag flags)) m in
+    and_from (are_flags_allowed (allowed_flags applet) flags) (has_at_most_one command_kind_flags flags)
     (within_less (allowed_flags applet) flags flag parts.0)
-    (single_less flags (with_flag flag flags) kinds (has_more flags flag) parts.1)
+    (single_less flags (with_flag flag flags) command_kind_flags (has_more flags flag) parts.1)
 
 pub less_with : (applet : Applet) (flags more : Flags) (held : Option (List ℕ)) (meaning : Meaning) → flags_with_held_meaning flags held meaning ≡ Some more → may_have_flags applet more ≡ true → may_have_flags applet flags ≡ true
 less_with applet flags more held (Value rule) e m = subst (λ f. may_have_flags applet f ≡ true) (sym (same_Some flags more e)) m
@@ -82,7 +82,7 @@ stands_by applet flags (Kind flag) own =
       | false ↦ λ h. refl
       | true ↦ λ h. elim (has_flag flag flags) as (λ b. has_flag flag flags ≡ b → (is_some (if not b then None else Some (with_flag flag flags)) || not (may_have_flags applet (with_flag flag flags))) ≡ true) [
         | true ↦ λ e. refl
-        | false ↦ λ e. ap not (and_right (are_flags_allowed (allowed_flags applet) (with_flag flag flags)) (has_at_most_one kinds (with_flag flag flags)) (second_kind flag flags kind h e))
+        | false ↦ λ e. ap not (and_right (are_flags_allowed (allowed_flags applet) (with_flag flag flags)) (has_at_most_one command_kind_flags (with_flag flag flags)) (second_kind flag flags kind h e))
       ] refl
     ] refl
 
