@@ -1,6 +1,5 @@
 //! Theorems about the definitions, for every value, each proved as the contract of an empty
-//! function. The rule is in `docs/formats.md`, "Dump text": "A container's value has one text, and
-//! no other normal value of the same schema has that text." Normal values are defined in "Values"
+//! function. The rule is in `docs/formats.md`, "Dump text". Normal values are defined in "Values"
 //! there.
 ghost use Rattle.std.specs.Prelude.{◌≡◌, ◌<◌, ℕ, All, List, IfSome, Ok, Some};
 ghost use Rattle.adb_view.specs.Plain.{Plain, IsNormal, plain_of};

@@ -1,7 +1,6 @@
 //! The readers of words that the walk in `walk` calls. Each first calls the method of `Adb` that
 //! returns an Option. Only if this returns None, it calls the method that returns the cause of the
-//! failure. The result of each reader is defined in `docs/formats.md`, "Values" ("Who asks for an
-//! integer, a blob, an array or an object says which").
+//! failure. The result of each reader is defined in `docs/formats.md`, "Values".
 
 ghost use Rattle.std.specs.Prelude.{◌≡◌, IfErr, IfOk, Err, Ok};
 ghost use Rattle.adb_view.specs.Adb.{payload_of};

@@ -1,6 +1,6 @@
 -- The installed database of records (apk-v3(5)).
--- The rules are in `docs/formats.md`, "Text database of version 2", the column "Goes to" and the
--- paragraph on the value of records; the order of fields in "Schemas", tables 2 to 5, 7 and 9.
+-- The rules are in `docs/formats.md`, "Text database of version 2"; the order of fields is in "Schemas",
+-- tables 2 to 5, 7 and 9.
 use Rattle.std.specs.Prelude.{ℕ, List, [], ◌∷◌, map, Option, Some, None, if◌then◌else◌}
 use Rattle.std.specs.List.{find, flat_map}
 use Rattle.adb_view.specs.Plain.{Plain, null, int, blob_or_null, array_or_null, trimmed_object_or_null}

@@ -1,7 +1,7 @@
 //! Writes the package of a record into a draft (a payload that is being written), as an installed
 //! database has it (apk-v3(5)). `read.rt` calls `write_package` at the end of each record.
-//! The rules are in `docs/formats.md`, "Text database of version 2", the column "Goes to"; the
-//! order of fields in "Schemas", tables 2 to 5 and 7.
+//! The rules are in `docs/formats.md`, "Text database of version 2"; the order of fields is in
+//! "Schemas", tables 2 to 5 and 7.
 ghost use Rattle.v2_lines.specs.adb_values.Drafts.{draft_with, draft_with_all};
 ghost use Rattle.dep_core.specs.Meets.{dependency};
 ghost use Rattle.v2_lines.specs.make_info.Fields.{need};
