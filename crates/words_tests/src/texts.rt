@@ -45,6 +45,7 @@ pub(crate) fn add_refusal(
 enum Named {
     Usage,
     FileMissing,
+    TextBad,
     VersionBad,
     InfoBad,
     NotInstalled,
@@ -72,9 +73,10 @@ enum Named {
 
 // The text by which a row names each variant of a refusal.
 #[rattlefmt::skip]
-const REFUSALS: [(&[u8], Named); 25] = [
+const REFUSALS: [(&[u8], Named); 26] = [
     (b"usage", Named::Usage),
     (b"file-missing", Named::FileMissing),
+    (b"text-bad", Named::TextBad),
     (b"version-bad", Named::VersionBad),
     (b"info-bad", Named::InfoBad),
     (b"not-installed", Named::NotInstalled),
@@ -127,6 +129,10 @@ fn refusal_with_numbers(named: Named, words: &Words) -> Option<Refusal> {
     let refusal = match named {
         Named::Usage => Refusal::Usage { place },
         Named::FileMissing => Refusal::FileMissing { place },
+        Named::TextBad => Refusal::TextBad {
+            place,
+            line: long_at(words, 2),
+        },
         Named::VersionBad => Refusal::VersionBad { place },
         Named::InfoBad => Refusal::InfoBad { place },
         Named::NotInstalled => Refusal::NotInstalled { place },
