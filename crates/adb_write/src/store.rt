@@ -3,7 +3,7 @@
 //! values are stored once is stated in `docs/formats.md`, "Canonical layout" ("Equal values are
 //! stored once").
 
-ghost use Rattle.std.specs.Prelude.{◌≡◌, ◌≤◌, ◌-◌, [], ◌∷◌, ◌++◌, length, replicate, IfOk, OnOk, OnErr};
+ghost use Rattle.std.specs.Prelude.{◌≡◌, ◌≤◌, ◌-◌, [], ◌∷◌, ◌++◌, length, replicate, IfOk, IsOk, OnOk, OnErr};
 ghost use Rattle.std.specs.List.{concat};
 ghost use Rattle.adb_write.specs.Items.{item_of};
 ghost use Rattle.adb_write.specs.Keys.{fingerprint_of, key_of, locator_of, HaveRisingKeys};
@@ -44,6 +44,8 @@ impl Store {
         ensures payload { IfOk result (λ store. store.payload.items ≡ []) }
         // There are no pages of locators.
         ensures words { IfOk result (λ store. pages_of store.words ≡ []) }
+        // No memory is needed for no bytes.
+        ensures succeeds { bytes ≡ 0 → IsOk result }
     {
         let payload = Vec::with_capacity(alloc, bytes)?;
         Ok(Store {

@@ -3,7 +3,7 @@
 //! the layout below "Values are written depth first", the limits below "A payload has at most", the
 //! container below "In a container each block is padded".
 
-ghost use Rattle.std.specs.Prelude.{◌≡◌, ◌<◌, ◌≤◌, ◌+◌, ◌^◌, false, IfOk, OnErr, length};
+ghost use Rattle.std.specs.Prelude.{◌≡◌, ◌<◌, ◌≤◌, ◌+◌, ◌^◌, false, IfOk, IsOk, OnErr, length, vec_capacity};
 ghost use Rattle.adb_write.specs.Canonical.{MOST_BYTES, exceeds_a_limit, padding_to_alignment_from_offset, in_place, apart, array_or_object_cell, words_without_last_nulls};
 ghost use Rattle.adb_view.specs.Plain.{Plains, int, blob_or_null, array_or_null, trimmed_object_or_null};
 ghost use Rattle.adb_write.specs.DepthFirst.{WritesValueDepthFirst, WritesValuesDepthFirst};
@@ -139,7 +139,10 @@ impl Writer {
     ///
     /// Out of memory.
     pub fn with_capacity(alloc: Global, bytes: usize) -> Result<Writer, AllocError>
-        ensures { IfOk result (λ writer. writer ≡ empty_writing_counting_root) }
+        // On Ok, nothing has been written.
+        ensures empty { IfOk result (λ writer. writer ≡ empty_writing_counting_root) }
+        // No memory is needed for no bytes.
+        ensures succeeds { bytes ≡ 0 → IsOk result }
     {
         let store = Store::with_capacity(alloc, bytes)?;
         Ok(Writer {
@@ -398,8 +401,12 @@ pub fn file_of(alloc: Global, schema: u32, payload: &[u8]) -> Result<Vec<u8>, Al
 ///
 /// Out of memory.
 pub fn file_in_place(schema: u32, payload: Vec<u8>) -> Result<Vec<u8>, AllocError>
+    // The payload has at most as many bytes as the writer allows.
     requires { length payload.items ≤ MOST_BYTES }
-    ensures { IfOk result (λ file. file.items ≡ file_of schema payload.items) }
+    // On Ok, the bytes are those of the defined container.
+    ensures bytes { IfOk result (λ file. file.items ≡ file_of schema payload.items) }
+    // If the memory of the payload has room for the file, the call succeeds.
+    ensures succeeds { length (file_of schema payload.items) ≤ vec_capacity payload → IsOk result }
 {
     let head = block_head(BlockKind::Adb, payload.len() as u64);
     let head = head.bytes();
