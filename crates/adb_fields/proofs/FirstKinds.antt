@@ -11,7 +11,7 @@ use Rattle.adb_fields.specs.FirstPair.{IsPairOfEqualNames}
 use Rattle.adb_fields.specs.FirstPair.{IsIn}
 use Rattle.adb_view.specs.declared.tables.Which.TheVariants as Tables
 use Rattle.adb_view.specs.FieldIndexes.{DIR_NAME_INDEX, FILE_NAME_INDEX}
-use Rattle.adb_fields.specs.Repeated.{place_in_causes_of_field_at_index, numbered_from, least_positions_of_name_twice_in_list, least_positions_of_name_twice_in_one_list, repeated_cause, name_of, folders_in, files_in, fault_of_package_repeating_folder_or_file}
+use Rattle.adb_fields.specs.Repeated.{place_in_causes_of_field_at_index, numbered_from, least_positions_of_name_twice_in_list, least_positions_of_name_twice_in_one_list, repeated_cause, name_of, folders_in, files_in, fault_of_repeats_within_one_of_packages}
 use Rattle.adb_fields.specs.FirstPair.{ArePositionsOfNameTwiceInOneList}
 use Rattle.std.specs.Option.{option_or}
 use Rattle.adb_fields.specs.NamedTexts.{plains_of_array_words}
@@ -88,7 +88,7 @@ texts_after a b one two m e l h =
 
 -- ---- kind after kind
 
-pub one_package : (pkg : Plain) → option_or (repeated_cause (place_in_causes_of_field_at_index Tables.Dir DIR_NAME_INDEX) (least_positions_of_name_twice_in_list (map name_of (folders_in pkg)))) (repeated_cause (place_in_causes_of_field_at_index Tables.File FILE_NAME_INDEX) (least_positions_of_name_twice_in_one_list (map (λ folder. map name_of (files_in folder)) (folders_in pkg)))) ≡ fault_of_package_repeating_folder_or_file (pkg ∷ [])
+pub one_package : (pkg : Plain) → option_or (repeated_cause (place_in_causes_of_field_at_index Tables.Dir DIR_NAME_INDEX) (least_positions_of_name_twice_in_list (map name_of (folders_in pkg)))) (repeated_cause (place_in_causes_of_field_at_index Tables.File FILE_NAME_INDEX) (least_positions_of_name_twice_in_one_list (map (λ folder. map name_of (files_in folder)) (folders_in pkg)))) ≡ fault_of_repeats_within_one_of_packages (pkg ∷ [])
 one_package pkg = λ i. option_or (repeated_cause (place_in_causes_of_field_at_index Tables.Dir DIR_NAME_INDEX) (alone (map name_of (folders_in pkg)) i)) (repeated_cause (place_in_causes_of_field_at_index Tables.File FILE_NAME_INDEX) (alone_several (map (λ folder. map name_of (files_in folder)) (folders_in pkg)) i))
 
 -- ---- what is reported of several lists is the first pair of all

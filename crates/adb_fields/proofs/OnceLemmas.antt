@@ -11,7 +11,7 @@ use Rattle.adb_fields.specs.FirstPair.{IsLeastPairIfAny}
 use Rattle.adb_fields.specs.FirstPair.{IsPairOfEqualNames}
 use Rattle.adb_fields.specs.FirstPair.{IsIn}
 use Rattle.adb_view.specs.FieldIndexes.{DIR_NAME_INDEX, FILE_NAME_INDEX, IDB_PACKAGES_INDEX, INTENT_WRITES_INDEX}
-use Rattle.adb_fields.specs.Repeated.{place_in_causes_of_field_at_index, numbered_from, names_all_at_position, names_with_list_positions, least_positions_of_name_twice_in_list, least_positions_of_name_twice_in_one_list, least_pair_of_lists_sharing_a_name, entries_of_field_at_index, positions_of_folder_repeated_in_a_package, positions_of_file_repeated_in_a_folder, positions_of_repeated_package_name, pair_of_packages_listing_one_path, positions_of_repeated_intent_name, repeated_cause, fault_of_package_repeating_folder_or_file, fault_of_two_packages_sharing_name_or_path, repeated_fault}
+use Rattle.adb_fields.specs.Repeated.{place_in_causes_of_field_at_index, numbered_from, names_all_at_position, names_with_list_positions, least_positions_of_name_twice_in_list, least_positions_of_name_twice_in_one_list, least_pair_of_lists_sharing_a_name, entries_of_field_at_index, positions_of_folder_repeated_in_a_package, positions_of_file_repeated_in_a_folder, positions_of_repeated_package_name, pair_of_packages_listing_one_path, positions_of_repeated_intent_name, repeated_cause, fault_of_repeats_within_one_of_packages, fault_of_two_packages_sharing_name_or_path, repeated_fault}
 use Rattle.adb_fields.specs.Once.{AreDistinctNames, EachHasDistinctNames, IsInOneOf, ShareNoName, HaveNoRepeatInside, HaveNoRepeatBetween, HasNoForbiddenRepeatedName}
 use Rattle.adb_fields.proofs.Members.{in-front, in-behind, in-either, in-map, from-map}
 use Rattle.adb_fields.proofs.FirstPair.{least_pair_of_equal_names-first}
@@ -221,12 +221,12 @@ none_at : (n : ℕ) (o : Option Pair) → o ≡ None → repeated_cause n o ≡ 
 none_at n None e = refl
 none_at n (Some p) e = absurd (cc)
 
-inside_once : (packages : List Plain) → fault_of_package_repeating_folder_or_file packages ≡ None → HaveNoRepeatInside packages
+inside_once : (packages : List Plain) → fault_of_repeats_within_one_of_packages packages ≡ None → HaveNoRepeatInside packages
 inside_once packages e =
     let (a, b) = both_none (repeated_cause (place_in_causes_of_field_at_index Dir DIR_NAME_INDEX) (positions_of_folder_repeated_in_a_package packages)) (repeated_cause (place_in_causes_of_field_at_index File FILE_NAME_INDEX) (positions_of_file_repeated_in_a_folder packages)) e in
     record { folders = each_none _ (at_none (place_in_causes_of_field_at_index Dir DIR_NAME_INDEX) (positions_of_folder_repeated_in_a_package packages) a); files = each_none _ (at_none (place_in_causes_of_field_at_index File FILE_NAME_INDEX) (positions_of_file_repeated_in_a_folder packages) b) }
 
-once_inside : (packages : List Plain) → HaveNoRepeatInside packages → fault_of_package_repeating_folder_or_file packages ≡ None
+once_inside : (packages : List Plain) → HaveNoRepeatInside packages → fault_of_repeats_within_one_of_packages packages ≡ None
 once_inside packages d =
     none_both (repeated_cause (place_in_causes_of_field_at_index Dir DIR_NAME_INDEX) (positions_of_folder_repeated_in_a_package packages)) (repeated_cause (place_in_causes_of_field_at_index File FILE_NAME_INDEX) (positions_of_file_repeated_in_a_folder packages)) (none_at (place_in_causes_of_field_at_index Dir DIR_NAME_INDEX) (positions_of_folder_repeated_in_a_package packages) (none_each _ d.folders)) (none_at (place_in_causes_of_field_at_index File FILE_NAME_INDEX) (positions_of_file_repeated_in_a_folder packages) (none_each _ d.files))
 
@@ -239,8 +239,8 @@ once_between : (packages : List Plain) → HaveNoRepeatBetween packages → faul
 once_between packages d =
     none_both (repeated_cause (place_in_causes_of_field_at_index Idb IDB_PACKAGES_INDEX) (positions_of_repeated_package_name packages)) (repeated_cause (place_in_causes_of_field_at_index File FILE_NAME_INDEX) (pair_of_packages_listing_one_path packages)) (none_at (place_in_causes_of_field_at_index Idb IDB_PACKAGES_INDEX) (positions_of_repeated_package_name packages) (none_twice _ d.packages_once)) (none_at (place_in_causes_of_field_at_index File FILE_NAME_INDEX) (pair_of_packages_listing_one_path packages) (none_two _ d.paths_once))
 
-database_once : (packages : List Plain) → option_or (fault_of_package_repeating_folder_or_file packages) (fault_of_two_packages_sharing_name_or_path packages) ≡ None → HaveNoRepeatInside packages × HaveNoRepeatBetween packages
-database_once packages e = let (a, b) = both_none (fault_of_package_repeating_folder_or_file packages) (fault_of_two_packages_sharing_name_or_path packages) e in (inside_once packages a, between_once packages b)
+database_once : (packages : List Plain) → option_or (fault_of_repeats_within_one_of_packages packages) (fault_of_two_packages_sharing_name_or_path packages) ≡ None → HaveNoRepeatInside packages × HaveNoRepeatBetween packages
+database_once packages e = let (a, b) = both_none (fault_of_repeats_within_one_of_packages packages) (fault_of_two_packages_sharing_name_or_path packages) e in (inside_once packages a, between_once packages b)
 
 pub names_once : (which : Which) (v : Plain) → (repeated_fault which v ≡ None) ↔ HasNoForbiddenRepeatedName which v
 unfolding repeated_fault
@@ -254,6 +254,6 @@ names_once Package v = (inside_once (v ∷ []), once_inside (v ∷ []))
 names_once Index v = (λ e. tt, λ d. refl)
 names_once Idb v = (
   database_once (entries_of_field_at_index 0 v),
-  λ d. none_both (fault_of_package_repeating_folder_or_file (entries_of_field_at_index 0 v)) (fault_of_two_packages_sharing_name_or_path (entries_of_field_at_index 0 v)) (once_inside (entries_of_field_at_index 0 v) d.0) (once_between (entries_of_field_at_index 0 v) d.1),
+  λ d. none_both (fault_of_repeats_within_one_of_packages (entries_of_field_at_index 0 v)) (fault_of_two_packages_sharing_name_or_path (entries_of_field_at_index 0 v)) (once_inside (entries_of_field_at_index 0 v) d.0) (once_between (entries_of_field_at_index 0 v) d.1),
 )
 names_once Intent v = (λ e. twice_none _ (at_none (place_in_causes_of_field_at_index Intent INTENT_WRITES_INDEX) (positions_of_repeated_intent_name v) e), λ d. none_at (place_in_causes_of_field_at_index Intent INTENT_WRITES_INDEX) (positions_of_repeated_intent_name v) (none_twice _ d))

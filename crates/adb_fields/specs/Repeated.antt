@@ -132,8 +132,8 @@ repeated_cause number pair = option_map (λ p. Repeated number p.first p.second)
 
 -- the cause if one of these packages lists a folder twice, or else if one of its folders lists a file
 -- twice
-abbrev pub fault_of_package_repeating_folder_or_file : List Plain → Option Cause
-fault_of_package_repeating_folder_or_file packages =
+abbrev pub fault_of_repeats_within_one_of_packages : List Plain → Option Cause
+fault_of_repeats_within_one_of_packages packages =
     option_or (repeated_cause (place_in_causes_of_field_at_index Dir DIR_NAME_INDEX)
     (positions_of_folder_repeated_in_a_package packages))
     (repeated_cause (place_in_causes_of_field_at_index File FILE_NAME_INDEX)
@@ -150,9 +150,9 @@ fault_of_two_packages_sharing_name_or_path packages =
 -- the cause that reports a repeated name in the value of a container, whose root has the table `which`. The kinds of
 -- names are searched in this order, and the first kind with a repeated name is reported
 unfoldable pub repeated_fault : Which → Plain → Option Cause
-repeated_fault Package v = fault_of_package_repeating_folder_or_file (v ∷ [])
+repeated_fault Package v = fault_of_repeats_within_one_of_packages (v ∷ [])
 repeated_fault Idb v =
-    option_or (fault_of_package_repeating_folder_or_file (entries_of_field_at_index IDB_PACKAGES_INDEX v))
+    option_or (fault_of_repeats_within_one_of_packages (entries_of_field_at_index IDB_PACKAGES_INDEX v))
     (fault_of_two_packages_sharing_name_or_path (entries_of_field_at_index IDB_PACKAGES_INDEX v))
 repeated_fault Intent v =
     repeated_cause (place_in_causes_of_field_at_index Intent INTENT_WRITES_INDEX)

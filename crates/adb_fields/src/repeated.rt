@@ -11,7 +11,7 @@ ghost use Rattle.adb_fields.specs.Fields.{are_all_sound};
 ghost use Rattle.adb_fields.specs.ListsOf.{AreRememberedListsOf};
 ghost use Rattle.adb_view.specs.ShapedPayload.{shaped_value, table_of};
 ghost use Rattle.adb_view.specs.FieldIndexes.{INTENT_REMOVALS_INDEX, INTENT_WRITES_INDEX};
-ghost use Rattle.adb_fields.specs.Repeated.{fault_of_two_packages_sharing_name_or_path, place_in_causes_of_field_at_index, positions_of_file_repeated_in_a_folder, files_in, least_positions_of_name_twice_in_list, positions_of_folder_repeated_in_a_package, folders_in, fault_of_package_repeating_folder_or_file, name_of, positions_of_repeated_intent_name, positions_of_repeated_package_name, pair_of_packages_listing_one_path, repeated_cause, repeated_fault, least_positions_of_name_twice_in_one_list};
+ghost use Rattle.adb_fields.specs.Repeated.{fault_of_two_packages_sharing_name_or_path, place_in_causes_of_field_at_index, positions_of_file_repeated_in_a_folder, files_in, least_positions_of_name_twice_in_list, positions_of_folder_repeated_in_a_package, folders_in, fault_of_repeats_within_one_of_packages, name_of, positions_of_repeated_intent_name, positions_of_repeated_package_name, pair_of_packages_listing_one_path, repeated_cause, repeated_fault, least_positions_of_name_twice_in_one_list};
 ghost use Rattle.adb_fields.specs.Once.{HasNoForbiddenRepeatedName};
 ghost use Rattle.adb_view.specs.Plain.{Plain};
 ghost use Rattle.adb_view.specs.declared.tables.Which.{Which};
@@ -103,7 +103,7 @@ fn in_package(alloc: Global, adb: Adb<'_>, pkg: Val) -> Result<Option<Cause>, Al
     requires { is_sound (payload_of adb) (Kinds.Obj Tables.Package) pkg ≡ true }
     // On Ok, the cause, or None, is that of the definition.
     ensures { IfOk result (λ cause. cause
-        ≡ fault_of_package_repeating_folder_or_file (value_at (payload_of adb.entry)
+        ≡ fault_of_repeats_within_one_of_packages (value_at (payload_of adb.entry)
         (Kinds.Obj Tables.Package) pkg ∷ [])) }
 {
     let mut folders = KnownLists::new(alloc, adb, Which::Dir);
@@ -128,7 +128,7 @@ fn in_database(alloc: Global, adb: Adb<'_>, packages: Arr<'_>) -> Result<Option<
     // On Ok, the cause, or None, is that of the definition.
     ensures { IfOk result (λ cause. cause
         ≡ option_or
-        (fault_of_package_repeating_folder_or_file (plains_of_array_words (payload_of adb.entry)
+        (fault_of_repeats_within_one_of_packages (plains_of_array_words (payload_of adb.entry)
         (Kinds.Obj Tables.Package)
         (array_entries packages.entry)))
         (fault_of_two_packages_sharing_name_or_path (plains_of_array_words (payload_of adb.entry)
@@ -153,7 +153,7 @@ fn inside_packages(
         ≡ true }
     // On Ok, the cause, or None, is that of the definition.
     ensures { IfOk result (λ cause. cause
-        ≡ fault_of_package_repeating_folder_or_file (plains_of_array_words (payload_of adb.entry)
+        ≡ fault_of_repeats_within_one_of_packages (plains_of_array_words (payload_of adb.entry)
         (Kinds.Obj Tables.Package)
         (array_entries packages.entry))) }
 {

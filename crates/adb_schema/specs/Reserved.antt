@@ -13,8 +13,8 @@ abbrev pub is_at_or_below_any_of : List (List ℕ) → List ℕ → Bool
 is_at_or_below_any_of tops path = list_any (λ top. is_at_or_below top path) tops
 
 -- the names of the journal and of the staging area
-abbrev pub intent_and_stage_names : List (List ℕ)
-intent_and_stage_names = codes "lib/apk/intent" ∷ codes "lib/apk/stage" ∷ []
+abbrev pub journal_and_staging_area_paths : List (List ℕ)
+journal_and_staging_area_paths = codes "lib/apk/intent" ∷ codes "lib/apk/stage" ∷ []
 
 -- the reserved names: world, the journal, the staging area, and the folder of the database
 abbrev pub reserved_names : List (List ℕ)
@@ -23,7 +23,7 @@ reserved_names = codes "etc/apk/world" ∷ codes "lib/apk/intent" ∷ codes "lib
 
 -- whether a path is the name of the journal or of the staging area, or below one of them
 abbrev pub is_intent_or_stage_name : List ℕ → Bool
-is_intent_or_stage_name path = is_at_or_below_any_of intent_and_stage_names path
+is_intent_or_stage_name path = is_at_or_below_any_of journal_and_staging_area_paths path
 
 -- whether a path is one of the reserved names, or a name below one of them
 abbrev pub is_reserved : List ℕ → Bool

@@ -17,7 +17,7 @@ use Rattle.change_outcome.specs.package_changes.Placed.{PlacedName}
 use Rattle.change_outcome.proofs.package_changes.Lists.{left_at}
 use Rattle.change_outcome.specs.candidate_core.Rank.{SelectionProblem}
 use Rattle.report_core.specs.declared.refusal.Refusal as Refusals
-use Rattle.added_packages.specs.Arrivals.{AreReadMembersThoseFound, IsMemberRead}
+use Rattle.added_packages.specs.Arrivals.{AreMembersFoundFromOldPackagesAndReads, IsMemberRead}
 use Rattle.added_packages.specs.NameReads.{FindsTreeFileOrFound, IsAnswerByRead, IsByRead, IsNameRead, member_of_name_by_read}
 use Rattle.added_packages.specs.declared.arrivals.MemberRead.{MemberRead}
 
@@ -66,7 +66,7 @@ front_more found None (Ok others) = ap (λ z. Ok (z ++ others)) (sym (append-nil
 front_more found (Some m) (Ok others) = ap (λ z. Ok z) (sym (append_assoc found (m ∷ []) others))
 front_more found m (Err refusal) = refl
 
-are_more : (h : List TreeState) (before : List Plain) (reads : List MemberRead) (found : List MemberFound) (r : Option MemberRead) (m : Option MemberFound) → AreReadMembersThoseFound h before reads found → IsNameRead h before r m → AreReadMembersThoseFound h before (reads ++ option_to_list r) (found ++ option_to_list m)
+are_more : (h : List TreeState) (before : List Plain) (reads : List MemberRead) (found : List MemberFound) (r : Option MemberRead) (m : Option MemberFound) → AreMembersFoundFromOldPackagesAndReads h before reads found → IsNameRead h before r m → AreMembersFoundFromOldPackagesAndReads h before (reads ++ option_to_list r) (found ++ option_to_list m)
 are_more h before [] [] None None are is = tt
 are_more h before [] [] (Some r) (Some m) are is = (is, tt)
 are_more h before [] [] None (Some m) are is = absurd is
@@ -88,14 +88,14 @@ module _ (before : List Plain) (pool : SelectionProblem) (repositories : List Re
     pub record IsReadTo (i : ℕ) (reads : List MemberRead) : Type 0 where
       pub at : ℕ → Option (List ℕ)
       pub found : List MemberFound
-      pub are : AreReadMembersThoseFound h before reads found
+      pub are : AreMembersFoundFromOldPackagesAndReads h before reads found
       pub leads : (other : ℕ → Option (List ℕ)) → ((k : ℕ) → k < first + i → other k ≡ at k) → names_read (reads_by h other) first names ≡ in_front found (names_read (reads_by h other) (first + i) (drop i names))
 
     pub read_none : (reads : List MemberRead) → reads ≡ [] → IsReadTo 0 reads
     read_none reads none = record {
       at = λ k. None;
       found = [];
-      are = subst (λ z. AreReadMembersThoseFound h before z []) (sym none) tt;
+      are = subst (λ z. AreMembersFoundFromOldPackagesAndReads h before z []) (sym none) tt;
       leads = λ other same.
           (let begin : first + 0 ≡ first = omega arith in
           front_none (names_read (reads_by h other) first names) ∙ ap (λ n. in_front [] (names_read (reads_by h other) n names)) (sym begin));
@@ -118,7 +118,7 @@ module _ (before : List Plain) (pool : SelectionProblem) (repositories : List Re
       read_more r next pushed (m, by, is) = record {
         at = at_name by.found;
         found = so_far.found ++ option_to_list m;
-        are = subst (λ z. AreReadMembersThoseFound h before z (so_far.found ++ option_to_list m)) (sym pushed) (are_more h before reads so_far.found r m so_far.are is);
+        are = subst (λ z. AreMembersFoundFromOldPackagesAndReads h before z (so_far.found ++ option_to_list m)) (sym pushed) (are_more h before reads so_far.found r m so_far.are is);
         leads = λ other same.
             (let more : suc (first + i) ≡ first + (i + 1) = omega arith in
             leads_here (Ok m) by other (λ k lt. same k (omega (arith, lt)))
@@ -129,7 +129,7 @@ module _ (before : List Plain) (pool : SelectionProblem) (repositories : List Re
       pub read_refused : (refusal : Refusals.Refusal) → IsByRead h (member_of_name_by_read before pool repositories no_scripts name) (Err refusal) → (at : ℕ → Option (List ℕ)) × (names_read (reads_by h at) first names ≡ Err refusal)
       read_refused refusal by = (at_name by.found, leads_here (Err refusal) by (at_name by.found) (λ k lt. refl))
 
-    pub read_all : (i : ℕ) (reads : List MemberRead) → length names ≤ i → IsReadTo i reads → (at : ℕ → Option (List ℕ)) × (found : List MemberFound) × (names_read (reads_by h at) first names ≡ Ok found) × AreReadMembersThoseFound h before reads found
+    pub read_all : (i : ℕ) (reads : List MemberRead) → length names ≤ i → IsReadTo i reads → (at : ℕ → Option (List ℕ)) × (found : List MemberFound) × (names_read (reads_by h at) first names ≡ Ok found) × AreMembersFoundFromOldPackagesAndReads h before reads found
     read_all i reads past so_far = (
       so_far.at,
       so_far.found,

@@ -20,7 +20,7 @@ use Rattle.change_outcome.specs.package_changes.Placed.{PlacedName, ReplacementW
 use Rattle.change_outcome.specs.candidate_core.Rank.{SelectionProblem}
 use Rattle.report_core.specs.declared.refusal.Refusal as Refusals
 use Rattle.added_packages.specs.Answered.{DenotesUnlessDisk}
-use Rattle.added_packages.specs.Arrivals.{AreReadMembersThoseFound, CanBeMembers}
+use Rattle.added_packages.specs.Arrivals.{AreMembersFoundFromOldPackagesAndReads, CanBeMembers}
 use Rattle.added_packages.specs.NameReads.{IsAnswerByRead, IsNameRead, member_of_name_by_read}
 use Rattle.added_packages.specs.declared.arrivals.MemberRead.{MemberRead}
 use Rattle.added_packages.proofs.ArrivalSteps.{IsReadTo, names_read, read_all, read_refused, reads_are, reads_by}
@@ -57,12 +57,12 @@ module _ (law : PlacesLead) (p : ReplacementWithSelectionAsPlaces) (repositories
 
   module _ {A : Type 0} (reads_of : A → List MemberRead) (h : List TreeState) (names : List PlacedName) (are : names ≡ placed_names_of p) where
     abbrev pub IsExplained : Result A Refused → Type 0
-    IsExplained r = HoldsOfSomeReadsOfTree h (λ read. DenotesUnlessDisk (λ a found. AreReadMembersThoseFound h p.before (reads_of a) found) r (members_after (replacement_of p) read repositories no_scripts))
+    IsExplained r = HoldsOfSomeReadsOfTree h (λ read. DenotesUnlessDisk (λ a found. AreMembersFoundFromOldPackagesAndReads h p.before (reads_of a) found) r (members_after (replacement_of p) read repositories no_scripts))
 
     pub explained_failure : (P : Refused → Type 0) (r : Result A Refused) → ((e : Refused) → P e → IsDiskOrMemoryFailure e) → IsErrAnd r P → IsExplained r
     explained_failure P r fails is = record { read = reads_by h (λ k. None); observed = reads_are h (λ k. None); is = go r is }
       where
-        go : (r : Result A Refused) → IsErrAnd r P → DenotesUnlessDisk (λ a found. AreReadMembersThoseFound h p.before (reads_of a) found) r (members_after (replacement_of p) (reads_by h (λ k. None)) repositories no_scripts)
+        go : (r : Result A Refused) → IsErrAnd r P → DenotesUnlessDisk (λ a found. AreMembersFoundFromOldPackagesAndReads h p.before (reads_of a) found) r (members_after (replacement_of p) (reads_by h (λ k. None)) repositories no_scripts)
         go (Ok a) is = absurd is
         go (Err (Refusal refusal)) is = absurd (fails (Refusal refusal) is)
         go (Err Disk) is = tt
@@ -98,7 +98,7 @@ module _ (law : PlacesLead) (p : ReplacementWithSelectionAsPlaces) (repositories
           is = (
             all.1,
             members_are (reads_by h all.0) names are ∙ all.2,
-            subst (λ z. AreReadMembersThoseFound h p.before z all.1) (sym has) all.3,
+            subst (λ z. AreMembersFoundFromOldPackagesAndReads h p.before z all.1) (sym has) all.3,
           );
         }
 

@@ -11,7 +11,7 @@ use Rattle.change_outcome.specs.db_core.declared.members.TheConstants.{MOST_MEMB
 use Rattle.dep_core.specs.Repositories.{Repository}
 use Rattle.change_outcome.specs.make_info.Reads.{Reads}
 use Rattle.change_outcome.specs.package_changes.Placed.{ReplacementWithSelectionAsPlaces, replacement_of}
-use Rattle.added_packages.specs.Arrivals.{AreReadMembersThoseFound, HavePlacesIfKept, CanBeMembers, IsTestedPackageOfMember, IsMemberRead, IsPackageRead, HasPlaceIfKept, member_of_read_package, members_of_read_packages, added_package_in_member_read}
+use Rattle.added_packages.specs.Arrivals.{AreMembersFoundFromOldPackagesAndReads, HavePlacesIfKept, CanBeMembers, IsTestedPackageOfMember, IsMemberRead, IsPackageRead, HasPlaceIfKept, member_of_read_package, members_of_read_packages, added_package_in_member_read}
 use Rattle.package_verifier.specs.Tested.{tested_id, tested_value}
 use Rattle.package_verifier.specs.declared.package.TestedPackage.{TestedPackage}
 use Rattle.added_packages.specs.declared.arrivals.MemberRead.{MemberRead}
@@ -33,14 +33,14 @@ module _ (h : List TreeState) (before : List Plain) where
   one_read (Stays place) m is = stays_as (slice_get before place) m is
   one_read (Comes pkg) m (coming, r, is) = ap Some (comes_as pkg coming r ∙ sym (ap (λ (x : MemberFound). x.member) is))
 
-  pub all_read : (reads : List MemberRead) (found : List MemberFound) → AreReadMembersThoseFound h before reads found → members_of_read_packages before reads ≡ found_members found
+  pub all_read : (reads : List MemberRead) (found : List MemberFound) → AreMembersFoundFromOldPackagesAndReads h before reads found → members_of_read_packages before reads ≡ found_members found
   all_read [] [] are = refl
   all_read [] (m ∷ found) are = absurd are
   all_read (r ∷ reads) [] are = absurd are
   all_read (r ∷ reads) (m ∷ found) are =
       ap (λ o. cons_option o (members_of_read_packages before reads)) (one_read r m are.0) ∙ ap (λ z. m.member ∷ z) (all_read reads found are.1)
 
-  as_many : (reads : List MemberRead) (found : List MemberFound) → AreReadMembersThoseFound h before reads found → length reads ≡ length found
+  as_many : (reads : List MemberRead) (found : List MemberFound) → AreMembersFoundFromOldPackagesAndReads h before reads found → length reads ≡ length found
   as_many [] [] are = refl
   as_many [] (m ∷ found) are = absurd are
   as_many (r ∷ reads) [] are = absurd are
@@ -59,13 +59,13 @@ module _ (h : List TreeState) (before : List Plain) where
       go (Some pkg) e is = within before place pkg e
   one_placed (Comes pkg) m is = tt
 
-  all_placed : (reads : List MemberRead) (found : List MemberFound) → AreReadMembersThoseFound h before reads found → HavePlacesIfKept before reads
+  all_placed : (reads : List MemberRead) (found : List MemberFound) → AreMembersFoundFromOldPackagesAndReads h before reads found → HavePlacesIfKept before reads
   all_placed [] [] are = tt
   all_placed [] (m ∷ found) are = absurd are
   all_placed (r ∷ reads) [] are = absurd are
   all_placed (r ∷ reads) (m ∷ found) are = (one_placed r m are.0, all_placed reads found are.1)
 
-  pub file_found : (reads : List MemberRead) (found : List MemberFound) → AreReadMembersThoseFound h before reads found → (place : ℕ) (pkg : TestedPackage) → slice_get reads place ≡ Some (Comes pkg) → IsTestedPackageOfMember h found place pkg
+  pub file_found : (reads : List MemberRead) (found : List MemberFound) → AreMembersFoundFromOldPackagesAndReads h before reads found → (place : ℕ) (pkg : TestedPackage) → slice_get reads place ≡ Some (Comes pkg) → IsTestedPackageOfMember h found place pkg
   file_found [] [] are place pkg here = absurd (cc)
   file_found [] (m ∷ found) are place pkg here = absurd are
   file_found (r ∷ reads) [] are place pkg here = absurd are
@@ -84,7 +84,7 @@ module _ (h : List TreeState) (before : List Plain) where
       let more = file_found reads found are.1 place pkg here in
       record { file = more.file; located = more.located; tested = more.tested; contents = more.contents }
 
-pub can_be : (h : List TreeState) (p : ReplacementWithSelectionAsPlaces) (read : Reads) (repositories : List Repository) (no_scripts : Bool) (reads : List MemberRead) (found : List MemberFound) → members_after (replacement_of p) read repositories no_scripts ≡ Ok found → AreReadMembersThoseFound h p.before reads found
+pub can_be : (h : List TreeState) (p : ReplacementWithSelectionAsPlaces) (read : Reads) (repositories : List Repository) (no_scripts : Bool) (reads : List MemberRead) (found : List MemberFound) → members_after (replacement_of p) read repositories no_scripts ≡ Ok found → AreMembersFoundFromOldPackagesAndReads h p.before reads found
     → length p.pool.candidates ≤ MOST_MEMBERS → CanBeMembers p.before reads
 can_be h p read repositories no_scripts reads found is are few = record {
   placed = all_placed h p.before reads found are;
@@ -102,7 +102,7 @@ comes_here None pkg is = absurd (cc)
 comes_here (Some (Stays place)) pkg is = absurd (cc)
 comes_here (Some (Comes p)) pkg is = let same : p ≡ pkg = cc in ap (λ z. Some (Comes z)) same
 
-pub file_of_package : (h : List TreeState) (before : List Plain) (reads : List MemberRead) (found : List MemberFound) → AreReadMembersThoseFound h before reads found → (place : ℕ) (pkg : TestedPackage) → option_and_then added_package_in_member_read (slice_get reads place) ≡ Some pkg → IsTestedPackageOfMember h found place pkg
+pub file_of_package : (h : List TreeState) (before : List Plain) (reads : List MemberRead) (found : List MemberFound) → AreMembersFoundFromOldPackagesAndReads h before reads found → (place : ℕ) (pkg : TestedPackage) → option_and_then added_package_in_member_read (slice_get reads place) ≡ Some pkg → IsTestedPackageOfMember h found place pkg
 file_of_package h before reads found are place pkg here = file_found h before reads found are place pkg (comes_here (slice_get reads place) pkg here)
 
 no_stay : (o : Option Plain) (m : MemberFound) → Some m ≡ option_map kept_member_found o → is_added m.member ≡ true → ⊥
@@ -112,7 +112,7 @@ no_stay (Some pkg) m is comes =
     let stays : is_added m.member ≡ false = ap (λ (x : MemberFound). is_added x.member) same in
     true≢false (sym comes ∙ stays)
 
-pub package_comes : (h : List TreeState) (before : List Plain) (reads : List MemberRead) (found : List MemberFound) → AreReadMembersThoseFound h before reads found → (place : ℕ) (m : Member) → slice_get (found_members found) place ≡ Some m → is_added m ≡ true → is_some (option_and_then added_package_in_member_read (slice_get reads place)) ≡ true
+pub package_comes : (h : List TreeState) (before : List Plain) (reads : List MemberRead) (found : List MemberFound) → AreMembersFoundFromOldPackagesAndReads h before reads found → (place : ℕ) (m : Member) → slice_get (found_members found) place ≡ Some m → is_added m ≡ true → is_some (option_and_then added_package_in_member_read (slice_get reads place)) ≡ true
 package_comes h before [] [] are place m here comes = absurd (cc)
 package_comes h before [] (x ∷ found) are place m here comes = absurd are
 package_comes h before (r ∷ reads) [] are place m here comes = absurd are

@@ -41,13 +41,13 @@ IsMemberRead history before (Comes pkg) m =
     (coming : AddedPackage) × IsPackageRead history pkg coming × (m ≡ added_member_found coming)
 
 -- the packages as they were read are the found packages, one by one in the same order
-abbrev pub AreReadMembersThoseFound :
+abbrev pub AreMembersFoundFromOldPackagesAndReads :
     List TreeState → List Plain → List MemberRead → List MemberFound → Type 0
-AreReadMembersThoseFound history before [] [] = Unit {0}
-AreReadMembersThoseFound history before [] (m ∷ found) = ⊥
-AreReadMembersThoseFound history before (r ∷ reads) [] = ⊥
-AreReadMembersThoseFound history before (r ∷ reads) (m ∷ found) =
-    IsMemberRead history before r m × AreReadMembersThoseFound history before reads found
+AreMembersFoundFromOldPackagesAndReads history before [] [] = Unit {0}
+AreMembersFoundFromOldPackagesAndReads history before [] (m ∷ found) = ⊥
+AreMembersFoundFromOldPackagesAndReads history before (r ∷ reads) [] = ⊥
+AreMembersFoundFromOldPackagesAndReads history before (r ∷ reads) (m ∷ found) =
+    IsMemberRead history before r m × AreMembersFoundFromOldPackagesAndReads history before reads found
 
 -- the packages after the change as contracts see them: of each kept one its place in the database, and of each added
 -- one what was read

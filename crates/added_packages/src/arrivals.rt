@@ -5,7 +5,7 @@
 //! names, the first with a bad file or a script that has to run.
 
 ghost use Rattle.added_packages.specs.Answered.{DenotesUnlessDisk};
-ghost use Rattle.added_packages.specs.Arrivals.{AreReadMembersThoseFound, CanBeMembers, arrivals_seen, HasPlaceIfKept, member_of_read_package, members_of_read_packages, IsTestedPackageOfMember, added_package_in_member_read};
+ghost use Rattle.added_packages.specs.Arrivals.{AreMembersFoundFromOldPackagesAndReads, CanBeMembers, arrivals_seen, HasPlaceIfKept, member_of_read_package, members_of_read_packages, IsTestedPackageOfMember, added_package_in_member_read};
 ghost use Rattle.added_packages.specs.NameReads.{IsAnswerByRead, IsNameRead, IsReadOfKeptPackage, member_of_name_by_read};
 ghost use Rattle.base_core.specs.Read.{OnlyReads};
 ghost use Rattle.change_outcome.specs.change_inputs.Answers.{Agrees};
@@ -112,7 +112,7 @@ pub fn read_arrivals<T: Tree>(
         → placed_names_seen names.now
         ≡ placed_names_of (placed_replacement_from_parts db.now pool.now trace again)
         → HoldsOfSomeReadsOfTree (T.history tree.old) (λ read. DenotesUnlessDisk (λ arrivals found.
-        AreReadMembersThoseFound (T.history tree.old) (packages_of db.now)
+        AreMembersFoundFromOldPackagesAndReads (T.history tree.old) (packages_of db.now)
         (arrivals_seen arrivals) found)
         result
         (members_after (replacement_of
@@ -290,7 +290,8 @@ fn push_read<'a>(members: &mut Members<'a>, read: &'a MemberRead) -> Result<(), 
 /// A law: packages that were read are, as members, the packages that the definition finds.
 pub fn packages_that_were_read_are_those_found()
     ensures { (history : List TreeState) (before : List Plain) (reads : List MemberRead)
-        (found : List MemberFound) → AreReadMembersThoseFound history before reads found
+        (found : List MemberFound)
+        → AreMembersFoundFromOldPackagesAndReads history before reads found
         → members_of_read_packages before reads ≡ found_members found }
 {}
 
@@ -299,13 +300,15 @@ pub fn packages_that_were_read_are_those_found()
 pub fn a_package_that_was_read_is_that_of_its_file()
     // The package at a place is that of the file of this member.
     ensures file { (history : List TreeState) (before : List Plain) (reads : List MemberRead)
-        (found : List MemberFound) → AreReadMembersThoseFound history before reads found
+        (found : List MemberFound)
+        → AreMembersFoundFromOldPackagesAndReads history before reads found
         → (place : ℕ) (pkg : TestedPackage)
         → option_and_then added_package_in_member_read (slice_get reads place) ≡ Some pkg
         → IsTestedPackageOfMember history found place pkg }
     // For each added member a package was read.
     ensures comes { (history : List TreeState) (before : List Plain) (reads : List MemberRead)
-        (found : List MemberFound) → AreReadMembersThoseFound history before reads found
+        (found : List MemberFound)
+        → AreMembersFoundFromOldPackagesAndReads history before reads found
         → (place : ℕ) (m : Member) → slice_get (found_members found) place ≡ Some m
         → is_added m ≡ true
         → is_some (option_and_then added_package_in_member_read (slice_get reads place)) ≡ true }

@@ -44,7 +44,7 @@ use Rattle.report_core.specs.declared.refusal.Refusal.{Refusal}
 use Rattle.report_core.specs.declared.refusal.Refusal.TheVariants.{DatabaseBad}
 use Rattle.root_laws.specs.RootLeft.{IsRootLeftToLaterCommandsByChange}
 use Rattle.root_names.specs.RootNames.{database_name, text_database_name}
-use Rattle.audit_laws.specs.AfterChange.{ExplainsDifference, IsEmptyFileWithOtherDigest, IsDifferenceExplainedAfterChange, change_left, contents_left, packages_left}
+use Rattle.audit_laws.specs.AfterChange.{ExplainsDifference, IsEmptyFileWithOtherDigest, IsDifferenceExplainedAfterChange, old_and_new_packages_of_change_left, contents_left, packages_left}
 use Rattle.audit_laws.proofs.AfterFiles.{by_left, left_by, stays_so}
 use Rattle.audit_laws.proofs.AfterRecords.{WrittenLaws, owner_free, owner_record, record_of_owner, zeros_alike}
 use Rattle.audit_laws.proofs.FoundContents.{contents_listed}
@@ -108,7 +108,7 @@ module _ (laws : Laws) (command : CommandLine) (read : Reads) (files : Files) (c
   records = database_and_world_after_change s.inputs made_so.database
 
   abbrev change : FileChange
-  change = change_left left
+  change = old_and_new_packages_of_change_left left
 
   abbrev bytes_of : Listing → List ℕ
   bytes_of = listing_bytes (contents_left left)
@@ -206,10 +206,10 @@ pub empty_alone :
     → MatchEachExpectedSizeAndKnownDigest (expected_files_of_package l.member.pkg) (contents l.place) → (is_file_with_contents l.entry ≡ false → has_target l.entry ≡ false → is_as_listed l.entry [] ≡ true)
     → is_as_listed l.entry (listing_bytes contents l) ≡ true)
     → (command : CommandLine) (read : Reads) (chosen : Option (List ℕ)) (done : ChangeDone) (left : IsRootLeftToLaterCommandsByChange command read chosen done) (path : List ℕ) (l : Listing)
-    → added_owner_listing (change_left left) path ≡ Some l → is_as_listed l.entry (listing_bytes (contents_left left) l) ≡ false → IsEmptyFileWithOtherDigest l.entry
+    → added_owner_listing (old_and_new_packages_of_change_left left) path ≡ Some l → is_as_listed l.entry (listing_bytes (contents_left left) l) ≡ false → IsEmptyFileWithOtherDigest l.entry
 empty_alone told placed brought command read chosen done left path l comes unlike =
     let members = found_members left.found in
-    let owner = coming_is (change_left left) path l comes in
+    let owner = coming_is (old_and_new_packages_of_change_left left) path l comes in
     let listed : IsOneOf l (listings_of_members members) = owner.0.listed in
     let place = some_place l (listings_of_members members) listed in
     let s = left.selected in

@@ -67,10 +67,10 @@ abbrev pub packages_left :
 packages_left left = (database_of_members (found_members left.found) left.bytes).packages
 
 -- the change of files that a command has made
-abbrev pub change_left :
+abbrev pub old_and_new_packages_of_change_left :
     {command : CommandLine} → {read : Reads} → {chosen : Option (List ℕ)} → {done : ChangeDone}
     → IsRootLeftToLaterCommandsByChange command read chosen done → FileChange
-change_left {command} left =
+old_and_new_packages_of_change_left {command} left =
     packages_before_and_after_with_purge left.selected.inputs (wishes_of command) left.found
 
 -- for the index of each added package, the contents of its files

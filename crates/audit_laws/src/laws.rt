@@ -4,7 +4,7 @@
 ghost use Rattle.audit_core.specs.adb_fields.FirstPair.{IsIn};
 ghost use Rattle.audit_core.specs.Audit.{FileDifference};
 ghost use Rattle.audit_core.specs.Differences.{file_differences};
-ghost use Rattle.audit_laws.specs.AfterChange.{IsEmptyFileWithOtherDigest, IsDifferenceExplainedAfterChange, change_left, contents_left, packages_left};
+ghost use Rattle.audit_laws.specs.AfterChange.{IsEmptyFileWithOtherDigest, IsDifferenceExplainedAfterChange, old_and_new_packages_of_change_left, contents_left, packages_left};
 ghost use Rattle.base_core.specs.Files.{Files};
 ghost use Rattle.root_laws.specs.change_files.FileChange.{added_owner_listing};
 ghost use Rattle.root_laws.specs.change_files.FilesAfter.{listing_bytes};
@@ -39,13 +39,14 @@ pub fn after_a_change_an_audit_reports_what_it_left_to_the_user()
         → change_of_command command read files chosen clash ≡ Ok done
         → command.flags.simulate ≡ false
         → IsIn d (file_differences done.files (packages_left left))
-        ↔ IsDifferenceExplainedAfterChange (contents_left left) (change_left left) files d }
+        ↔ IsDifferenceExplainedAfterChange (contents_left left)
+        (old_and_new_packages_of_change_left left) files d }
     // If the bytes that an added package has for a file are not as its own entry lists them, the
     // entry is that of an empty file with another digest.
     ensures empty { (command : CommandLine) (read : Reads) (chosen : Option (List ℕ))
         (done : ChangeDone) (left : IsRootLeftToLaterCommandsByChange command read chosen done)
         (path : List ℕ)
-        (l : Listing) → added_owner_listing (change_left left) path ≡ Some l
+        (l : Listing) → added_owner_listing (old_and_new_packages_of_change_left left) path ≡ Some l
         → is_as_listed l.entry (listing_bytes (contents_left left) l) ≡ false
         → IsEmptyFileWithOtherDigest l.entry }
 {

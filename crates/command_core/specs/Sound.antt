@@ -58,7 +58,8 @@ allowed_flags applet = common_flags
 -- whether an applet may have the flags that were given: each is allowed for the applet, and at most one selects the
 -- kind of the command
 abbrev pub may_have_flags : Applet → Flags → Bool
-may_have_flags applet flags = are_flags_allowed (allowed_flags applet) flags && has_at_most_one command_kind_flags flags
+may_have_flags applet flags =
+    are_flags_allowed (allowed_flags applet) flags && has_at_most_one command_kind_flags flags
 
 -- ---- operands
 

@@ -3,7 +3,7 @@ use Rattle.std.proofs.Common.{◌≡◌, ◌∙◌, ◌≤◌, ℕ, Bool, true, 
 use Rattle.std.specs.Prelude.{if◌then◌else◌, nat_lt}
 use Rattle.std.proofs.lemmas.Bool.{ltb-false}
 use Rattle.added_packages.specs.Answered.{DenotesUnlessDisk}
-use Rattle.added_packages.specs.Arrivals.{AreReadMembersThoseFound, arrivals_seen, members_of_read_packages}
+use Rattle.added_packages.specs.Arrivals.{AreMembersFoundFromOldPackagesAndReads, arrivals_seen, members_of_read_packages}
 use Rattle.added_packages.specs.declared.arrivals.Arrivals.{Arrivals}
 use Rattle.added_packages.specs.declared.arrivals.MemberRead.{MemberRead}
 use Rattle.adb_view.specs.Plain.{Plain}
@@ -92,7 +92,7 @@ module _ (s : Selection) (database : HasDatabaseOfInputs s) where
   module _ (old : List TreeState) (repositories : List Repository) (are : repositories ≡ inputs.root.repositories) (flags : Flags) (is_flags : flags ≡ s.command.now.flags) where
     -- a package that comes is refused
     pub read_refused : (fault : Refused)
-        → HoldsOfSomeReadsOfTree old (λ read. DenotesUnlessDisk (λ (a : Arrivals) (found : List MemberFound). AreReadMembersThoseFound old (packages_of s.db) (arrivals_seen a) found) (Err fault) (members_after placed read repositories flags.no_scripts))
+        → HoldsOfSomeReadsOfTree old (λ read. DenotesUnlessDisk (λ (a : Arrivals) (found : List MemberFound). AreMembersFoundFromOldPackagesAndReads old (packages_of s.db) (arrivals_seen a) found) (Err fault) (members_after placed read repositories flags.no_scripts))
         → HoldsOfSomeReadsOfTree old (λ read. DenotesUnlessDisk {A = ReadPackages} (ArePackagesReadForSelection old s) (Err fault) (members_after_change inputs (replacement_seen s) wishes read))
     read_refused (IsRefused refusal) explained =
         record { read = explained.read; observed = explained.observed; is = sym (members_are explained.read repositories flags are is_flags) ∙ explained.is }
@@ -101,7 +101,7 @@ module _ (s : Selection) (database : HasDatabaseOfInputs s) where
 
     -- the packages that come are read
     pub read_all : (a : ReadPackages) → a.selection.now ≡ s → placed_names_seen a.names ≡ placed_names_of (placed_replacement_from_parts s.db s.pool s.trace s.again)
-        → HoldsOfSomeReadsOfTree old (λ read. DenotesUnlessDisk (λ (b : Arrivals) (found : List MemberFound). AreReadMembersThoseFound old (packages_of s.db) (arrivals_seen b) found) (Ok a.arrivals) (members_after placed read repositories flags.no_scripts))
+        → HoldsOfSomeReadsOfTree old (λ read. DenotesUnlessDisk (λ (b : Arrivals) (found : List MemberFound). AreMembersFoundFromOldPackagesAndReads old (packages_of s.db) (arrivals_seen b) found) (Ok a.arrivals) (members_after placed read repositories flags.no_scripts))
         → HoldsOfSomeReadsOfTree old (λ read. DenotesUnlessDisk (ArePackagesReadForSelection old s) (Ok a) (members_after_change inputs (replacement_seen s) wishes read))
     read_all a same named explained = record {
       read = explained.read;
@@ -112,7 +112,7 @@ module _ (s : Selection) (database : HasDatabaseOfInputs s) where
         record {
           selection = same;
           placed = subst (λ (t : Selection). placed_names_seen a.names ≡ placed_names_of (placed_replacement_from_parts t.db t.pool t.trace t.again)) (sym same) named;
-          read = subst (λ (t : Selection). AreReadMembersThoseFound old (packages_of t.db) (arrivals_seen a.arrivals) explained.is.0) (sym same) explained.is.2;
+          read = subst (λ (t : Selection). AreMembersFoundFromOldPackagesAndReads old (packages_of t.db) (arrivals_seen a.arrivals) explained.is.0) (sym same) explained.is.2;
         },
       );
     }
@@ -202,7 +202,7 @@ module _ (s : Selection) (real : s.command.now.flags.simulate ≡ false) where
 
 -- the law that packages that were read are those that are found
 abbrev pub HaveMembers : Type 0
-HaveMembers = (history : List TreeState) (before : List Plain) (reads : List MemberRead) (found : List MemberFound) → AreReadMembersThoseFound history before reads found → members_of_read_packages before reads ≡ found_members found
+HaveMembers = (history : List TreeState) (before : List Plain) (reads : List MemberRead) (found : List MemberFound) → AreMembersFoundFromOldPackagesAndReads history before reads found → members_of_read_packages before reads ≡ found_members found
 
 module _ (law : HaveMembers) (old mid : List TreeState) (before between : Counts) (quiet : IsOnlyRead old mid before between) (a : ReadPackages) (p : Plan) (plan : IsPlanOfPackages old a p) (read : Reads) (found : List MemberFound) (are : ArePackagesFoundByReads old a read found) where
   arrivals_of_plan : HasReadAddedPackages old p.packages.now found

@@ -3,7 +3,7 @@ use Rattle.std.proofs.Common.{◌≡◌, ℕ, zero, suc, List, [], ◌∷◌, Co
 use Rattle.std.specs.Prelude.{slice_get, option_and_then}
 use Rattle.std.proofs.lemmas.Option.{same_Some}
 use Rattle.adb_view.specs.Plain.{Plain}
-use Rattle.added_packages.specs.Arrivals.{AreReadMembersThoseFound, IsMemberRead, IsPackageRead, added_package_in_member_read}
+use Rattle.added_packages.specs.Arrivals.{AreMembersFoundFromOldPackagesAndReads, IsMemberRead, IsPackageRead, added_package_in_member_read}
 use Rattle.added_packages.specs.declared.arrivals.MemberRead.{MemberRead}
 use Rattle.added_packages.specs.declared.arrivals.MemberRead.TheVariants.{Comes, Stays}
 use Rattle.base_core.specs.Tree.{TreeState}
@@ -38,7 +38,7 @@ comes_here : (r : MemberRead) (pkg : TestedPackage) → added_package_in_member_
 comes_here (Stays place) pkg is = absurd (cc (is))
 comes_here (Comes p) pkg is = let same : p ≡ pkg = cc in ap (λ z. Comes z) same
 
-read_as : (history : List TreeState) (before : List Plain) (reads : List MemberRead) (found : List MemberFound) → AreReadMembersThoseFound history before reads found → (place : ℕ) (pkg : TestedPackage) (one : MemberFound) → option_and_then added_package_in_member_read (slice_get reads place) ≡ Some pkg → slice_get found place ≡ Some one
+read_as : (history : List TreeState) (before : List Plain) (reads : List MemberRead) (found : List MemberFound) → AreMembersFoundFromOldPackagesAndReads history before reads found → (place : ℕ) (pkg : TestedPackage) (one : MemberFound) → option_and_then added_package_in_member_read (slice_get reads place) ≡ Some pkg → slice_get found place ≡ Some one
     → ReadsOldOrReplaced history pkg one
 read_as history before [] found are place pkg one here at = absurd (cc (here))
 read_as history before (r ∷ reads) [] are place pkg one here at = absurd are
@@ -58,7 +58,7 @@ pub record IsFoundSpoiled (found : List MemberFound) (m : Member) (cause : Cause
   pub file : List ℕ
   pub spoiled : IsFileWithOnlyContentsSpoiled tested file cause
 
-pub found_spoiled : (history : List TreeState) (before : List Plain) (reads : List MemberRead) (found : List MemberFound) (place : ℕ) (m : Member) (pkg : TestedPackage) (cause : Cause) → AreReadMembersThoseFound history before reads found → slice_get (found_members found) place ≡ Some m
+pub found_spoiled : (history : List TreeState) (before : List Plain) (reads : List MemberRead) (found : List MemberFound) (place : ℕ) (m : Member) (pkg : TestedPackage) (cause : Cause) → AreMembersFoundFromOldPackagesAndReads history before reads found → slice_get (found_members found) place ≡ Some m
     → option_and_then added_package_in_member_read (slice_get reads place) ≡ Some pkg → ((name tested : List ℕ) → IsTestedOf name tested pkg → (file : List ℕ) × IsFileWithOnlyContentsSpoiled tested file cause) → IsFoundSpoiled found m cause
 found_spoiled history before reads found place m pkg cause are at here spoils =
     let (one, there, is) = found_at found place m at in

@@ -4,7 +4,7 @@
 use Rattle.std.specs.Prelude.{◌≡◌, ℕ, Bool, true, false, not, List, All, Option, Some, None, Ok, bytes_eq}
 use Rattle.std.specs.Option.{option_copied}
 use Rattle.journal_staging.specs.adb_schema.Reserved.{is_reserved}
-use Rattle.added_packages.specs.Arrivals.{AreReadMembersThoseFound, arrivals_seen, members_of_read_packages}
+use Rattle.added_packages.specs.Arrivals.{AreMembersFoundFromOldPackagesAndReads, arrivals_seen, members_of_read_packages}
 use Rattle.base_core.specs.Calls.{IfObservable}
 use Rattle.base_core.specs.Files.{Files}
 use Rattle.base_core.specs.Tree.{TreeState, files_of}
@@ -62,7 +62,7 @@ pub record ArePackagesReadForSelection (history : List TreeState) (s : Selection
   pub placed : placed_names_seen a.names ≡ placed_names_of (placed_replacement_from_parts
       a.selection.now.db a.selection.now.pool a.selection.now.trace a.selection.now.again)
   -- each package was read as the definition finds it
-  pub read : AreReadMembersThoseFound history (packages_of a.selection.now.db)
+  pub read : AreMembersFoundFromOldPackagesAndReads history (packages_of a.selection.now.db)
       (arrivals_seen a.arrivals) found
 
 -- The added packages were read. With the kept ones they are the packages `found`: those after the change, each added
@@ -75,7 +75,7 @@ pub record HasReadAddedPackages (history : List TreeState) (a : ReadPackages) (f
   pub placed : placed_names_seen a.names ≡ placed_names_of (placed_replacement_from_parts
       a.selection.now.db a.selection.now.pool a.selection.now.trace a.selection.now.again)
   -- each package was read as the definition finds it
-  pub read : AreReadMembersThoseFound history (packages_of a.selection.now.db)
+  pub read : AreMembersFoundFromOldPackagesAndReads history (packages_of a.selection.now.db)
       (arrivals_seen a.arrivals) found
   -- the inputs were read from the tree
   pub root : IsRootRead history (inputs_of_packages a)

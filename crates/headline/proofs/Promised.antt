@@ -13,7 +13,7 @@ use Rattle.refusal_laws.specs.outcome.Outcome.{Outcome}
 use Rattle.refusal_laws.specs.outcome.Words.{IsOutcome}
 use Rattle.refusal_laws.specs.words_core.Grammar.{command_of}
 use Rattle.run_lists.specs.Events.{RootEvent, HasNoUnfinishedRunSinceCrash, Reaches, ReachesWithoutCommitOrEdit, ReachesOneCrashState, IsRunWithoutCommit, IsOutcomeFrom, IsRunFrom, IsPossibleStop, Run, ignored_after, ignored_during_run, ignored_with_all_touched, ignored_with_scratch}
-use Rattle.run_lists.specs.Recovered.{ReachesWithNoBadIntentPutByOthers, HasStateOfSomeCrashBefore, HasStateOfCrashBeforeOrOutcome, HasSameState, IsRecoveredBy, EachCrashLeavesNoBadIntent}
+use Rattle.run_lists.specs.Recovered.{ReachesWithNoBadIntentPutByOthers, HasStateOfSomeCrashBefore, HasStateOfCrashBeforeOrOutcome, HasSameState, RecoversToStateWithoutRefusal, EachCrashLeavesNoBadIntent}
 use Rattle.run_lists.specs.Safety.{HasStateAsReadOrOutcome, IsAtomicFromOneCrashState, IsSafeRun, IsSafeAfterAnyEvents, AnswersOutcomeAndLeavesItsFiles}
 use Rattle.run_lists.proofs.AtMoments.{History}
 use Rattle.run_lists.proofs.Facts.{AreMore, Ignored}
@@ -28,7 +28,7 @@ use Rattle.headline.specs.Sentence.{EndsInTrueRefusalOrFirstSelection, HasGoodPa
 
 abbrev IsLeftAt : Ignored → TreeState → Type 0
 IsLeftAt names m = (w : TreeState) (later : List RootEvent) (next : Run) → ReachesWithoutCommitOrEdit m later w → IsRunFrom w next → does_recover (effect_of_arguments (command_of next.words)) ≡ true
-    → (image : Files) × IsCrashImage m image × IsRecoveredBy (HasSameState (ignored_with_all_touched later names) image) w next
+    → (image : Files) × IsCrashImage m image × RecoversToStateWithoutRefusal (HasSameState (ignored_with_all_touched later names) image) w next
 
 -- a property of files that rests on their state alone, apart from some names
 record RestsOnState (HasState : Ignored → Files → Type 0) : Type 0 where
@@ -78,7 +78,7 @@ module _ (begins : (ignored : Ignored) (first v : TreeState) (events : List Root
     (unbroken : (first v : TreeState) (events : List RootEvent) → Reaches first events v → HasNoUnfinishedRunSinceCrash events → ReachesOneCrashState first events v)
     (left : (ignored : Ignored) (first v m w : TreeState) (events later : List RootEvent) (run next : Run) → ignored intent_name ≡ false → IsDurable (StateDependsOn ignored) first → EachCrashLeavesNoBadIntent first
     → ReachesWithNoBadIntentPutByOthers first events v → IsRunFrom v run → IsPossibleStop run m → ReachesWithoutCommitOrEdit m later w → IsRunFrom w next → does_recover (effect_of_arguments (command_of next.words)) ≡ true
-    → (image : Files) × IsCrashImage m image × IsRecoveredBy (HasSameState (ignored_with_all_touched later (ignored_during_run run (ignored_after ignored events))) image) w next)
+    → (image : Files) × IsCrashImage m image × RecoversToStateWithoutRefusal (HasSameState (ignored_with_all_touched later (ignored_during_run run (ignored_after ignored events))) image) w next)
     (two : (ignored : Ignored) (v : TreeState) (run : Run) (files : Files) → EachCrashLeavesStateOf ignored (files_of v) v → HasStateOfCrashBeforeOrOutcome ignored v run files → HasStateAsReadOrOutcome ignored v run files)
     (more_settled : (few many : Ignored) (files : Files) (v : TreeState) → AreMore few many → EachCrashLeavesStateOf few files v → EachCrashLeavesStateOf many files v)
     (unique : (words : List (List ℕ)) (files : Files) (a b : Outcome) → IsOutcome (command_of words) files a → IsOutcome (command_of words) files b → a ≡ b)

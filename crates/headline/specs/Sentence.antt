@@ -19,7 +19,7 @@ use Rattle.refusal_laws.specs.RunFaults.{IsFaultOfRun}
 use Rattle.refusal_laws.specs.RunMade.{HasFirstSelectionFaultlessExceptLimits}
 use Rattle.report_core.specs.declared.refusal.Refusal.{Refusal}
 use Rattle.run_lists.specs.Events.{RootEvent, HasNoUnfinishedRunSinceCrash, ReachesWithoutCommitOrEdit, ReachesOneCrashState, IsRunWithoutCommit, IsOutcomeFrom, IsRunFrom, IsPossibleStop, Run, ignored_after, ignored_during_run, ignored_with_all_touched}
-use Rattle.run_lists.specs.Recovered.{ReachesWithNoBadIntentPutByOthers, HasStateOfSomeCrashBefore, HasStateOfCrashBeforeOrOutcome, HasSameState, IsRecoveredBy, EachCrashLeavesNoBadIntent}
+use Rattle.run_lists.specs.Recovered.{ReachesWithNoBadIntentPutByOthers, HasStateOfSomeCrashBefore, HasStateOfCrashBeforeOrOutcome, HasSameState, RecoversToStateWithoutRefusal, EachCrashLeavesNoBadIntent}
 use Rattle.run_lists.specs.Safety.{HasStateAsReadOrOutcome}
 use Rattle.refusal_laws.specs.words_core.Grammar.{command_of}
 
@@ -46,7 +46,7 @@ pub record RootRecoversTo (HasState : (List ℕ → Bool) → Files → Type 0) 
   -- the next run that recovers works on files of this state
   pub next : (later : List RootEvent) (w : TreeState) (next : Run) → ReachesWithoutCommitOrEdit m later w
       → IsRunFrom w next → does_recover (effect_of_arguments (command_of next.words)) ≡ true
-      → IsRecoveredBy (HasState (ignored_with_all_touched later ignored)) w next
+      → RecoversToStateWithoutRefusal (HasState (ignored_with_all_touched later ignored)) w next
 
 -- A change is refused only for a fault that is true, or because no selection satisfies the new world. Otherwise the
 -- first preferred selection is taken and reported. The installed packages are then just the selected ones, unless the

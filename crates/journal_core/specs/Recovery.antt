@@ -55,8 +55,8 @@ abbrev pub files_after_intent : Option Intent → Files → Files
 files_after_intent None files = files
 files_after_intent (Some intent) files = drop_name (files_after_actions intent files) intent_name
 
--- the files that recovery yields, before it removes staged files: those after all actions of the intent among them,
--- and its removal. They are unchanged without an intent, or if its file is no intent container
+-- The files that recovery yields, before it removes staged files. All actions of the intent in `files` are done, and the
+-- intent is removed. The files are unchanged if there is no intent, or if its file is no intent container
 abbrev pub recovered_files : Files → Files
 recovered_files files = files_after_intent (intent_of files) files
 

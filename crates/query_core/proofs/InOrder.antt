@@ -24,7 +24,7 @@ use Rattle.dep_core.specs.Repositories.{Repository}
 use Rattle.pool_core.proofs.option_ranks.MovedMembers.{moved_member}
 use Rattle.pool_core.proofs.option_ranks.RankOrder.{versions_back}
 use Rattle.report_core.specs.QueryReports.{policy_heading}
-use Rattle.query_core.specs.Asked.{AreStrictlyInOrderBy, HasCandidateWithOwnNameAndVersion}
+use Rattle.query_core.specs.Asked.{AreStrictlyInOrderBy, HasCandidateWithOwnNameAndEqualVersion}
 use Rattle.query_core.specs.Order.{candidate_places_cmp, sorted_candidates_passing, sorted_places_passing}
 use Rattle.query_core.specs.Policy.{has_own_name, name_policy, version_policy, sorted_distinct_versions_of_name, versions_except_those_repeated_later}
 use Rattle.query_core.proofs.AskedFor.{any_in}
@@ -175,7 +175,7 @@ place_found cs p c (q ∷ places) (inr m) e = later (slice_get cs q) (place_foun
 own_name_is : (cs : List Candidate) (name : List ℕ) (place : ℕ) (c : Candidate) → slice_get cs place ≡ Some c → option_map_or (has_own_name name) (slice_get cs place) false ≡ true → c.name ≡ name
 own_name_is cs name place c e h = sym ((bytes_eq-Decides name c.name).0 (ap (λ (o : Option Candidate). option_map_or (has_own_name name) o false) (sym e) ∙ h))
 
-pub versions_those : (cs : List Candidate) (name : List ℕ) (version : Option (List ℕ)) → IsIn version (sorted_distinct_versions_of_name cs name) → HasCandidateWithOwnNameAndVersion cs name version
+pub versions_those : (cs : List Candidate) (name : List ℕ) (version : Option (List ℕ)) → IsIn version (sorted_distinct_versions_of_name cs name) → HasCandidateWithOwnNameAndEqualVersion cs name version
 versions_those cs name version h =
     let places : List ℕ = sorted_places_passing (has_own_name name) cs in
     let found = found_place cs version places (once_in version (map (λ (c : Candidate). c.version) (sorted_candidates_passing (has_own_name name) cs)) h) in
@@ -187,7 +187,7 @@ versions_those cs name version h =
       version_is = found.1.1.1.1;
     }
 
-pub versions_each : (cs : List Candidate) (name : List ℕ) (version : Option (List ℕ)) → HasCandidateWithOwnNameAndVersion cs name version → IsIn version (sorted_distinct_versions_of_name cs name)
+pub versions_each : (cs : List Candidate) (name : List ℕ) (version : Option (List ℕ)) → HasCandidateWithOwnNameAndEqualVersion cs name version → IsIn version (sorted_distinct_versions_of_name cs name)
 versions_each cs name version is =
     let own : has_own_name name is.candidate ≡ true = (bytes_eq-Decides name is.candidate.name).1 (sym is.name_is) in
     let test : option_map_or (has_own_name name) (slice_get cs is.place) false ≡ true = ap (λ (o : Option Candidate). option_map_or (has_own_name name) o false) is.here ∙ own in
@@ -256,5 +256,5 @@ nothing_printed : (candidates : List Candidate) (repositories : List Repository)
 nothing_printed candidates repositories name [] out = append-nil (policy_heading name)
 nothing_printed candidates repositories name (v ∷ vs) out = absurd (out v (inl refl))
 
-pub unknown_name : (cs : List Candidate) (repositories : List Repository) (name : List ℕ) → ((version : Option (List ℕ)) → HasCandidateWithOwnNameAndVersion cs name version → ⊥) → name_policy cs repositories name ≡ policy_heading name
+pub unknown_name : (cs : List Candidate) (repositories : List Repository) (name : List ℕ) → ((version : Option (List ℕ)) → HasCandidateWithOwnNameAndEqualVersion cs name version → ⊥) → name_policy cs repositories name ≡ policy_heading name
 unknown_name cs repositories name none = nothing_printed cs repositories name (sorted_distinct_versions_of_name cs name) (λ v m. none v (versions_those cs name v m))

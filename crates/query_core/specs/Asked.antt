@@ -44,7 +44,7 @@ abbrev pub IsOwnOrProvidedName : Candidate → List ℕ → Type 0
 IsOwnOrProvidedName c name = (c.name ≡ name) ⊎ ProvidesName c name
 
 -- one of these candidates has this name of its own, and this version
-pub record HasCandidateWithOwnNameAndVersion (candidates : List Candidate) (name : List ℕ)
+pub record HasCandidateWithOwnNameAndEqualVersion (candidates : List Candidate) (name : List ℕ)
     (version : Option (List ℕ))
     : Type 0 where
   -- the place of this candidate in the list, counted from 0

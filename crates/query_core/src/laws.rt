@@ -7,7 +7,7 @@ ghost use Rattle.command_core.specs.Command.{CommandLine};
 ghost use Rattle.command_core.specs.declared.operands.Operand.{Operand};
 ghost use Rattle.dep_core.specs.Dependency.{Dependency};
 ghost use Rattle.dep_core.specs.Repositories.{Repository};
-ghost use Rattle.query_core.specs.Asked.{AreStrictlyInOrderBy, IsOwnOrProvidedName, IsNameMatchedBySomePattern, HasPartMatchedBySomePattern, HasCandidateWithOwnNameAndVersion};
+ghost use Rattle.query_core.specs.Asked.{AreStrictlyInOrderBy, IsOwnOrProvidedName, IsNameMatchedBySomePattern, HasPartMatchedBySomePattern, HasCandidateWithOwnNameAndEqualVersion};
 ghost use Rattle.query_core.specs.List.{is_list_candidate};
 ghost use Rattle.query_core.specs.Order.{candidate_places_cmp, sorted_places_passing};
 ghost use Rattle.query_core.specs.Policy.{name_policy, sorted_distinct_versions_of_name};
@@ -106,10 +106,10 @@ pub fn policy_prints_each_version_once()
     // Each version that is printed is that of a candidate of this name.
     ensures those { (cs : List Candidate) (name : List ℕ) (version : Option (List ℕ))
         → IsIn version (sorted_distinct_versions_of_name cs name)
-        → HasCandidateWithOwnNameAndVersion cs name version }
+        → HasCandidateWithOwnNameAndEqualVersion cs name version }
     // The version of each candidate of this name is printed.
     ensures each { (cs : List Candidate) (name : List ℕ) (version : Option (List ℕ))
-        → HasCandidateWithOwnNameAndVersion cs name version
+        → HasCandidateWithOwnNameAndEqualVersion cs name version
         → IsIn version (sorted_distinct_versions_of_name cs name) }
     // The greater version comes first, and of equal versions the one whose text is less in byte
     // order.
@@ -118,7 +118,7 @@ pub fn policy_prints_each_version_once()
         (sorted_distinct_versions_of_name cs name) }
     // For a name without a candidate only the heading is printed.
     ensures unknown { (cs : List Candidate) (repositories : List Repository) (name : List ℕ)
-        → ((version : Option (List ℕ)) → HasCandidateWithOwnNameAndVersion cs name version → ⊥)
+        → ((version : Option (List ℕ)) → HasCandidateWithOwnNameAndEqualVersion cs name version → ⊥)
         → name_policy cs repositories name ≡ policy_heading name }
 {
     // A law that the proof needs; it has no effect at run time.

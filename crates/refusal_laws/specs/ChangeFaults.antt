@@ -26,7 +26,7 @@ use Rattle.outcome.specs.package_changes.Changes.{Replacement}
 use Rattle.outcome.specs.path_clashes.Clash.{IsFirstClash}
 use Rattle.report_core.specs.declared.refusal.Refusal.{Refusal}
 use Rattle.report_core.specs.declared.refusal.Refusal.TheVariants.{Owned, PackageBad, PackageDiffers, PackageMissing, PathClash, Reserved, ResultTooLarge, ScriptNeeded, TriggerNeeded}
-use Rattle.refusal_laws.specs.PackageFaults.{IsAddedPackageFileBad, IsAddedPackageFileMissing, IsFileOfOtherPackage, IsFirstScriptRunAndNotSkipped}
+use Rattle.refusal_laws.specs.PackageFaults.{IsAddedPackageFileBad, IsAddedPackageFileMissing, IsFileOfOtherPackage, IsFirstUnskippedScriptOfPackage}
 
 -- ---- paths
 
@@ -158,7 +158,7 @@ IsFaultOfPackage inputs r wishes read (PackageBad name version cause) =
 IsFaultOfPackage inputs r wishes read (PackageDiffers name version field wanted found) =
     IsFileOfOtherPackage inputs r read name version field wanted found
 IsFaultOfPackage inputs r wishes read (ScriptNeeded name script) =
-    IsFirstScriptRunAndNotSkipped inputs r wishes read name script
+    IsFirstUnskippedScriptOfPackage inputs r wishes read name script
 IsFaultOfPackage inputs r wishes read other = ⊥
 
 -- a refusal of a change is true: of an added or removed package; or no such package is refused, and the files that the

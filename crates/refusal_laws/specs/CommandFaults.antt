@@ -32,7 +32,8 @@ IsNameUnknownToDelUpgradeOrFix Fix inputs name = is_installed_name inputs name �
 IsNameUnknownToDelUpgradeOrFix applet inputs name = ⊥
 
 -- the operand at this place of the command line is a name that the command does not know
-pub record IsUnknownOperand (command : CommandLine) (inputs : Inputs) (place : ℕ) : Type 0 where
+pub record IsOperandRefusedAsNotInstalled (command : CommandLine) (inputs : Inputs)
+    (place : ℕ) : Type 0 where
   -- an operand of the command
   pub operand : Operand
   pub given : IsIn operand command.operands
@@ -53,7 +54,7 @@ pub record IsNewWorldUnsatisfiable (command : CommandLine) (inputs : Inputs) : T
 -- operand, or the new world
 abbrev pub IsFaultOfSelection : CommandLine → Inputs → Refusal → Type 0
 IsFaultOfSelection command inputs (TooMany count) = AreTooManyAndCountIsLimitPlusOne inputs count
-IsFaultOfSelection command inputs (NotInstalled place) = IsUnknownOperand command inputs place
+IsFaultOfSelection command inputs (NotInstalled place) = IsOperandRefusedAsNotInstalled command inputs place
 IsFaultOfSelection command inputs Unsatisfied = IsNewWorldUnsatisfiable command inputs
 IsFaultOfSelection command inputs other = ⊥
 

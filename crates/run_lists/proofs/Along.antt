@@ -10,7 +10,7 @@ use Rattle.base_core.specs.Tree.{TreeState, files_of}
 use Rattle.apk_front.specs.journal_core.Quiet.{EachCrashLeavesOld}
 use Rattle.apk_front.specs.journal_core.Recovery.{EachCrashLeavesStateOf, StateDependsOn, intent_name}
 use Rattle.apk_front.specs.outcome.Effect.{output}
-use Rattle.run_lists.specs.Events.{Crashes, Edits, Ends, RootEvent, HasNoUnfinishedRunSinceCrash, Reaches, ReachesOneCrashState, IsAllSynced, IsRunWithoutCommit, IsMomentOf, IsRunFrom, DiffersOnlyInUnsyncedBytes, PreservesOneCrashState, IsTransition, EnsuresOneCrashState, Run, Stops, Touches, ignored_after, ignored_after_answer, ignored_during_run, nothing_ignored, ignored_with_scratch, ignored_with_touched}
+use Rattle.run_lists.specs.Events.{Crashes, Edits, Ends, RootEvent, HasNoUnfinishedRunSinceCrash, Reaches, ReachesOneCrashState, IsAllSynced, IsRunWithoutCommit, IsMomentOf, IsRunFrom, DiffersOnlyInUnsyncedBytes, PreservesOneCrashState, IsTransition, EnsuresOneCrashState, Run, Stops, Touches, ignored_after, ignored_after_answer, ignored_during_run, nothing_ignored, ignored_with_scratch, touched_outside_journal_or_ignored}
 use Rattle.run_lists.specs.Safety.{IsAtomic, IsSafeRun, AnswersOutcomeAndLeavesItsFiles}
 use Rattle.run_lists.proofs.AtMoments.{now_at}
 use Rattle.run_lists.proofs.Ending.{Resting, ends_at_rest, ends_so}
@@ -143,7 +143,7 @@ module _ (facts : Facts) (start : Ignored) (off : start intent_name ≡ false) (
   led_kept Edits earlier v w is_durable one keeps synced = facts.crash_settled nothing_ignored w w (as_crash facts w synced)
   led_kept (Touches theirs) earlier v w is_durable one keeps touch =
       let before = ignored_after start earlier in
-      let names = ignored_with_touched theirs before in
+      let names = touched_outside_journal_or_ignored theirs before in
       own_settled facts names (files_of v) w
       (settled_on names (files_of v) v w (facts.more_settled before names (files_of v) v (touched_more theirs before) one) (touch_quiet theirs v w touch before))
 

@@ -14,7 +14,7 @@ use Rattle.apk_front.specs.outcome.Effect.{do_arguments_neither_recover_nor_writ
 use Rattle.apk_front.specs.outcome.Outcome.{Outcome}
 use Rattle.apk_front.specs.outcome.Words.{IsOutcome}
 use Rattle.apk_front.specs.words_core.Grammar.{command_of}
-use Rattle.run_lists.specs.Events.{Crashes, Edits, Ends, RootEvent, ReachesWithoutCommitOrEdit, IsEventWithoutCommitOrEdit, IsRunWithoutCommit, IsTransition, Run, Stops, Touches, ignored_with_all_touched, ignored_with_touched}
+use Rattle.run_lists.specs.Events.{Crashes, Edits, Ends, RootEvent, ReachesWithoutCommitOrEdit, IsEventWithoutCommitOrEdit, IsRunWithoutCommit, IsTransition, Run, Stops, Touches, ignored_with_all_touched, touched_outside_journal_or_ignored}
 use Rattle.run_lists.proofs.Facts.{AreMore, Ignored}
 use Rattle.run_lists.proofs.Names.{reader_output, touched_more}
 use Rattle.run_lists.proofs.OneRun.{idle_end, idle_moment, settled_on}
@@ -39,7 +39,7 @@ module _ (crash_durable : (ignored : Ignored) (v w : TreeState) → IsAfterCrash
   led_idle start files earlier v Edits w rest idle synced = absurd idle
   led_idle start files earlier v (Touches theirs) w rest idle touch =
       let few = ignored_with_all_touched earlier start in
-      let names = ignored_with_touched theirs few in
+      let names = touched_outside_journal_or_ignored theirs few in
       record {
         is_durable = touch_durable theirs v w touch few rest.is_durable;
         settled = settled_on names files v w (settled_more few names (touched_more theirs few) files v rest.settled) (touch_quiet theirs v w touch few);

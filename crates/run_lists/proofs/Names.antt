@@ -12,7 +12,7 @@ use Rattle.command_core.specs.Command.{CommandLine}
 use Rattle.apk_front.specs.journal_core.Recovery.{intent_name}
 use Rattle.apk_front.specs.journal_core.Replacing.{scratch_name_of}
 use Rattle.apk_front.specs.outcome.Effect.{Effect, Computes, OnlyReadsFiles, AsksRoot, Makes, Changes, does_neither_recover_nor_write, effect_of_arguments, effect_of, output, output_name_of_arguments, output_name_for_effect, do_arguments_neither_recover_nor_write}
-use Rattle.run_lists.specs.Events.{Crashes, Edits, Ends, RootEvent, HasNoUnfinishedOutputOrTouchSinceSync, Run, Stops, Touches, ignored_after, ignored_after_answer, names_of_others_outside_journal, nothing_ignored, ignored_with_all_touched, ignored_with_scratch, ignored_with_touched}
+use Rattle.run_lists.specs.Events.{Crashes, Edits, Ends, RootEvent, HasNoUnfinishedOutputOrTouchSinceSync, Run, Stops, Touches, ignored_after, ignored_after_answer, names_of_others_outside_journal, nothing_ignored, ignored_with_all_touched, ignored_with_scratch, touched_outside_journal_or_ignored}
 use Rattle.run_lists.proofs.Facts.{AreMore, Ignored}
 use Rattle.run_lists.proofs.Touched.{intent_off}
 
@@ -49,7 +49,7 @@ by_hides TreeFault run ignored off = scratch_hides (output run.words) ignored of
 by_hides OutFault run ignored off = off
 by_hides Memory run ignored off = off
 
-pub touched_hides : (theirs ignored : Ignored) → ignored intent_name ≡ false → ignored_with_touched theirs ignored intent_name ≡ false
+pub touched_hides : (theirs ignored : Ignored) → ignored intent_name ≡ false → touched_outside_journal_or_ignored theirs ignored intent_name ≡ false
 touched_hides theirs ignored off = neither (names_of_others_outside_journal theirs intent_name) (ignored intent_name) (λ is. false≢true (sym (intent_off theirs) ∙ is)) off
 
 pub all_touched_hides : (events : List RootEvent) (ignored : Ignored) → ignored intent_name ≡ false → ignored_with_all_touched events ignored intent_name ≡ false
@@ -70,7 +70,7 @@ after_hides ignored off (Touches theirs ∷ earlier) = touched_hides theirs (ign
 
 -- ---- more and fewer
 
-pub touched_more : (theirs ignored : Ignored) → AreMore ignored (ignored_with_touched theirs ignored)
+pub touched_more : (theirs ignored : Ignored) → AreMore ignored (touched_outside_journal_or_ignored theirs ignored)
 touched_more theirs ignored q is = or_right (names_of_others_outside_journal theirs q) (ignored q) is
 
 pub all_touched_more : (events : List RootEvent) (ignored : Ignored) → AreMore ignored (ignored_with_all_touched events ignored)

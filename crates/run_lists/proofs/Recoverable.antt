@@ -23,9 +23,9 @@ use Rattle.apk_front.specs.outcome.Work.{fault_of_intent, recovery_fault}
 use Rattle.report_core.specs.declared.refusal.Refusal.{Refusal}
 use Rattle.report_core.specs.declared.refusal.Refusal.TheVariants.{IntentBad}
 use Rattle.apk_front.specs.words_core.Grammar.{command_of}
-use Rattle.run_lists.specs.Events.{Crashes, Edits, Ends, RootEvent, Reaches, ReachesWithoutCommitOrEdit, IsEventWithoutCommitOrEdit, IsMomentOf, IsOutcomeFrom, IsRunFrom, IsPossibleStop, IsTransition, Run, Stops, Touches, ignored_after, ignored_during_run, nothing_ignored, ignored_with_all_touched, ignored_with_touched}
+use Rattle.run_lists.specs.Events.{Crashes, Edits, Ends, RootEvent, Reaches, ReachesWithoutCommitOrEdit, IsEventWithoutCommitOrEdit, IsMomentOf, IsOutcomeFrom, IsRunFrom, IsPossibleStop, IsTransition, Run, Stops, Touches, ignored_after, ignored_during_run, nothing_ignored, ignored_with_all_touched, touched_outside_journal_or_ignored}
 use Rattle.run_lists.specs.Reading.{HasBadIntent}
-use Rattle.run_lists.specs.Recovered.{ReachesWithNoBadIntentPutByOthers, HasStateOfSomeCrashBefore, HasStateOfCrashBeforeOrOutcome, HasSameState, IsRecoveredBy, IsNotRefusedForIntent, EachCrashLeavesNoBadIntent, PutsNoBadIntentIfEditByOthers}
+use Rattle.run_lists.specs.Recovered.{ReachesWithNoBadIntentPutByOthers, HasStateOfSomeCrashBefore, HasStateOfCrashBeforeOrOutcome, HasSameState, RecoversToStateWithoutRefusal, IsNotRefusedForIntent, EachCrashLeavesNoBadIntent, PutsNoBadIntentIfEditByOthers}
 use Rattle.run_lists.specs.Safety.{HasStateAsReadOrOutcome, LeavesOldOrOutcome}
 use Rattle.run_lists.proofs.Along.{as_crash, seen_durable}
 use Rattle.apk_front.proofs.outcome.NextRoom.{intent_gone}
@@ -106,7 +106,7 @@ module _ (same : HasSameBadIntent) where
           good (files_of w) crash.left (bad_both nothing_ignored image (files_of w) refl (facts.crash_settled nothing_ignored v w crash image is) bad)
       led_good names Edits v w shown is_durable good synced puts = λ image is bad.
           puts (bad_both nothing_ignored image (files_of w) refl (facts.crash_settled nothing_ignored w w (as_crash facts w synced) image is) bad)
-      led_good names (Touches theirs) v w shown is_durable good touch puts = quiet_good (ignored_with_touched theirs names) v w (touched_hides theirs names shown) (touch_quiet theirs v w touch names) good
+      led_good names (Touches theirs) v w shown is_durable good touch puts = quiet_good (touched_outside_journal_or_ignored theirs names) v w (touched_hides theirs names shown) (touch_quiet theirs v w touch names) good
 
       module _ (start : Ignored) (off : start intent_name ≡ false) (first : TreeState) (is_durable : IsDurable (StateDependsOn start) first) (good : EachCrashLeavesNoBadIntent first) where
         pub seen_good : (v : TreeState) (events : List RootEvent) → ReachesWithNoBadIntentPutByOthers first events v → EachCrashLeavesNoBadIntent v
@@ -210,7 +210,7 @@ module _ (facts : Facts) (crash_quiet : (ignored : Ignored) (v w : TreeState) �
   led_quiet earlier m v Edits w on idle synced = absurd idle
   led_quiet earlier m v (Touches theirs) w on idle touch =
       let few = ignored_with_all_touched earlier start in
-      let names = ignored_with_touched theirs few in
+      let names = touched_outside_journal_or_ignored theirs few in
       record {
         quiet = quiet_on names m v w (quiet_more few names (touched_more theirs few) m v on.quiet) (touch_quiet theirs v w touch few);
         is_durable = touch_durable theirs v w touch few on.is_durable;
@@ -225,7 +225,7 @@ module _ (facts : Facts) (crash_quiet : (ignored : Ignored) (v w : TreeState) �
       → IsOkRefusedOrOutputFault run.answer → HasOutcomeWithoutCommit (IsOutcomeFrom v run) → HoldsNow run.now (λ w. files_of w ≡ unstaged_files (files_of v))) where
     -- from a moment of a run on, over what crashes and idle runs leave
     pub next_recovers : (m w : TreeState) (later : List RootEvent) (next : Run) → IsDurable (StateDependsOn start) m → EachCrashLeavesNoBadIntent m
-        → ReachesWithoutCommitOrEdit m later w → IsRunFrom w next → does_recover (effect_of_arguments (command_of next.words)) ≡ true → (image : Files) × IsCrashImage m image × IsRecoveredBy (HasSameState (ignored_with_all_touched later start) image) w next
+        → ReachesWithoutCommitOrEdit m later w → IsRunFrom w next → does_recover (effect_of_arguments (command_of next.words)) ≡ true → (image : Files) × IsCrashImage m image × RecoversToStateWithoutRefusal (HasSameState (ignored_with_all_touched later start) image) w next
     next_recovers m w later next is_durable good seen is_next recovers =
         let names = ignored_with_all_touched later start in
         let on = seen_quiet m w later is_durable seen in
@@ -246,7 +246,7 @@ module _ (facts : Facts) (crash_quiet : (ignored : Ignored) (v w : TreeState) �
           },
         )
 
-pub recovered_as : (A B : Files → Type 0) → ((files : Files) → A files → B files) → (w : TreeState) (next : Run) → IsRecoveredBy A w next → IsRecoveredBy B w next
+pub recovered_as : (A B : Files → Type 0) → ((files : Files) → A files → B files) → (w : TreeState) (next : Run) → RecoversToStateWithoutRefusal A w next → RecoversToStateWithoutRefusal B w next
 recovered_as A B leads w next is = record {
   unrefused = is.unrefused;
   works = is.works;
@@ -260,7 +260,7 @@ module _ (facts : Facts) (same : HasSameBadIntent) (committed : CommitsNoIntent)
     → IsOkRefusedOrOutputFault run.answer → HasOutcomeWithoutCommit (IsOutcomeFrom v run) → HoldsNow run.now (λ w. files_of w ≡ unstaged_files (files_of v)))
     (start : Ignored) (off : start intent_name ≡ false) (first : TreeState) (is_durable : IsDurable (StateDependsOn start) first) (good : EachCrashLeavesNoBadIntent first) where
   pub stopped_left : (v m w : TreeState) (events later : List RootEvent) (run next : Run) → ReachesWithNoBadIntentPutByOthers first events v → IsRunFrom v run → IsPossibleStop run m → ReachesWithoutCommitOrEdit m later w
-      → IsRunFrom w next → does_recover (effect_of_arguments (command_of next.words)) ≡ true → (image : Files) × IsCrashImage m image × IsRecoveredBy (HasSameState (ignored_with_all_touched later (ignored_during_run run (ignored_after start events))) image) w next
+      → IsRunFrom w next → does_recover (effect_of_arguments (command_of next.words)) ≡ true → (image : Files) × IsCrashImage m image × RecoversToStateWithoutRefusal (HasSameState (ignored_with_all_touched later (ignored_during_run run (ignored_after start events))) image) w next
   stopped_left v m w events later run next seen is_run (at, moment, torn) idly is_next recovers =
       let names = ignored_after start events in
       let shown = after_hides start off events in
@@ -271,7 +271,7 @@ module _ (facts : Facts) (same : HasSameBadIntent) (committed : CommitsNoIntent)
       (torn_durable at m torn (ignored_during_run run names) order) (torn_good at m torn is_good) idly is_next recovers
 
   pub stopped_recovers : (v m w : TreeState) (events later : List RootEvent) (run next : Run) → ReachesWithNoBadIntentPutByOthers first events v → IsRunFrom v run → IsPossibleStop run m → ReachesWithoutCommitOrEdit m later w
-      → IsRunFrom w next → does_recover (effect_of_arguments (command_of next.words)) ≡ true → IsRecoveredBy (HasStateOfCrashBeforeOrOutcome (ignored_with_all_touched later (ignored_during_run run (ignored_after start events))) v run) w next
+      → IsRunFrom w next → does_recover (effect_of_arguments (command_of next.words)) ≡ true → RecoversToStateWithoutRefusal (HasStateOfCrashBeforeOrOutcome (ignored_with_all_touched later (ignored_during_run run (ignored_after start events))) v run) w next
   stopped_recovers v m w events later run next seen is_run (at, moment, torn) idly is_next recovers =
       let few = ignored_during_run run (ignored_after start events) in
       let names = ignored_with_all_touched later few in

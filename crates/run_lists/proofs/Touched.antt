@@ -13,7 +13,7 @@ use Rattle.apk_front.proofs.journal_intent.StageNames.{stage_name_staged}
 use Rattle.apk_front.specs.journal_core.Quiet.{EachCrashLeavesOld}
 use Rattle.apk_front.specs.journal_core.Recovery.{Intent, IsStagedNameOf, StateDependsOn, intent_in_file, intent_name, intent_of, is_staged}
 use Rattle.apk_front.proofs.journal_core.Agree.{state_agree}
-use Rattle.run_lists.specs.Events.{HaveSameFilesExceptTheirs, IsChangeByOthers, names_of_others_outside_journal, ignored_with_touched}
+use Rattle.run_lists.specs.Events.{HaveSameFilesExceptTheirs, IsChangeByOthers, names_of_others_outside_journal, touched_outside_journal_or_ignored}
 use Rattle.run_lists.proofs.Facts.{Ignored}
 
 -- ---- the names
@@ -55,7 +55,7 @@ same_bytes f g (Some n) same = ap (λ (file : File). Some file.bytes) (same n re
 
 module _ (theirs : Ignored) (v w : TreeState) (touch : IsChangeByOthers theirs v w) (ignored : Ignored) where
   abbrev Names : Ignored
-  Names = ignored_with_touched theirs ignored
+  Names = touched_outside_journal_or_ignored theirs ignored
 
   counts : (files : Files) (q : List ℕ) → StateDependsOn Names files q → names_of_others_outside_journal theirs q ≡ false
   counts files q (inl is) = ap (names_of_others_outside_journal theirs) is ∙ intent_off theirs

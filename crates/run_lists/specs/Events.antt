@@ -284,8 +284,8 @@ abbrev pub AreNamesAmong : (List ℕ → Bool) → (List ℕ → Bool) → Type 
 AreNamesAmong few many = (q : List ℕ) → few q ≡ true → many q ≡ true
 
 -- the names `ignored`, and those of the names `theirs` that others may touch
-abbrev pub ignored_with_touched : (List ℕ → Bool) → (List ℕ → Bool) → List ℕ → Bool
-ignored_with_touched theirs ignored q = names_of_others_outside_journal theirs q || ignored q
+abbrev pub touched_outside_journal_or_ignored : (List ℕ → Bool) → (List ℕ → Bool) → List ℕ → Bool
+touched_outside_journal_or_ignored theirs ignored q = names_of_others_outside_journal theirs q || ignored q
 
 -- the names `ignored`, and all names that others touched along a list of events
 abbrev pub ignored_with_all_touched : List RootEvent → (List ℕ → Bool) → List ℕ → Bool
@@ -295,7 +295,7 @@ ignored_with_all_touched (Stops run ∷ earlier) ignored = ignored_with_all_touc
 ignored_with_all_touched (Crashes ∷ earlier) ignored = ignored_with_all_touched earlier ignored
 ignored_with_all_touched (Edits ∷ earlier) ignored = ignored_with_all_touched earlier ignored
 ignored_with_all_touched (Touches theirs ∷ earlier) ignored =
-    ignored_with_touched theirs (ignored_with_all_touched earlier ignored)
+    touched_outside_journal_or_ignored theirs (ignored_with_all_touched earlier ignored)
 
 -- The names that are ignored after a list of events, the newest first. A run with an output adds its scratch name if it
 -- is stopped or the tree fails. This name is no longer ignored once the output is written, or after a crash or an edit,
@@ -308,7 +308,7 @@ ignored_after ignored (Stops run ∷ earlier) = ignored_during_run run (ignored_
 ignored_after ignored (Crashes ∷ earlier) = nothing_ignored
 ignored_after ignored (Edits ∷ earlier) = nothing_ignored
 ignored_after ignored (Touches theirs ∷ earlier) =
-    ignored_with_touched theirs (ignored_after ignored earlier)
+    touched_outside_journal_or_ignored theirs (ignored_after ignored earlier)
 
 -- In a list of events, the newest first: since the last crash or edit, no run with an output was stopped or ended by an
 -- I/O error of the tree. Since then, others touched nothing. (After a crash or an edit all files are synced.)

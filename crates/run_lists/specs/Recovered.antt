@@ -78,7 +78,7 @@ pub record HaveStateWithoutIntentOrStagedFiles (HasState : Files → Type 0) (fi
 -- The run `next`, which finds the root in the state w, is not refused for an intent. It works on the recovered files,
 -- and these are as *HaveStateWithoutIntentOrStagedFiles* says. If its outcome commits nothing, the files as read once this is
 -- answered are the recovered ones.
-pub record IsRecoveredBy (HasState : Files → Type 0) (w : TreeState) (next : Run) :
+pub record RecoversToStateWithoutRefusal (HasState : Files → Type 0) (w : TreeState) (next : Run) :
     Type 0 where
   -- the next run does not answer that the intent is bad
   pub unrefused : IsNotRefusedForIntent next

@@ -16,7 +16,7 @@ ghost use Rattle.apk_front.specs.outcome.Words.{IsOutcome};
 ghost use Rattle.apk_front.specs.outcome.Work.{recovery_fault};
 ghost use Rattle.run_lists.specs.Events.{AreNamesAmong, RootEvent, HasNoUnfinishedOutputOrTouchSinceSync, HasNoUnfinishedRunSinceCrash, Reaches, ReachesWithoutCommitOrEdit, ReachesOneCrashState, IsRunWithoutCommit, IsMomentOf, IsOutcomeFrom, IsRunFrom, IsPossibleStop, Run, ignored_after, ignored_during_run, nothing_ignored, ignored_with_all_touched, ignored_with_scratch};
 ghost use Rattle.run_lists.specs.Reading.{HasBadIntent, HasOldRecoveredOrOutcomeBytes, ReachesByRuns, IsUnrestrictedRun, HasDurableRecoveredOrOutcomeBytes, IsNoJournalOutputOrIgnoredName, IsNoJournalOrTemporaryName, HoldsAsReadAndAsRecovered, EachCommitPassesTestAtName};
-ghost use Rattle.run_lists.specs.Recovered.{ReachesWithNoBadIntentPutByOthers, HasStateOfCrashBeforeOrOutcome, HasSameState, IsRecoveredBy, IsNotRefusedForIntent, EachCrashLeavesNoBadIntent};
+ghost use Rattle.run_lists.specs.Recovered.{ReachesWithNoBadIntentPutByOthers, HasStateOfCrashBeforeOrOutcome, HasSameState, RecoversToStateWithoutRefusal, IsNotRefusedForIntent, EachCrashLeavesNoBadIntent};
 ghost use Rattle.run_lists.specs.Safety.{HasStateAsReadOrOutcome, IsAtomicFromOneCrashState, IsSafeAfterAnyEvents};
 ghost use Rattle.apk_front.specs.words_core.Grammar.{command_of};
 
@@ -240,7 +240,7 @@ pub fn a_stopped_run_is_recovered()
         → IsRunFrom v run → IsPossibleStop run m → ReachesWithoutCommitOrEdit m later w
         → IsRunFrom w next → does_recover (effect_of_arguments (command_of next.words)) ≡ true
         → let names = ignored_during_run run (ignored_after ignored events) in
-        IsRecoveredBy (HasStateOfCrashBeforeOrOutcome
+        RecoversToStateWithoutRefusal (HasStateOfCrashBeforeOrOutcome
         (ignored_with_all_touched later names) v run) w next }
 
     // The files on which the next run works have the state of some files that a crash might have
@@ -253,7 +253,8 @@ pub fn a_stopped_run_is_recovered()
         → IsRunFrom w next → does_recover (effect_of_arguments (command_of next.words)) ≡ true
         → let names = ignored_during_run run (ignored_after ignored events) in
         (image : Files) × IsCrashImage m image
-        × IsRecoveredBy (HasSameState (ignored_with_all_touched later names) image) w next }
+        × RecoversToStateWithoutRefusal (HasSameState
+        (ignored_with_all_touched later names) image) w next }
 
     // Suppose that each crash left one state when the stopped run began. Then files with a state
     // from before the run, or that of its outcome, have this one state or that of the outcome.
