@@ -8,7 +8,7 @@ use Rattle.std.proofs.lemmas.List.{take_at, drop_at, length-append, length-drop,
 use Rattle.std.proofs.lemmas.Slice.Eq.{bytes_eq-Decides}
 use Rattle.adb_view.specs.Plain.{Plain, null, int, blob, arr, obj, Plains, none, more, IsNormal, AreNormal, count_of}
 use Rattle.adb_view.specs.Readers.{ARRAY, OBJECT}
-use Rattle.adb_write.specs.Canonical.{padding_to_alignment_from_offset, Item, WrittenItem, Cell, in_place, apart, int_item, int_cell, blob_item, blob_cell, run_bytes, array_or_object_item, array_or_object_cell, words_without_last_nulls, Layout, empty_layout_counting_root, payload_end_offset, is_equal_item, word_of_written_item, word_and_layout_with_new_item, word_and_layout_with_reused_or_new_item, word_and_layout_with_item, word_and_layout_with_cell, word_and_layout_with_array_or_object, write, write_all, payload_with_root_word_in_head, MOST_BYTES}
+use Rattle.adb_write.specs.Canonical.{padding_to_alignment_from_offset, Item, WrittenItem, Cell, in_place, apart, int_item, int_cell, blob_item, blob_cell, run_bytes_with_leading_count, array_or_object_item, array_or_object_cell, words_without_last_nulls, Layout, empty_layout_counting_root, payload_end_offset, is_equal_item, word_of_written_item, word_and_layout_with_new_item, word_and_layout_with_reused_or_new_item, word_and_layout_with_item, word_and_layout_with_cell, word_and_layout_with_array_or_object, write, write_all, payload_with_root_word_in_head, MOST_BYTES}
 use Rattle.adb_write.specs.Again.{len_of_length_field, HasLengthInFront, IsItemInBytes, HasItemsInBytes, item_len_from_front}
 use Rattle.adb_write.specs.Size.{entries_of, entries_of_all, with_value_count_raised}
 use Rattle.adb_write.proofs.Found.{equal_kind, equal_bytes, equal_within}
@@ -70,7 +70,7 @@ blob_framed b few =
           ]
     ]
 
-run_front : (ws : List ℕ) → suc (length ws) < 2 ^ 32 → from_le_bytes w32 (take 4 (run_bytes ws)) ≡ suc (length ws)
+run_front : (ws : List ℕ) → suc (length ws) < 2 ^ 32 → from_le_bytes w32 (take 4 (run_bytes_with_leading_count ws)) ≡ suc (length ws)
 run_front ws few = ap (from_le_bytes w32) (take_at (to_le_bytes w32 (suc (length ws))) (flat_map (to_le_bytes w32) ws) 4 (wide32.len (suc (length ws)))) ∙ wide32.again (suc (length ws)) few
 
 array_framed : (ws : List ℕ) → suc (length ws) < 2 ^ 32 → HasLengthInFront (array_or_object_item ARRAY ws)

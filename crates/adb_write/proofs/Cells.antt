@@ -4,7 +4,7 @@ use Rattle.std.specs.List.{flat_map}
 use Rattle.std.specs.Int.{w8, w16, w32, w64, to_le_bytes}
 use Rattle.std.proofs.lemmas.Bool.{le-ltb, ne_eqb}
 use Rattle.std.proofs.lemmas.List.{take_more}
-use Rattle.adb_write.specs.Canonical.{Item, apart, int_item, int_cell, blob_item, blob_cell, array_or_object_item, run_bytes, array_or_object_cell, prepend_unless_last_null, words_without_last_nulls}
+use Rattle.adb_write.specs.Canonical.{Item, apart, int_item, int_cell, blob_item, blob_cell, array_or_object_item, run_bytes_with_leading_count, array_or_object_cell, prepend_unless_last_null, words_without_last_nulls}
 
 -- ---- the number in an item's front, and what follows it
 
@@ -45,7 +45,7 @@ blob_bytes b = go (ltb (length b) (2 ^ 8)) (ltb (length b) (2 ^ 16))
     go false true = refl
     go false false = refl
 
-pub run_bytes_are : (ws : List ℕ) (n : ℕ) → n ≡ length ws + 1 → run_bytes ws ≡ take 4 (to_le_bytes w64 n) ++ flat_map (to_le_bytes w32) ws
+pub run_bytes_are : (ws : List ℕ) (n : ℕ) → n ≡ length ws + 1 → run_bytes_with_leading_count ws ≡ take 4 (to_le_bytes w64 n) ++ flat_map (to_le_bytes w32) ws
 run_bytes_are ws n e = let is : n ≡ suc (length ws) = omega arith in rw is refl
 
 -- ---- an object's words without the NULLs that are last

@@ -8,7 +8,7 @@ use Rattle.std.proofs.lemmas.List.Concat.{flat_map-cons}
 use Rattle.std.proofs.lemmas.Nat.{from_le_bytes-to_le_bytes_2, from_le_bytes-to_le_bytes_4, from_le_bytes-to_le_bytes_8}
 use Rattle.adb_view.specs.Bytes.{bytes_at_with_len, number_at, words}
 use Rattle.adb_view.specs.Readers.{kind_number_of_word, low_28_bits, length_prefixed_bytes_at, run_entries_at_with_word_count, run_entries_at}
-use Rattle.adb_write.specs.Canonical.{padding_to_alignment_from_offset, Item, Layout, payload_end_offset, word_and_layout_with_new_item, payload_with_root_word_in_head, run_bytes}
+use Rattle.adb_write.specs.Canonical.{padding_to_alignment_from_offset, Item, Layout, payload_end_offset, word_and_layout_with_new_item, payload_with_root_word_in_head, run_bytes_with_leading_count}
 
 -- the payload ends with these bytes, which begin at the offset
 pub record Stands (p : List ℕ) (at : ℕ) (bytes : List ℕ) : Type 0 where
@@ -79,7 +79,7 @@ pub words_len : (ws : List ℕ) → length (flat_map (to_le_bytes w32) ws) ≡ 4
 words_len [] = refl
 words_len (w ∷ ws) = ap length (flat_map-cons (to_le_bytes w32) w ws) ∙ omega (arith, length-append (to_le_bytes w32 w) (flat_map (to_le_bytes w32) ws), words_len ws, wide32.len w)
 
-pub run_stands : (p : List ℕ) (at : ℕ) (ws back : List ℕ) → AllByRecursion (λ w. w < 2 ^ 32) ws → suc (length ws) < 2 ^ 32 → Stands p at (run_bytes ws ++ back) → run_entries_at p at ≡ Some ws
+pub run_stands : (p : List ℕ) (at : ℕ) (ws back : List ℕ) → AllByRecursion (λ w. w < 2 ^ 32) ws → suc (length ws) < 2 ^ 32 → Stands p at (run_bytes_with_leading_count ws ++ back) → run_entries_at p at ≡ Some ws
 run_stands p at ws back small few s =
     let entries : List ℕ = flat_map (to_le_bytes w32) ws in
     let apart : Stands p at (to_le_bytes w32 (suc (length ws)) ++ (entries ++ back)) = subst (Stands p at) (append_assoc (to_le_bytes w32 (suc (length ws))) entries back) s in

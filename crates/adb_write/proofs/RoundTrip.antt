@@ -9,7 +9,7 @@ use Rattle.adb_view.specs.Bytes.{bytes_at_with_len, number_at, words}
 use Rattle.adb_view.specs.Plain.{IsNormal, AreNormal, Plain, null, int, blob, arr, obj, Plains, none, more, without_last_nulls, blob_or_null, array_or_null, object_or_null, trimmed_object_or_null, Shape, number, text, hash, array, object, Fields, no_fields, field, null_plain_if_null_word, option_of_ok_value, plains_of_all_words, plain_of, plains_of, root_value_with_shape}
 use Rattle.adb_view.specs.Head.{root_word_of_payload}
 use Rattle.adb_view.specs.Readers.{kind_number_of_word, low_28_bits, or_outside_cause, length_prefixed_bytes_at, run_entries_at_with_word_count, run_entries_at, int_of, blob_of, run_entries_of_kind_in_payload_at_word, ARRAY, OBJECT}
-use Rattle.adb_write.specs.Canonical.{padding_to_alignment_from_offset, Item, WrittenItem, Cell, in_place, apart, int_cell, blob_cell, array_or_object_cell, run_bytes, prepend_unless_last_null, words_without_last_nulls, Layout, empty_layout_counting_root, payload_end_offset, is_equal_item, word_of_written_item, word_and_layout_with_new_item, word_and_layout_with_reused_or_new_item, word_and_layout_with_item, word_and_layout_with_cell, word_and_layout_with_array_or_object, write, write_all, payload_with_root_word_in_head, canonical, MOST_BYTES}
+use Rattle.adb_write.specs.Canonical.{padding_to_alignment_from_offset, Item, WrittenItem, Cell, in_place, apart, int_cell, blob_cell, array_or_object_cell, run_bytes_with_leading_count, prepend_unless_last_null, words_without_last_nulls, Layout, empty_layout_counting_root, payload_end_offset, is_equal_item, word_of_written_item, word_and_layout_with_new_item, word_and_layout_with_reused_or_new_item, word_and_layout_with_item, word_and_layout_with_cell, word_and_layout_with_array_or_object, write, write_all, payload_with_root_word_in_head, canonical, MOST_BYTES}
 use Rattle.adb_view.specs.Shaped.{Each, HasShape, HaveShapes}
 use Rattle.adb_view.proofs.Normal.{trimmed-more}
 use Rattle.adb_write.specs.Denotes.{Holds, HoldAll, IsWordOf}
@@ -310,7 +310,7 @@ pub blob_of-32 : (p : List ℕ) (w : ℕ) (b : List ℕ) → length b < 2 ^ 32 �
 unfolding blob_of
 blob_of-32 p w b lt l = let t0 : eqb w 0 ≡ false = ne_eqb w 0 l.nonzero in rw (t0, l.kind_is, counted_stands w32 (2 ^ 32) wide32 p (low_28_bits w) b l.located.0 lt l.located.1) refl
 
-pub run_entries_of_kind_in_payload_at_word-placed : (kind : ℕ) (p : List ℕ) (w : ℕ) (ws : List ℕ) → AllByRecursion (λ w. w < 2 ^ 32) ws → suc (length ws) < 2 ^ 32 → Leads p (record { kind = kind; align = 4; bytes = run_bytes ws; entries = length ws }) w → run_entries_of_kind_in_payload_at_word kind p w ≡ Ok ws
+pub run_entries_of_kind_in_payload_at_word-placed : (kind : ℕ) (p : List ℕ) (w : ℕ) (ws : List ℕ) → AllByRecursion (λ w. w < 2 ^ 32) ws → suc (length ws) < 2 ^ 32 → Leads p (record { kind = kind; align = 4; bytes = run_bytes_with_leading_count ws; entries = length ws }) w → run_entries_of_kind_in_payload_at_word kind p w ≡ Ok ws
 unfolding run_entries_of_kind_in_payload_at_word
 run_entries_of_kind_in_payload_at_word-placed kind p w ws small few l =
     let t0 : eqb w 0 ≡ false = ne_eqb w 0 l.nonzero in
@@ -415,7 +415,7 @@ pub record MadeRun (kind : ℕ) (ws : List ℕ) (r : ℕ × Layout) : Type 0 whe
 
 pub run_made : (kind : ℕ) (w : ℕ) (ws : List ℕ) (out : Layout) → 0 < kind → kind < 15 → AllByRecursion (λ w. w < 2 ^ 32) (w ∷ ws) → payload_end_offset (word_and_layout_with_array_or_object kind (w ∷ ws) out).1 ≤ MOST_BYTES → MadeRun kind (w ∷ ws) (word_and_layout_with_array_or_object kind (w ∷ ws) out)
 run_made kind w ws out pos lt15 small fits =
-    let i : Item = record { kind = kind; align = 4; bytes = run_bytes (w ∷ ws); entries = length (w ∷ ws) } in
+    let i : Item = record { kind = kind; align = 4; bytes = run_bytes_with_leading_count (w ∷ ws); entries = length (w ∷ ws) } in
     let l : (root : ℕ) → Leads (payload_with_root_word_in_head root (word_and_layout_with_item i out).1) i (word_and_layout_with_item i out).0 = λ root. placed_leads i out root pos lt15 (omega arith) fits in
     let few : suc (length (w ∷ ws)) < 2 ^ 32 = omega (arith, item_within i out (omega arith), length-append (to_le_bytes w32 (suc (length (w ∷ ws)))) (flat_map (to_le_bytes w32) (w ∷ ws)), words_len (w ∷ ws)) in
     record { nonzero = (l 0).nonzero; small = (l 0).small; reads = λ root. run_entries_of_kind_in_payload_at_word-placed kind _ _ (w ∷ ws) small few (l root) }

@@ -12,7 +12,7 @@ use Rattle.std.proofs.lemmas.Slice.Eq.{bytes_eq-Decides}
 use Rattle.std.proofs.lemmas.Map.Lookups.{exact_bytes}
 use Rattle.adb_view.specs.Readers.{kind_number_of_word, low_28_bits, int_of, blob_of, ARRAY, OBJECT}
 use Rattle.adb_view.specs.Visits.{or_empty}
-use Rattle.adb_write.specs.Canonical.{Item, int_item, blob_item, run_bytes, is_equal_item, MOST_BYTES}
+use Rattle.adb_write.specs.Canonical.{Item, int_item, blob_item, run_bytes_with_leading_count, is_equal_item, MOST_BYTES}
 use Rattle.adb_write.specs.Items.{list_kind, item_of, HasNumbersInRange}
 use Rattle.adb_write.specs.declared.item.ListKind.{ListKind}
 use Rattle.adb_write.specs.declared.item.ListKind.TheVariants.{Array, Object}
@@ -115,7 +115,7 @@ blob_long b = go (ltb (length b) (2 ^ 8)) (ltb (length b) (2 ^ 16))
     go false true = omega (arith, length-append (to_le_bytes w16 (length b)) b)
     go false false = omega (arith, length-append (to_le_bytes w32 (length b)) b)
 
-pub run_long : (ws : List ℕ) → length (run_bytes ws) ≡ 4 + 4 * length ws
+pub run_long : (ws : List ℕ) → length (run_bytes_with_leading_count ws) ≡ 4 + 4 * length ws
 run_long ws = omega (arith, length-append (to_le_bytes w32 (suc (length ws))) (flat_map (to_le_bytes w32) ws), words_len ws)
 
 pub item_some : (s : Stored) → 0 < length (item_of_stored s).bytes
@@ -193,7 +193,7 @@ low_flat (w ∷ ws) =
     flat_map-cons (to_le_bytes w32) (w % 2 ^ 32) (low_words ws) ∙ ap (λ (x : List ℕ). x ++ flat_map (to_le_bytes w32) (low_words ws)) (low_word w)
     ∙ ap (λ (x : List ℕ). to_le_bytes w32 w ++ x) (low_flat ws) ∙ sym (flat_map-cons (to_le_bytes w32) w ws)
 
-pub low_run : (ws : List ℕ) → run_bytes (low_words ws) ≡ run_bytes ws
+pub low_run : (ws : List ℕ) → run_bytes_with_leading_count (low_words ws) ≡ run_bytes_with_leading_count ws
 low_run ws =
     ap (λ (n : ℕ). to_le_bytes w32 (suc n) ++ flat_map (to_le_bytes w32) (low_words ws)) (length-map ws (λ w. w % 2 ^ 32))
     ∙ ap (λ (x : List ℕ). to_le_bytes w32 (suc (length ws)) ++ x) (low_flat ws)
@@ -299,7 +299,7 @@ same_bytes (Listed kind ws) (stored_int m) k c = absurd (elim (int_kind m) [ inl
 same_bytes (Listed kind ws) (stored_blob x) k c = absurd (omega (arith, list_kinds kind, (blob_kind x).1))
 same_bytes (Listed kind ws) (stored_list other vs) k c =
     let same : low_words ws.now ≡ vs = sym (reverse-reverse (low_words ws.now)) ∙ (ap reverse c ∙ reverse-reverse vs) in
-    sym (low_run ws.now) ∙ ap run_bytes same
+    sym (low_run ws.now) ∙ ap run_bytes_with_leading_count same
 
 pub key_equal : (p : List ℕ) (l : ℕ) (parts : Parts) → IsStored p l → cmp (key_of parts) (key_of_locator p l) ≡ Equal → is_equal_item (drop 8 p) (item_of parts) (written_item l) ≡ true
 key_equal p l parts s e =

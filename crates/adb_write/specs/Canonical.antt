@@ -55,13 +55,14 @@ blob_cell [] = in_place 0
 blob_cell (b ∷ bs) = apart (blob_item (b ∷ bs))
 
 -- the bytes of a run of the words `ws`: the number of words, which counts this number too, and then the words
-abbrev pub run_bytes : List ℕ → List ℕ
-run_bytes ws = to_le_bytes w32 (suc (length ws)) ++ flat_map (to_le_bytes w32) ws
+abbrev pub run_bytes_with_leading_count : List ℕ → List ℕ
+run_bytes_with_leading_count ws = to_le_bytes w32 (suc (length ws)) ++ flat_map (to_le_bytes w32) ws
 
 -- the item of an array or an object with these words as entries; `kind` is the kind of the words that point to it (13
 -- for an array, 14 for an object)
 abbrev pub array_or_object_item : ℕ → List ℕ → Item
-array_or_object_item kind ws = record { kind = kind; align = 4; bytes = run_bytes ws; entries = length ws }
+array_or_object_item kind ws =
+    record { kind = kind; align = 4; bytes = run_bytes_with_leading_count ws; entries = length ws }
 
 -- an array or an object with these words as it is written (`kind` as above); without words it is NULL
 abbrev pub array_or_object_cell : ℕ → List ℕ → Cell

@@ -12,7 +12,7 @@ use Rattle.change_outcome.specs.db_core.declared.members.TheConstants.{MOST_MEMB
 use Rattle.change_outcome.proofs.package_changes.Lists.{item_at, option_in_front}
 use Rattle.package_verifier.specs.Tested.{tested_id, tested_value}
 use Rattle.package_verifier.specs.declared.package.TestedPackage.{TestedPackage}
-use Rattle.added_packages.specs.Arrivals.{HavePlacesIfKept, CanBeMembers, HasPlaceIfKept, member_of_read_package, members_of_read_packages}
+use Rattle.added_packages.specs.Arrivals.{HavePlacesIfKept, CanBeMembers, HasPlaceIfKept, member_of_read_package, members_by_packages_before_and_reads}
 use Rattle.added_packages.specs.declared.arrivals.MemberRead.{MemberRead}
 use Rattle.added_packages.specs.declared.arrivals.MemberRead.TheVariants.{Comes, Stays}
 
@@ -40,11 +40,11 @@ behind_front xs m ys rising =
     (before_it (map member_name xs) (member_name m) (map member_name ys) (subst Rises (names_join xs m ys) (rises_from_pairs _ rising)))
 
 module _ (before : List Plain) where
-  reads_join : (xs ys : List MemberRead) → members_of_read_packages before (xs ++ ys) ≡ members_of_read_packages before xs ++ members_of_read_packages before ys
+  reads_join : (xs ys : List MemberRead) → members_by_packages_before_and_reads before (xs ++ ys) ≡ members_by_packages_before_and_reads before xs ++ members_by_packages_before_and_reads before ys
   reads_join [] ys = refl
   reads_join (r ∷ xs) ys = ap (cons_option (member_of_read_package before r)) (reads_join xs ys) ∙ go (member_of_read_package before r)
     where
-      go : (o : Option Member) → cons_option o (members_of_read_packages before xs ++ members_of_read_packages before ys) ≡ cons_option o (members_of_read_packages before xs) ++ members_of_read_packages before ys
+      go : (o : Option Member) → cons_option o (members_by_packages_before_and_reads before xs ++ members_by_packages_before_and_reads before ys) ≡ cons_option o (members_by_packages_before_and_reads before xs) ++ members_by_packages_before_and_reads before ys
       go None = refl
       go (Some m) = refl
 
@@ -53,13 +53,13 @@ module _ (before : List Plain) where
   whole [] (suc i) = refl
   whole (r ∷ reads) (suc i) = ap (λ z. r ∷ z) (whole reads i)
 
-  pub next_behind : (reads : List MemberRead) (i : ℕ) (d : MemberRead) → i < length reads → CanBeMembers before reads → (m : Member) → member_of_read_package before (get_or reads i d) ≡ Some m → is_after_members (member_name m) (members_of_read_packages before (take i reads)) ≡ true
+  pub next_behind : (reads : List MemberRead) (i : ℕ) (d : MemberRead) → i < length reads → CanBeMembers before reads → (m : Member) → member_of_read_package before (get_or reads i d) ≡ Some m → is_after_members (member_name m) (members_by_packages_before_and_reads before (take i reads)) ≡ true
   next_behind reads i d lt can m is =
-      behind_front (members_of_read_packages before (take i reads)) m (members_of_read_packages before (drop (i + 1) reads))
+      behind_front (members_by_packages_before_and_reads before (take i reads)) m (members_by_packages_before_and_reads before (drop (i + 1) reads))
       (subst AreMembersInNameOrder
-      (ap (members_of_read_packages before) (sym (whole reads i))
+      (ap (members_by_packages_before_and_reads before) (sym (whole reads i))
       ∙ (reads_join (take i reads) (drop i reads)
-      ∙ ap (λ z. members_of_read_packages before (take i reads) ++ z) (ap (members_of_read_packages before) (item_at reads i d lt) ∙ ap (λ o. cons_option o (members_of_read_packages before (drop (i + 1) reads))) is)))
+      ∙ ap (λ z. members_by_packages_before_and_reads before (take i reads) ++ z) (ap (members_by_packages_before_and_reads before) (item_at reads i d lt) ∙ ap (λ o. cons_option o (members_by_packages_before_and_reads before (drop (i + 1) reads))) is)))
       can.in_order)
 
   pub next_placed : (reads : List MemberRead) (i : ℕ) (d : MemberRead) → i < length reads → HavePlacesIfKept before reads → HasPlaceIfKept before (get_or reads i d)
@@ -67,11 +67,11 @@ module _ (before : List Plain) where
   next_placed (r ∷ reads) zero d lt placed = placed.0
   next_placed (r ∷ reads) (suc i) d lt placed = next_placed reads i d (omega arith) placed.1
 
-  fewer : (reads : List MemberRead) → length (members_of_read_packages before reads) ≤ length reads
+  fewer : (reads : List MemberRead) → length (members_by_packages_before_and_reads before reads) ≤ length reads
   fewer [] = omega arith
   fewer (r ∷ reads) = go (member_of_read_package before r) (fewer reads)
     where
-      go : (o : Option Member) → length (members_of_read_packages before reads) ≤ length reads → length (cons_option o (members_of_read_packages before reads)) ≤ suc (length reads)
+      go : (o : Option Member) → length (members_by_packages_before_and_reads before reads) ≤ length reads → length (cons_option o (members_by_packages_before_and_reads before reads)) ≤ suc (length reads)
       go None less = omega (arith, less)
       go (Some m) less = omega (arith, less)
 
@@ -80,16 +80,16 @@ module _ (before : List Plain) where
   taken [] (suc i) = omega arith
   taken (r ∷ reads) (suc i) = let less = taken reads i in omega (arith, less)
 
-  pub next_few : (reads : List MemberRead) (i : ℕ) → i < length reads → length reads ≤ MOST_MEMBERS → length (members_of_read_packages before (take i reads)) < MOST_MEMBERS
+  pub next_few : (reads : List MemberRead) (i : ℕ) → i < length reads → length reads ≤ MOST_MEMBERS → length (members_by_packages_before_and_reads before (take i reads)) < MOST_MEMBERS
   next_few reads i lt few =
       let a = fewer (take i reads) in
       let b = taken reads i in
       omega (arith, a, b, lt, few)
 
-  pub one_more : (reads : List MemberRead) (i : ℕ) (d : MemberRead) → i < length reads → members_of_read_packages before (take (i + 1) reads) ≡ members_of_read_packages before (take i reads) ++ option_to_list (member_of_read_package before (get_or reads i d))
+  pub one_more : (reads : List MemberRead) (i : ℕ) (d : MemberRead) → i < length reads → members_by_packages_before_and_reads before (take (i + 1) reads) ≡ members_by_packages_before_and_reads before (take i reads) ++ option_to_list (member_of_read_package before (get_or reads i d))
   one_more reads i d lt =
-      ap (members_of_read_packages before) (take_more reads i d lt)
-      ∙ (reads_join (take i reads) (get_or reads i d ∷ []) ∙ ap (λ z. members_of_read_packages before (take i reads) ++ z) (go (member_of_read_package before (get_or reads i d))))
+      ap (members_by_packages_before_and_reads before) (take_more reads i d lt)
+      ∙ (reads_join (take i reads) (get_or reads i d ∷ []) ∙ ap (λ z. members_by_packages_before_and_reads before (take i reads) ++ z) (go (member_of_read_package before (get_or reads i d))))
     where
       go : (o : Option Member) → cons_option o [] ≡ option_to_list o
       go None = refl
@@ -112,8 +112,8 @@ stays_added before old new read place (Ok done) is placed added =
     added there.0 there.1 ∙ ap (λ o. old ++ option_to_list o) (sym (ap (member_of_read_package before) is ∙ ap (option_map member_of_kept) there.1))
 stays_added before old new read place (Err e) is placed added = tt
 
-pub all_taken : (before : List Plain) (reads : List MemberRead) (i : ℕ) → length reads ≤ i → members_of_read_packages before (take i reads) ≡ members_of_read_packages before reads
-all_taken before reads i past = ap (members_of_read_packages before) (go reads i past)
+pub all_taken : (before : List Plain) (reads : List MemberRead) (i : ℕ) → length reads ≤ i → members_by_packages_before_and_reads before (take i reads) ≡ members_by_packages_before_and_reads before reads
+all_taken before reads i past = ap (members_by_packages_before_and_reads before) (go reads i past)
   where
     go : (reads : List MemberRead) (i : ℕ) → length reads ≤ i → take i reads ≡ reads
     go [] zero past = refl

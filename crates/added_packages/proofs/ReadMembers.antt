@@ -11,7 +11,7 @@ use Rattle.change_outcome.specs.db_core.declared.members.TheConstants.{MOST_MEMB
 use Rattle.dep_core.specs.Repositories.{Repository}
 use Rattle.change_outcome.specs.make_info.Reads.{Reads}
 use Rattle.change_outcome.specs.package_changes.Placed.{ReplacementWithSelectionAsPlaces, replacement_of}
-use Rattle.added_packages.specs.Arrivals.{AreMembersFoundFromOldPackagesAndReads, HavePlacesIfKept, CanBeMembers, IsTestedPackageOfMember, IsMemberRead, IsPackageRead, HasPlaceIfKept, member_of_read_package, members_of_read_packages, added_package_in_member_read}
+use Rattle.added_packages.specs.Arrivals.{AreMembersFoundFromOldPackagesAndReads, HavePlacesIfKept, CanBeMembers, IsTestedPackageOfMember, IsMemberRead, IsPackageRead, HasPlaceIfKept, member_of_read_package, members_by_packages_before_and_reads, added_package_in_member_read}
 use Rattle.package_verifier.specs.Tested.{tested_id, tested_value}
 use Rattle.package_verifier.specs.declared.package.TestedPackage.{TestedPackage}
 use Rattle.added_packages.specs.declared.arrivals.MemberRead.{MemberRead}
@@ -33,12 +33,12 @@ module _ (h : List TreeState) (before : List Plain) where
   one_read (Stays place) m is = stays_as (slice_get before place) m is
   one_read (Comes pkg) m (coming, r, is) = ap Some (comes_as pkg coming r ∙ sym (ap (λ (x : MemberFound). x.member) is))
 
-  pub all_read : (reads : List MemberRead) (found : List MemberFound) → AreMembersFoundFromOldPackagesAndReads h before reads found → members_of_read_packages before reads ≡ found_members found
+  pub all_read : (reads : List MemberRead) (found : List MemberFound) → AreMembersFoundFromOldPackagesAndReads h before reads found → members_by_packages_before_and_reads before reads ≡ found_members found
   all_read [] [] are = refl
   all_read [] (m ∷ found) are = absurd are
   all_read (r ∷ reads) [] are = absurd are
   all_read (r ∷ reads) (m ∷ found) are =
-      ap (λ o. cons_option o (members_of_read_packages before reads)) (one_read r m are.0) ∙ ap (λ z. m.member ∷ z) (all_read reads found are.1)
+      ap (λ o. cons_option o (members_by_packages_before_and_reads before reads)) (one_read r m are.0) ∙ ap (λ z. m.member ∷ z) (all_read reads found are.1)
 
   as_many : (reads : List MemberRead) (found : List MemberFound) → AreMembersFoundFromOldPackagesAndReads h before reads found → length reads ≡ length found
   as_many [] [] are = refl

@@ -62,8 +62,8 @@ member_of_read_package before (Stays place) = option_map member_of_kept (slice_g
 member_of_read_package before (Comes pkg) = Some (member_of_added (tested_value pkg) (tested_id pkg))
 
 -- the packages as they were read, as members, in their order
-abbrev pub members_of_read_packages : List Plain → List MemberRead → List Member
-members_of_read_packages before reads = filter_map (member_of_read_package before) reads
+abbrev pub members_by_packages_before_and_reads : List Plain → List MemberRead → List Member
+members_by_packages_before_and_reads before reads = filter_map (member_of_read_package before) reads
 
 -- ---- as members
 
@@ -83,7 +83,7 @@ pub record CanBeMembers (before : List Plain) (reads : List MemberRead) : Type 0
   -- each kept package has a place in the database
   pub placed : HavePlacesIfKept before reads
   -- the packages are in byte order of names, each name once
-  pub in_order : AreMembersInNameOrder (members_of_read_packages before reads)
+  pub in_order : AreMembersInNameOrder (members_by_packages_before_and_reads before reads)
   -- there are no more of them than members are allowed
   pub few : length reads ≤ MOST_MEMBERS
 

@@ -5,7 +5,7 @@
 //! names, the first with a bad file or a script that has to run.
 
 ghost use Rattle.added_packages.specs.Answered.{DenotesUnlessDisk};
-ghost use Rattle.added_packages.specs.Arrivals.{AreMembersFoundFromOldPackagesAndReads, CanBeMembers, arrivals_seen, HasPlaceIfKept, member_of_read_package, members_of_read_packages, IsTestedPackageOfMember, added_package_in_member_read};
+ghost use Rattle.added_packages.specs.Arrivals.{AreMembersFoundFromOldPackagesAndReads, CanBeMembers, arrivals_seen, HasPlaceIfKept, member_of_read_package, members_by_packages_before_and_reads, IsTestedPackageOfMember, added_package_in_member_read};
 ghost use Rattle.added_packages.specs.NameReads.{IsAnswerByRead, IsNameRead, IsReadOfKeptPackage, member_of_name_by_read};
 ghost use Rattle.base_core.specs.Read.{OnlyReads};
 ghost use Rattle.change_outcome.specs.change_inputs.Answers.{Agrees};
@@ -253,7 +253,8 @@ pub fn members_of_change<'a>(
     requires { CanBeMembers (packages_of db.now) (arrivals_seen arrivals.now) }
     // The members are those of the definition, in the same order.
     ensures { IfOk result (λ members. members_of members
-        ≡ members_of_read_packages (packages_of db.entry.now) (arrivals_seen arrivals.entry.now)) }
+        ≡ members_by_packages_before_and_reads (packages_of db.entry.now)
+        (arrivals_seen arrivals.entry.now)) }
 {
     let mut members = Members::new(alloc, db);
     for read in &arrivals.members {
@@ -292,7 +293,7 @@ pub fn packages_that_were_read_are_those_found()
     ensures { (history : List TreeState) (before : List Plain) (reads : List MemberRead)
         (found : List MemberFound)
         → AreMembersFoundFromOldPackagesAndReads history before reads found
-        → members_of_read_packages before reads ≡ found_members found }
+        → members_by_packages_before_and_reads before reads ≡ found_members found }
 {}
 
 /// A law: the package that was read for the member at a place is that of the file whose contents

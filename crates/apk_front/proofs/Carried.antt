@@ -16,7 +16,7 @@ use Rattle.base_core.specs.declared.tree.TreeFault.TheVariants.{Disk, Memory as 
 use Rattle.journal_core.specs.Quiet.{StateIsUnchanged}
 use Rattle.journal_core.specs.Recovery.{EachCrashLeavesStateOf, StateDependsOn, intent_name}
 use Rattle.make_core.specs.make_info.Output.{output_name}
-use Rattle.make_core.specs.package_files.Sources.{AreSortedNamesBelowFirstFolder, values_of_letter}
+use Rattle.make_core.specs.package_files.Sources.{AreSortedAndEachBelowFirstFolder, values_of_letter}
 use Rattle.command_core.specs.declared.values.TheConstants.{FILES}
 use Rattle.make_core.specs.make_index.Files.{EachOperandReadFindsNoFileOrFileBytes}
 use Rattle.make_core.specs.make_info.Reads.{Reads}
@@ -144,7 +144,7 @@ pub index_found_one : (command : CommandLine) (old : History) (judged : Judged) 
     → IfOk judged (λ verdict. IfNothingStaged old (λ v. ReportsOneOfOutcomes (Ones command v) verdict))
 index_found_one command old judged same found = reports_among (λ v. IsIndexOutcome command (files_of v)) (Ones command) old judged (λ v o one. index_one command (files_of v) o same one) found
 
-pub package_read_one : (command : CommandLine) (judged : Judged) → Mkpkg ≡ command.applet → IfOk judged (λ verdict. (names : List (List ℕ)) × AreSortedNamesBelowFirstFolder (values_of_letter FILES command.values) names × (read : Reads) × Reports verdict (mkpkg read no_names command names))
+pub package_read_one : (command : CommandLine) (judged : Judged) → Mkpkg ≡ command.applet → IfOk judged (λ verdict. (names : List (List ℕ)) × AreSortedAndEachBelowFirstFolder (values_of_letter FILES command.values) names × (read : Reads) × Reports verdict (mkpkg read no_names command names))
     → IfOk judged (ReportsOneOfOutcomes (IsPossibleOutcomeAfterRecovery command))
 package_read_one command (Err e) same found = tt
 package_read_one command (Ok verdict) same (names, named, read, reports) =

@@ -15,7 +15,7 @@ use Rattle.make_core.specs.make_package.Answers.{IsMadeBySomeReads, IsMadeFromTr
 use Rattle.make_core.specs.make_package.Making.{made_package}
 use Rattle.make_core.specs.make_info.Output.{output_name}
 use Rattle.make_core.specs.make_index.Files.{EachOperandReadFindsNoFileOrFileBytes, reads_of}
-use Rattle.make_core.specs.package_files.Sources.{AreSortedNamesBelowFirstFolder, values_of_letter}
+use Rattle.make_core.specs.package_files.Sources.{AreSortedAndEachBelowFirstFolder, values_of_letter}
 use Rattle.make_core.specs.make_info.declared.fault.MakeFault.{MakeFault}
 use Rattle.command_core.specs.declared.values.TheConstants.{FILES}
 use Rattle.outcome.specs.Commands.{reads_in}
@@ -225,7 +225,7 @@ package_outcomes one command report none = record {
 
 pub package_read : (command : CommandLine) (report : List ℕ) (container : Container) (judged : Judged) → report ≡ [] → OnMade container (IsMadeBySomeReads command) → IfOk judged (λ verdict. is_making_ended_by_disk_or_memory container ≡ false)
     → IfOk judged (λ verdict. (files : Files) → Reports verdict (make_outcome files (output_name command) report (made_file_bytes container)))
-    → IfOk judged (λ verdict. (names : List (List ℕ)) × AreSortedNamesBelowFirstFolder (values_of_letter FILES command.values) names × (read : Reads) × Reports verdict (mkpkg read no_names command names))
+    → IfOk judged (λ verdict. (names : List (List ℕ)) × AreSortedAndEachBelowFirstFolder (values_of_letter FILES command.values) names × (read : Reads) × Reports verdict (mkpkg read no_names command names))
 package_read command report container (Err e) none found whole reports = tt
 package_read command report container (Ok verdict) none found whole reports =
     let m = meant container (IsMadeBySomeReads command) whole found in

@@ -18,7 +18,7 @@ ghost use Rattle.command_core.specs.declared.values.TheConstants.{FILES};
 ghost use Rattle.make_core.specs.make_index.Files.{EachOperandReadFindsNoFileOrFileBytes};
 ghost use Rattle.make_core.specs.make_info.Output.{output_name};
 ghost use Rattle.make_core.specs.make_info.Reads.{Reads};
-ghost use Rattle.make_core.specs.package_files.Sources.{AreSortedNamesBelowFirstFolder, values_of_letter};
+ghost use Rattle.make_core.specs.package_files.Sources.{AreSortedAndEachBelowFirstFolder, values_of_letter};
 ghost use Rattle.outcome.specs.Make.{index_report_line, make_outcome, mkndx, mkpkg, outcome_unless_output_reserved};
 ghost use Rattle.outcome.specs.Outcome.{Outcome, just_refusal};
 ghost use Rattle.report_core.specs.declared.refusal.Refusal.TheVariants.{ResultTooLarge};
@@ -55,7 +55,7 @@ pub(crate) fn mkpkg<T: Tree>(
         ReportsOneOfOutcomes (IsPackageOutcome command.now (files_of v)) verdict)) }
     // On every tree it is that of an outcome for some listing and some contents at each read.
     ensures by_reads { IfOk result (λ verdict. (names : List (List ℕ))
-        × AreSortedNamesBelowFirstFolder (values_of_letter FILES command.now.values) names
+        × AreSortedAndEachBelowFirstFolder (values_of_letter FILES command.now.values) names
         × (read : Reads) × Reports verdict (mkpkg read no_names command.now names)) }
     // The effect of the run on the tree.
     ensures run { IsMakingRun (IsPackageOutcome command.now) (output_name command.now)

@@ -9,7 +9,7 @@ use Rattle.std.proofs.lemmas.Slice.Eq.{bytes_eq-Decides}
 use Rattle.std.proofs.lemmas.Map.Views.{Contains-from_any}
 use Rattle.base_core.specs.Files.{NameMap, HaveValidNamesAndBytes, AreFileBytes, HasOnlyNamesAmong, IsFolderOf}
 use Rattle.base_core.specs.Tree.{TreeState, IsCurrentOrOlderMap, IsWellFormed, bytes_of_file_number, files_under_map, files_of}
-use Rattle.base_core.specs.Listed.{AreSortedNamesBelowFolder, IsSortedListingOfFolder, IsValidNameBelowFolder, IsSortedListOfAllNamesInMap, AreSortedDistinctTexts}
+use Rattle.base_core.specs.Listed.{AreSortedAndEachBelowFolder, IsSortedListingOfFolder, IsValidNameBelowFolder, IsSortedListOfAllNamesInMap, AreSortedDistinctTexts}
 use Rattle.base_core.proofs.Rising.{in_at, keep, keep_rises, kept_passes, passing_kept, same_list, contains_from_in, in_from_contains, pairs_from_rises, rises_from_pairs}
 
 -- just the names that P holds of, in byte order
@@ -82,7 +82,7 @@ list_decides folder v q = (
 all_contained : (P : List ℕ → Type 0) (names : List (List ℕ)) → ((q : List ℕ) → Contains names q → P q) → All P names
 all_contained P names each k d within = each (get_or names k d) (contains_from_in names (get_or names k d) (in_at names k d within))
 
-pub list_exists : (v : TreeState) → IsWellFormed v → (folder : List ℕ) → (names : List (List ℕ)) × IsSortedListingOfFolder folder v names × AreSortedNamesBelowFolder folder names
+pub list_exists : (v : TreeState) → IsWellFormed v → (folder : List ℕ) → (names : List (List ℕ)) × IsSortedListingOfFolder folder v names × AreSortedAndEachBelowFolder folder names
 list_exists v whole folder =
     let finite = whole.finite v.names (inl refl) in
     let found = listed (λ q. IsSome (v.names q) × IsFolderOf folder q) (λ q. is_some (v.names q) && is_below folder q) (list_decides folder v) finite.0 (λ q h. finite.1 q h.0) in (

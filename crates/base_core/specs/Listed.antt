@@ -36,7 +36,7 @@ pub record IsValidNameBelowFolder (folder name : List ℕ) : Type 0 where
   pub below : IsFolderOf folder name
 
 -- `names` are valid names below the folder, in byte order, each once. Nothing is said of which names a tree has
-pub record AreSortedNamesBelowFolder (folder : List ℕ) (names : List (List ℕ)) : Type 0 where
+pub record AreSortedAndEachBelowFolder (folder : List ℕ) (names : List (List ℕ)) : Type 0 where
   -- the names are in byte order, each once
   pub rising : AreSortedDistinctTexts names
   -- each is a valid name below the folder

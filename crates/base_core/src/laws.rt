@@ -6,7 +6,7 @@ ghost use Rattle.std.specs.Prelude.{◌≡◌, ◌≤◌, ◌++◌, ℕ, List, [
 ghost use Rattle.base_core.specs.Crash.{IsCrashImageIfUndoneNewestFirst, IsCrashImageUnderMap, IsDurableIfUndoneNewestFirst};
 ghost use Rattle.base_core.specs.Faults.{Counts, CountsOnlyRise, CountsNewFaultWithCause, CountsNoNewFaultOrLackOfMemory};
 ghost use Rattle.base_core.specs.Files.{Files, NameMap, HaveValidNamesAndBytes, HasOnlyNamesAmong};
-ghost use Rattle.base_core.specs.Listed.{AreSortedNamesBelowFolder, IsSortedListingOfFolder, IsSortedListOfAllNamesInMap};
+ghost use Rattle.base_core.specs.Listed.{AreSortedAndEachBelowFolder, IsSortedListingOfFolder, IsSortedListOfAllNamesInMap};
 ghost use Rattle.base_core.specs.Read.{OnlyReads};
 ghost use Rattle.base_core.specs.Restart.{HasNameLedToFileNumberedAtLeast, IsAfterCrashIfUndoneNewestFirst};
 ghost use Rattle.base_core.specs.Tree.{TreeState, IsCurrentOrOlderMap, IsWellFormed, files_of, files_under_map, with_newer_name_map};
@@ -152,7 +152,7 @@ pub fn a_folder_has_one_listing()
     // There is a listing of each folder, and it has only names below the folder.
     ensures exists { (v : TreeState) → IsWellFormed v → (folder : List ℕ)
         → (names : List (List ℕ)) × IsSortedListingOfFolder folder v names
-        × AreSortedNamesBelowFolder folder names }
+        × AreSortedAndEachBelowFolder folder names }
     // Two listings of one folder are equal.
     ensures one { (v : TreeState) (folder : List ℕ) (a b : List (List ℕ))
         → IsSortedListingOfFolder folder v a → IsSortedListingOfFolder folder v b → a ≡ b }

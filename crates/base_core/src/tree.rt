@@ -6,7 +6,7 @@ ghost use Rattle.std.specs.Option.{option_map, option_copied};
 ghost use Rattle.base_core.specs.Tree.{TreeState, files_of, after_create, after_append, after_failed_append, after_sync, after_rename, after_remove, after_sync_names, unchanged_after_failed_call, IsAlwaysAllowed, HasName, CanRead, CanCreate, CanRename, IsWellFormed};
 ghost use Rattle.base_core.specs.Faults.{Counts, CountsOnlyRise, CountsNewFaultWithCause, CountsNoNewFaultOrLackOfMemory};
 ghost use Rattle.base_core.specs.Calls.{IsCounted, ChangesHistory, IfObservable};
-ghost use Rattle.base_core.specs.Listed.{AreSortedNamesBelowFolder, IsSortedListingOfFolder};
+ghost use Rattle.base_core.specs.Listed.{AreSortedAndEachBelowFolder, IsSortedListingOfFolder};
 ghost use Rattle.base_core.specs.Read.{AppendsReadBytes, OnlyReads, bytes_in};
 ghost use Rattle.base_core.specs.declared.tree.TreeFault.TheVariants.{Memory, Disk as DiskFault};
 
@@ -184,7 +184,7 @@ pub trait Tree {
         ensures value { IfOk result (λ names.
             IfObservable (history self.old) (λ v. IsSortedListingOfFolder folder.now v names)) }
         // Even if it is not observable, the result has valid names below the folder, in byte order.
-        ensures order { IfOk result (λ names. AreSortedNamesBelowFolder folder.now names) };
+        ensures order { IfOk result (λ names. AreSortedAndEachBelowFolder folder.now names) };
 
     /// Asks, before a change is committed, whether the tree could later rename a file from the
     /// source to the name, or, without a source, remove the name. The source need not exist yet. An

@@ -3,7 +3,7 @@ use Rattle.std.proofs.Common.{◌≡◌, ℕ, List, Option, Some, None, Result, 
 use Rattle.base_core.specs.declared.cause.Cause.{Cause}
 use Rattle.db_core.specs.adb_schema.Soundness.{payload_fault}
 use Rattle.adb_view.specs.declared.tables.Which.TheVariants.{Idb}
-use Rattle.v2_core.specs.Payload.{payload_of_text, payload_if_sound, payload_unless_fault, payload_of_records}
+use Rattle.v2_core.specs.Payload.{payload_of_text, payload_if_sound, payload_unless_fault, untested_payload_of_records}
 use Rattle.v2_core.specs.Reading.{records_of}
 use Rattle.v2_core.specs.declared.read.V2Fault.{V2Fault}
 
@@ -17,4 +17,4 @@ by_payload (Err fault) payload is = absurd (cc)
 
 pub text_passes : (text payload : List ℕ) → payload_of_text text ≡ Ok payload → payload_fault Idb payload ≡ None
 unfolding payload_of_text
-text_passes text payload is = by_payload (payload_of_records (records_of text)) payload is
+text_passes text payload is = by_payload (untested_payload_of_records (records_of text)) payload is

@@ -3,7 +3,7 @@ use Rattle.std.proofs.Common.{◌≡◌, ◌∙◌, ◌≤◌, ℕ, Bool, true, 
 use Rattle.std.specs.Prelude.{if◌then◌else◌, nat_lt}
 use Rattle.std.proofs.lemmas.Bool.{ltb-false}
 use Rattle.added_packages.specs.Answered.{DenotesUnlessDisk}
-use Rattle.added_packages.specs.Arrivals.{AreMembersFoundFromOldPackagesAndReads, arrivals_seen, members_of_read_packages}
+use Rattle.added_packages.specs.Arrivals.{AreMembersFoundFromOldPackagesAndReads, arrivals_seen, members_by_packages_before_and_reads}
 use Rattle.added_packages.specs.declared.arrivals.Arrivals.{Arrivals}
 use Rattle.added_packages.specs.declared.arrivals.MemberRead.{MemberRead}
 use Rattle.adb_view.specs.Plain.{Plain}
@@ -37,7 +37,7 @@ use Rattle.engine_core.specs.ChangeRun.{IsEndOfRunOfWantedChange}
 use Rattle.engine_core.specs.Changed.{IsFirstClashUnlessRefusedAmong, IsFirstClashUnlessSimulatedAmong, change_of_selected, simulated_change}
 use Rattle.engine_core.specs.Preparing.{HasReadAddedPackages, ArePackagesFoundByReads, ArePackagesReadForSelection, IsArrived, IsPlanOfPackages, IsPlanned, IsRootRead, inputs_of_packages, inputs_of_plan, replacement_of_packages, replacement_of_plan, wishes_of_packages, wishes_of_plan}
 use Rattle.engine_core.specs.Runs.{IsRunOnSelection}
-use Rattle.engine_core.specs.Selecting.{pool_of_inputs}
+use Rattle.engine_core.specs.Selecting.{pool_of_inputs_unless_too_many_candidates}
 use Rattle.engine_core.specs.SelectionSeen.{HasDatabaseOfInputs, inputs_of_selection, replacement_seen, selection_seen, wishes_of_selection}
 use Rattle.engine_core.specs.declared.choosing.Selection.{Selection}
 use Rattle.engine_core.specs.declared.packages.ReadPackages.{ReadPackages}
@@ -62,7 +62,7 @@ few_by false n e made pool more is same = subst (λ (p : SelectionProblem). leng
     pool_or (Ok p) = p
     pool_or (Err refusal) = made
 
-pub few_candidates : (command : CommandLine) (inputs : Inputs) (pool : SelectionProblem) → pool_of_inputs command inputs ≡ Ok pool → length pool.candidates ≤ MOST_MEMBERS
+pub few_candidates : (command : CommandLine) (inputs : Inputs) (pool : SelectionProblem) → pool_of_inputs_unless_too_many_candidates command inputs ≡ Ok pool → length pool.candidates ≤ MOST_MEMBERS
 unfolding root_pool
 few_candidates command inputs pool is = few_by (nat_lt MOST_CANDIDATES (length (candidates_of inputs))) (length (candidates_of inputs)) _ _ pool refl refl is
 
@@ -202,7 +202,7 @@ module _ (s : Selection) (real : s.command.now.flags.simulate ≡ false) where
 
 -- the law that packages that were read are those that are found
 abbrev pub HaveMembers : Type 0
-HaveMembers = (history : List TreeState) (before : List Plain) (reads : List MemberRead) (found : List MemberFound) → AreMembersFoundFromOldPackagesAndReads history before reads found → members_of_read_packages before reads ≡ found_members found
+HaveMembers = (history : List TreeState) (before : List Plain) (reads : List MemberRead) (found : List MemberFound) → AreMembersFoundFromOldPackagesAndReads history before reads found → members_by_packages_before_and_reads before reads ≡ found_members found
 
 module _ (law : HaveMembers) (old mid : List TreeState) (before between : Counts) (quiet : IsOnlyRead old mid before between) (a : ReadPackages) (p : Plan) (plan : IsPlanOfPackages old a p) (read : Reads) (found : List MemberFound) (are : ArePackagesFoundByReads old a read found) where
   arrivals_of_plan : HasReadAddedPackages old p.packages.now found
@@ -238,7 +238,7 @@ no_disk view wanted Disk told is = told
 no_disk view wanted Memory told is = cc
 
 pub untriggered : HaveMembers → (old mid : List TreeState) (before between : Counts) → IsOnlyRead old mid before between → (p : Plan) → IsPlanFrom old (wishes_of_plan p).purge p.packages.now.selection.now.db p.members p.files
-    → members_of p.members ≡ members_of_read_packages (packages_of p.packages.now.selection.now.db) (arrivals_seen p.packages.now.arrivals) → (found : List MemberFound) → HasReadAddedPackages old p.packages.now found
+    → members_of p.members ≡ members_by_packages_before_and_reads (packages_of p.packages.now.selection.now.db) (arrivals_seen p.packages.now.arrivals) → (found : List MemberFound) → HasReadAddedPackages old p.packages.now found
     → (fault : Refused) (flags : Flags) → flags ≡ p.packages.now.selection.now.command.now.flags
     → Agrees {A = Unit {0}} (λ _. true) (Err fault) (unless_trigger_due flags.no_scripts (planned_paths p.files) (members_of p.members))
     → IsRunOnFoundPackages (inputs_of_plan p) (replacement_of_plan p) (wishes_of_plan p) found old mid before between (Err fault)

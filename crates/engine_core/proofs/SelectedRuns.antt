@@ -20,7 +20,7 @@ use Rattle.engine_core.specs.Changed.{InputsAndReplacement, selected_from_pool_b
 use Rattle.engine_core.specs.Choice.{IsPreferredChoice, IsPreferredChoiceUnlessRefused}
 use Rattle.engine_core.specs.Chosen.{IsResultOfChoice}
 use Rattle.engine_core.specs.Runs.{IsRunOnSelection}
-use Rattle.engine_core.specs.Selecting.{pool_of_inputs, replacement_of_choice}
+use Rattle.engine_core.specs.Selecting.{pool_of_inputs_unless_too_many_candidates, replacement_of_choice}
 use Rattle.engine_core.specs.SelectionSeen.{IsSelectedFrom, selection_seen}
 use Rattle.engine_core.specs.Wishes.{names_to_remove, names_to_reinstall, names_to_upgrade, unknown_operand_place, unless_unknown_operand, wishes_of}
 use Rattle.engine_core.specs.declared.choosing.Selection.{Selection}
@@ -35,7 +35,7 @@ abbrev pub IsRunBy :
     → Result (List ℕ) Refused → Type 0
 IsRunBy command inputs old now before after result =
     (chosen : Option (List ℕ))
-    × IsPreferredChoiceUnlessRefused (pool_of_inputs command inputs) chosen
+    × IsPreferredChoiceUnlessRefused (pool_of_inputs_unless_too_many_candidates command inputs) chosen
     × IsRunOnSelection command (selected_from_inputs_by_choice command chosen inputs)
     old now before after result
 
@@ -46,7 +46,7 @@ with_error P (Err e) fault is p = let Q : Refused → Type 0 = λ f. P (Err f) i
 module _ (command : CommandLine) (inputs : Inputs) (old now : List TreeState) (before after : Counts) where
   pub run_failure : HaveChoice → HaveClash → All IsWellFormed old → IsOnlyRead old now before after → (fault : Refused) → IsDiskOrMemoryFailure fault → IsRunBy command inputs old now before after (Err fault)
   run_failure choose have whole quiet fault is =
-      let (chosen, choice) = choose (pool_of_inputs command inputs) in
+      let (chosen, choice) = choose (pool_of_inputs_unless_too_many_candidates command inputs) in
       (chosen, choice, selected_failure command (selected_from_inputs_by_choice command chosen inputs) old now before after have whole quiet fault is)
 
   -- nothing is selected
@@ -65,7 +65,7 @@ module _ (command : CommandLine) (inputs : Inputs) (old now : List TreeState) (b
 
 module _ (command : CommandLine) (inputs : Inputs) where
   pub out_of_memory : HaveChoice → IsSelectedFrom command inputs (Err Memory)
-  out_of_memory choose = let (chosen, choice) = choose (pool_of_inputs command inputs) in (chosen, choice, tt)
+  out_of_memory choose = let (chosen, choice) = choose (pool_of_inputs_unless_too_many_candidates command inputs) in (chosen, choice, tt)
 
   -- it is no I/O error
   pub not_disk : (fault : Refused) → IsSelectedFrom command inputs (Err fault) → fault ≡ Disk → ⊥
@@ -78,7 +78,7 @@ module _ (command : CommandLine) (inputs : Inputs) where
   without_pool choose fault names same agrees =
       by fault (subst (λ (p : Result SelectionProblem Refusal). Agrees (λ (pool : SelectionProblem). pool) (Err fault) p) (ap (root_pool inputs) same) agrees)
     where
-      by : (fault : Refused) → Agrees (λ (pool : SelectionProblem). pool) (Err fault) (pool_of_inputs command inputs) → IsSelectedFrom command inputs (Err fault)
+      by : (fault : Refused) → Agrees (λ (pool : SelectionProblem). pool) (Err fault) (pool_of_inputs_unless_too_many_candidates command inputs) → IsSelectedFrom command inputs (Err fault)
       by (IsRefused refusal) is = (
         None,
         subst (λ (p : Result SelectionProblem Refusal). IsPreferredChoiceUnlessRefused p None) (sym is) refl,
@@ -87,20 +87,20 @@ module _ (command : CommandLine) (inputs : Inputs) where
       by Disk is = absurd is
       by Memory is = out_of_memory choose
 
-  module _ (pool : SelectionProblem) (pool_is : pool_of_inputs command inputs ≡ Ok pool) where
+  module _ (pool : SelectionProblem) (pool_is : pool_of_inputs_unless_too_many_candidates command inputs ≡ Ok pool) where
     selected_is : (chosen : Option (List ℕ)) (unknown : Option ℕ) → unknown_operand_place command.applet inputs command.operands ≡ unknown
         → selected_from_inputs_by_choice command chosen inputs ≡ unless_unknown_operand unknown (selected_from_pool_by_choice command inputs pool chosen)
     selected_is chosen unknown known_is =
         ap (λ (p : Result SelectionProblem Refusal). and_then p (λ pool. unless_unknown_operand (unknown_operand_place command.applet inputs command.operands) (selected_from_pool_by_choice command inputs pool chosen))) pool_is
         ∙ ap (λ (o : Option ℕ). unless_unknown_operand o (selected_from_pool_by_choice command inputs pool chosen)) known_is
 
-    choice_is : (chosen : Option (List ℕ)) → IsPreferredChoice pool chosen → IsPreferredChoiceUnlessRefused (pool_of_inputs command inputs) chosen
+    choice_is : (chosen : Option (List ℕ)) → IsPreferredChoice pool chosen → IsPreferredChoiceUnlessRefused (pool_of_inputs_unless_too_many_candidates command inputs) chosen
     choice_is chosen choice = subst (λ (p : Result SelectionProblem Refusal). IsPreferredChoiceUnlessRefused p chosen) (sym pool_is) choice
 
     -- an operand is not known
     pub unknown_operand_found : HaveChoice → (place : ℕ) → unknown_operand_place command.applet inputs command.operands ≡ Some place → IsSelectedFrom command inputs (Err (IsRefused (NotInstalled place)))
     unknown_operand_found choose place is =
-        let (chosen, choice) = choose (pool_of_inputs command inputs) in
+        let (chosen, choice) = choose (pool_of_inputs_unless_too_many_candidates command inputs) in
         (chosen, choice, selected_is chosen (Some place) is)
 
     module _ (known : unknown_operand_place command.applet inputs command.operands ≡ None) (chosen : Option (List ℕ)) (choice : IsPreferredChoice pool chosen) where

@@ -29,7 +29,7 @@ use Rattle.engine_core.specs.ChangeRun.{IsEndOfRunOfWantedChange, IsChangeRun}
 use Rattle.engine_core.specs.Changed.{IsFirstClashUnlessRefused, IsFirstClashUnlessRefusedAmong, IsFirstClashUnlessSimulatedAmong, InputsAndReplacement, change_of_selected, change_of_command, packages_found_after_change, selected_from_pool_by_choice, selected_from_reads_by_choice, selected_from_inputs_by_choice, simulated_change}
 use Rattle.engine_core.specs.Choice.{IsPreferredChoiceUnlessRefused}
 use Rattle.engine_core.specs.Runs.{IsRunOnSelection}
-use Rattle.engine_core.specs.Selecting.{pool_of_inputs, pool_of_command}
+use Rattle.engine_core.specs.Selecting.{pool_of_inputs_unless_too_many_candidates, pool_of_command}
 use Rattle.engine_core.specs.Wishes.{unknown_operand_place, unless_unknown_operand, wishes_of}
 use Rattle.engine_core.proofs.Early.{HaveClash, IsOnlyRead, comes_to_failure, comes_to_refusal, files_seen}
 use Rattle.engine_core.proofs.SelectedRuns.{HaveChoice, IsRunBy}
@@ -140,7 +140,7 @@ HasInputs inputs (Ok s) = s.inputs ≡ inputs
 HasInputs inputs (Err refusal) = Unit {0}
 
 selected_has : (command : CommandLine) (chosen : Option (List ℕ)) (inputs : Inputs) → HasInputs inputs (selected_from_inputs_by_choice command chosen inputs)
-selected_has command chosen inputs = by_pool (pool_of_inputs command inputs)
+selected_has command chosen inputs = by_pool (pool_of_inputs_unless_too_many_candidates command inputs)
   where
     by_choice : (pool : SelectionProblem) (c : Option (List ℕ)) → HasInputs inputs (selected_from_pool_by_choice command inputs pool c)
     by_choice pool None = tt
@@ -156,7 +156,7 @@ selected_has command chosen inputs = by_pool (pool_of_inputs command inputs)
 
 module _ (have : HaveOwnReads) (command : CommandLine) (inputs : Inputs) (old now : List TreeState) (before after : Counts) (result : Result (List ℕ) Refused)
     (first : Reads) (observed : AreReadsOfTreeIfObservable old first) (is : inputs_of command first ≡ Ok inputs)
-    (chosen : Option (List ℕ)) (choice : IsPreferredChoiceUnlessRefused (pool_of_inputs command inputs) chosen)
+    (chosen : Option (List ℕ)) (choice : IsPreferredChoiceUnlessRefused (pool_of_inputs_unless_too_many_candidates command inputs) chosen)
     (run : IsRunOnSelection command (selected_from_inputs_by_choice command chosen inputs) old now before after result) where
   count : ℕ
   count = first_index_read_number + length inputs.root.repositories
@@ -205,7 +205,7 @@ module _ (have : HaveOwnReads) (command : CommandLine) (inputs : Inputs) (old no
     read = read;
     observed = splice_observed count first run.read old observed run.observed;
     chosen = chosen;
-    choice = subst (λ (r : Result Inputs Refusal). IsPreferredChoiceUnlessRefused (and_then r (pool_of_inputs command)) chosen) (sym inputs_is) choice;
+    choice = subst (λ (r : Result Inputs Refusal). IsPreferredChoiceUnlessRefused (and_then r (pool_of_inputs_unless_too_many_candidates command)) chosen) (sym inputs_is) choice;
     files = run.files;
     there = run.there;
     present_files = run.present_files;
@@ -253,7 +253,7 @@ module _ (choose : HaveChoice) (have : HaveClash) (command : CommandLine) (old n
         read = read;
         observed = observed;
         chosen = None;
-        choice = subst (λ (r : Result Inputs Refusal). IsPreferredChoiceUnlessRefused (and_then r (pool_of_inputs command)) None) (sym is) refl;
+        choice = subst (λ (r : Result Inputs Refusal). IsPreferredChoiceUnlessRefused (and_then r (pool_of_inputs_unless_too_many_candidates command)) None) (sym is) refl;
         files = seen.files;
         there = seen.there;
         present_files = seen.files;

@@ -15,7 +15,7 @@ use Rattle.change_report.specs.path_clashes.Clash.{NamePair}
 use Rattle.change_report.specs.candidate_core.Rank.{SelectionProblem}
 use Rattle.report_core.specs.declared.refusal.Refusal.{Refusal}
 use Rattle.report_core.specs.declared.refusal.Refusal.TheVariants.{Unsatisfied}
-use Rattle.engine_core.specs.Selecting.{pool_of_inputs, replacement_of_choice}
+use Rattle.engine_core.specs.Selecting.{pool_of_inputs_unless_too_many_candidates, replacement_of_choice}
 use Rattle.engine_core.specs.Wishes.{names_to_reinstall, unknown_operand_place, unless_unknown_operand, wishes_of}
 
 -- ---- the selection
@@ -44,7 +44,7 @@ selected_from_pool_by_choice command inputs pool (Some trace) =
 abbrev pub selected_from_inputs_by_choice :
     CommandLine → Option (List ℕ) → Inputs → Result InputsAndReplacement Refusal
 selected_from_inputs_by_choice command chosen inputs =
-    and_then (pool_of_inputs command inputs) (λ pool.
+    and_then (pool_of_inputs_unless_too_many_candidates command inputs) (λ pool.
     unless_unknown_operand (unknown_operand_place command.applet inputs command.operands)
     (selected_from_pool_by_choice command inputs pool chosen))
 

@@ -4,7 +4,7 @@
 use Rattle.std.specs.Prelude.{◌≡◌, ℕ, Bool, true, false, not, List, All, Option, Some, None, Ok, bytes_eq}
 use Rattle.std.specs.Option.{option_copied}
 use Rattle.journal_staging.specs.adb_schema.Reserved.{is_reserved}
-use Rattle.added_packages.specs.Arrivals.{AreMembersFoundFromOldPackagesAndReads, arrivals_seen, members_of_read_packages}
+use Rattle.added_packages.specs.Arrivals.{AreMembersFoundFromOldPackagesAndReads, arrivals_seen, members_by_packages_before_and_reads}
 use Rattle.base_core.specs.Calls.{IfObservable}
 use Rattle.base_core.specs.Files.{Files}
 use Rattle.base_core.specs.Tree.{TreeState, files_of}
@@ -117,7 +117,7 @@ pub record IsPlanOfPackages (history : List TreeState) (a : ReadPackages) (p : P
   pub packages : p.packages.now ≡ a
   -- its members are these packages
   pub members : members_of p.members
-      ≡ members_of_read_packages (packages_of p.packages.now.selection.now.db)
+      ≡ members_by_packages_before_and_reads (packages_of p.packages.now.selection.now.db)
       (arrivals_seen p.packages.now.arrivals)
   -- the plan has the files that the change writes, removes, keeps or writes as `PATH.apk-new`
   pub files : IsPlanFrom history (wishes_of_plan p).purge p.packages.now.selection.now.db p.members

@@ -14,12 +14,15 @@ use Rattle.engine_core.specs.Wishes.{names_to_upgrade}
 
 -- the candidates that a command may choose from, by its inputs: under the new world and the names
 -- that the command upgrades
-abbrev pub pool_of_inputs : CommandLine → Inputs → Result SelectionProblem Refusal
-pool_of_inputs command inputs = root_pool inputs (names_to_upgrade command.applet command.operands)
+abbrev pub pool_of_inputs_unless_too_many_candidates : CommandLine → Inputs
+    → Result SelectionProblem Refusal
+pool_of_inputs_unless_too_many_candidates command inputs =
+    root_pool inputs (names_to_upgrade command.applet command.operands)
 
 -- the candidates that a command may choose from, by what reads find
 abbrev pub pool_of_command : CommandLine → Reads → Result SelectionProblem Refusal
-pool_of_command command read = and_then (inputs_of command read) (pool_of_inputs command)
+pool_of_command command read =
+    and_then (inputs_of command read) (pool_of_inputs_unless_too_many_candidates command)
 
 -- the effect of a choice on the packages before: the chosen candidates replace them, and some names are
 -- reinstalled

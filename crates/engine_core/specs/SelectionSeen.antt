@@ -12,7 +12,7 @@ use Rattle.change_report.specs.db_core.Seen.{packages_of}
 use Rattle.change_report.specs.package_changes.Changes.{Replacement}
 use Rattle.engine_core.specs.Changed.{InputsAndReplacement, selected_from_inputs_by_choice}
 use Rattle.engine_core.specs.Choice.{IsPreferredChoiceUnlessRefused}
-use Rattle.engine_core.specs.Selecting.{pool_of_inputs, replacement_of_choice}
+use Rattle.engine_core.specs.Selecting.{pool_of_inputs_unless_too_many_candidates, replacement_of_choice}
 use Rattle.engine_core.specs.Wishes.{wishes_of}
 use Rattle.engine_core.specs.declared.choosing.Selection.{Selection}
 
@@ -36,7 +36,8 @@ HasDatabaseOfInputs s = packages_of s.db ≡ (inputs_of_selection s).root.databa
 
 -- the candidates of a selection are those of its command and inputs
 abbrev pub HasPoolOfInputs : Selection → Type 0
-HasPoolOfInputs s = pool_of_inputs s.command.now (inputs_of_selection s) ≡ Ok s.pool
+HasPoolOfInputs s =
+    pool_of_inputs_unless_too_many_candidates s.command.now (inputs_of_selection s) ≡ Ok s.pool
 
 -- what the command of a selection asks for besides its world
 abbrev pub wishes_of_selection : Selection → ChangeWishes
@@ -48,7 +49,7 @@ wishes_of_selection s = wishes_of s.command.now
 abbrev pub IsSelectedFrom : CommandLine → Inputs → Result Selection Refused → Type 0
 IsSelectedFrom command inputs result =
     (chosen : Option (List ℕ))
-    × IsPreferredChoiceUnlessRefused (pool_of_inputs command inputs) chosen
+    × IsPreferredChoiceUnlessRefused (pool_of_inputs_unless_too_many_candidates command inputs) chosen
     × Agrees selection_seen result (selected_from_inputs_by_choice command chosen inputs)
 
 -- a selection has this command, these inputs, their database, and the command's candidates

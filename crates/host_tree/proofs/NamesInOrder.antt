@@ -12,7 +12,7 @@ use Rattle.std.proofs.lemmas.List.Sorted.{ranks_by, sorted_far}
 use Rattle.std.proofs.lemmas.Map.Lookups.{exact_bytes}
 use Rattle.std.proofs.lemmas.Option.{slice_get-get_or}
 use Rattle.base_core.specs.Files.{IsFolderOf}
-use Rattle.base_core.specs.Listed.{AreSortedNamesBelowFolder, AreSortedDistinctTexts}
+use Rattle.base_core.specs.Listed.{AreSortedAndEachBelowFolder, AreSortedDistinctTexts}
 use Rattle.base_core.specs.Name.{IsName}
 
 abbrev order : List ℕ → List ℕ → Ordering
@@ -84,7 +84,7 @@ module _ (sorted names rest : List (List ℕ)) (x : List ℕ) (kept : IsKept sor
     below = All-push (λ q. All (IsUpTo q) rest) names x (kept_same.below) (λ k d within. kept.in_order zero (suc k) d (omega arith) (omega (arith, within)));
   }
 
-pub below_each : (root : List ℕ) (files names : List (List ℕ)) → All (IsFolderOf root) files → AreSortedDistinctTexts names → All (Contains files) names → All IsName names → AreSortedNamesBelowFolder root names
+pub below_each : (root : List ℕ) (files names : List (List ℕ)) → All (IsFolderOf root) files → AreSortedDistinctTexts names → All (Contains files) names → All IsName names → AreSortedAndEachBelowFolder root names
 below_each root files names below rising each named = record {
   rising = rising;
   each = λ k d within. record { named = named k d within; below = All-contains (IsFolderOf root) files (get_or names k d) below (each k d within) };

@@ -5,7 +5,7 @@ ghost use Rattle.std.specs.Cmp.Lexicographic.{slice_cmp};
 ghost use Rattle.std.specs.List.Sorted.{IsSorted};
 ghost use Rattle.std.specs.Ordering.{nat_cmp};
 ghost use Rattle.base_core.specs.Files.{IsFolderOf};
-ghost use Rattle.base_core.specs.Listed.{AreSortedNamesBelowFolder, AreSortedDistinctTexts};
+ghost use Rattle.base_core.specs.Listed.{AreSortedAndEachBelowFolder, AreSortedDistinctTexts};
 
 use base_core::{Name, Names, is_folder_of};
 use host_root::{Found, Host, HostFault, Reason, Root, path_text};
@@ -21,7 +21,7 @@ pub fn list_below<R: Host>(
     folder: &Name,
     has_omitted: &mut bool,
 ) -> Result<Names, HostFault>
-    ensures { IfOk result (AreSortedNamesBelowFolder folder.now) }
+    ensures { IfOk result (AreSortedAndEachBelowFolder folder.now) }
 {
     root.take_lock()?;
     // The list of folders begins with the given folder, if it exists.
@@ -121,7 +121,7 @@ impl Walk {
     fn into_names(mut self) -> Result<Names, AllocError>
         // If all found files are below a folder, the result has only names below this folder.
         ensures { (root : List ℕ) → All (IsFolderOf root) self.files.items
-            → IfOk result (AreSortedNamesBelowFolder root) }
+            → IfOk result (AreSortedAndEachBelowFolder root) }
     {
         self.files.sort_by(|a, b| a.as_bytes().cmp(b.as_bytes()))?;
         let names = each_once(self.alloc, self.files)?;

@@ -7,7 +7,7 @@ use Rattle.std.proofs.lemmas.List.Elements.{All-weaker}
 use Rattle.std.proofs.lemmas.Map.Views.{Contains-from_any, list_any-from_Contains}
 use Rattle.std.specs.Cmp.{IsEquivalence}
 use Rattle.base_core.specs.Files.{Files, IsFolderOf}
-use Rattle.base_core.specs.Listed.{AreSortedNamesBelowFolder, IsSortedListingOfFolder, IsValidNameBelowFolder}
+use Rattle.base_core.specs.Listed.{AreSortedAndEachBelowFolder, IsSortedListingOfFolder, IsValidNameBelowFolder}
 use Rattle.base_core.specs.Tree.{TreeState, File, bytes_of_file_number, files_of}
 use Rattle.base_core.specs.Calls.{IfObservable, HoldsNow}
 use Rattle.base_core.specs.Crash.{Since}
@@ -29,7 +29,7 @@ use Rattle.journal_core.proofs.Waiting.{still_self}
 
 -- ---- a name below the stage
 
-pub all_staged : (folder : List ℕ) (names : List (List ℕ)) → folder ≡ stage_folder → AreSortedNamesBelowFolder folder names → AreStagedNames names
+pub all_staged : (folder : List ℕ) (names : List (List ℕ)) → folder ≡ stage_folder → AreSortedAndEachBelowFolder folder names → AreStagedNames names
 all_staged folder names is below = All-weaker (IsValidNameBelowFolder folder) (λ name. is_staged name ≡ true) (λ name at. begins stage_folder name (subst (λ (f : List ℕ). IsFolderOf f name) is at.below)) names below.each
 
 -- ---- what is listed is what waits
@@ -77,11 +77,11 @@ module _ (names : List (List ℕ)) (folder : List ℕ) (folder_is : folder ≡ s
   back : (B : TreeState → Type 0) → IfObservable mid B → IfObservable old B
   back B told = subst (λ (l : History). IfObservable l B) same told
 
-  pub empty_moments : AreSortedNamesBelowFolder folder names → IfObservable mid (λ v. (ignored : List ℕ → Bool) → IsDurable (StateDependsOn ignored) v → v.names intent_name ≡ None → AreStagedNames names → Since (StateIsUnchanged ignored v) mid new)
+  pub empty_moments : AreSortedAndEachBelowFolder folder names → IfObservable mid (λ v. (ignored : List ℕ → Bool) → IsDurable (StateDependsOn ignored) v → v.names intent_name ≡ None → AreStagedNames names → Since (StateIsUnchanged ignored v) mid new)
       → IfObservable old (λ v. (ignored : List ℕ → Bool) → IsDurable (StateDependsOn ignored) v → v.names intent_name ≡ None → Since (StateIsUnchanged ignored v) old new)
   empty_moments below told = observable_map old _ _ (back _ told) (λ v t ignored is_durable none. subst (λ (l : History). Since (StateIsUnchanged ignored v) l new) same (t ignored is_durable none (all_staged folder names folder_is below)))
 
-  pub empty_shown : AreSortedNamesBelowFolder folder names → IfObservable mid (λ v. AreStagedNames names → Since (KeepsShown v) mid new) → IfObservable old (λ v. Since (KeepsShown v) old new)
+  pub empty_shown : AreSortedAndEachBelowFolder folder names → IfObservable mid (λ v. AreStagedNames names → Since (KeepsShown v) mid new) → IfObservable old (λ v. Since (KeepsShown v) old new)
   empty_shown below told = observable_map old _ _ (back _ told) (λ v t. subst (λ (l : History). Since (KeepsShown v) l new) same (t (all_staged folder names folder_is below)))
 
   both_told : (h : History) (A B C : TreeState → Type 0) → ((v : TreeState) → A v → B v → C v) → IfObservable h A → IfObservable h B → IfObservable h C

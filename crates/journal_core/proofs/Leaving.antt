@@ -5,7 +5,7 @@ use Rattle.std.specs.Str.{bytes_eq}
 use Rattle.base_core.specs.Calls.{IfObservable, HoldsNow, ChangesHistory}
 use Rattle.base_core.specs.Crash.{Since}
 use Rattle.base_core.specs.Files.{drop_name}
-use Rattle.base_core.specs.Listed.{AreSortedNamesBelowFolder}
+use Rattle.base_core.specs.Listed.{AreSortedAndEachBelowFolder}
 use Rattle.base_core.specs.Tree.{TreeState, after_remove, after_rename, after_sync_names, bytes_of_file_number, files_of, with_file_moved, with_name_removed, unchanged_after_failed_call, IsAlwaysAllowed}
 use Rattle.base_core.proofs.AtName.{other_name, name_cases, off_name}
 use Rattle.journal_core.specs.Acting.{MovesIfPresent}
@@ -210,7 +210,7 @@ lasting_ends all old h lasting = observable_map old _ _ lasting (λ v runs stage
 abbrev pub EmptyLasts : History → History → Type 0
 EmptyLasts old new = IfObservable old (λ v. NamesOutsideJournalAreDurable v → Since NamesOutsideJournalAreDurable old new)
 
-pub empty_lasts : (names : List (List ℕ)) (folder : List ℕ) → folder ≡ stage_folder → (old mid new : History) → mid ≡ old → AreSortedNamesBelowFolder folder names → IfObservable mid (λ v. AreStagedNames names → NamesOutsideJournalAreDurable v → Since NamesOutsideJournalAreDurable mid new) → EmptyLasts old new
+pub empty_lasts : (names : List (List ℕ)) (folder : List ℕ) → folder ≡ stage_folder → (old mid new : History) → mid ≡ old → AreSortedAndEachBelowFolder folder names → IfObservable mid (λ v. AreStagedNames names → NamesOutsideJournalAreDurable v → Since NamesOutsideJournalAreDurable mid new) → EmptyLasts old new
 empty_lasts names folder folder_is old mid new same below told =
     subst (λ (l : History). EmptyLasts l new) same (observable_map mid _ (λ v. NamesOutsideJournalAreDurable v → Since NamesOutsideJournalAreDurable mid new) told (λ v t. t (all_staged folder names folder_is below)))
 

@@ -25,8 +25,8 @@ pub record RemovesIntentLast (old now : List TreeState) : Type 0 where
   pub last : IfObservable old (λ v. IsSome (v.names intent_name)
       → Since (λ w. w.names intent_name ≡ None → NamesOutsideJournalAreDurable w) old now)
 
--- A recovery refuses the intent only if its file is no intent container. If the file is none, nothing changes,
--- whatever is returned.
+-- A recovery refuses the intent only if its file is no intent container. If there is such a file, nothing changes,
+-- whatever the recovery returns.
 pub record RefusesOnlyBadIntent {T : Type 0} (old now : List TreeState)
     (result : Result T RecoverFault) : Type 0 where
   -- if the intent is refused, nothing has changed, and the file of the intent has this fault

@@ -19,7 +19,7 @@ use Rattle.make_index.specs.adb_fields.Repeated.{positions_of_file_repeated_in_a
 use Rattle.make_index.specs.adb_fields.FirstPair.{ArePositionsOfNameTwiceInOneList}
 use Rattle.adb_view.specs.declared.tables.Which.TheVariants.{Package}
 use Rattle.make_package.specs.package_files.Folders.{sorted_folders_with_names_inserted, sorted_names_without_repeats, with_folder_inserted, with_folder_inserted_by_cmp_with_first}
-use Rattle.make_package.specs.package_files.Package.{Script, SourceFile, SourceFolder, value_of_file, value_of_folder, value_of_package, kind_of_file}
+use Rattle.make_package.specs.package_files.Package.{Script, SourceFileNameAndBytes, SourceFolder, value_of_file, value_of_folder, value_of_package, kind_of_file}
 use Rattle.make_core.proofs.PackageFiles.{files_stand, folder_name_stands, folders_stand, name_stands}
 
 abbrev pub cmp : List ℕ → List ℕ → Ordering
@@ -142,8 +142,8 @@ none_twice tells lists apart = none_by lists (least_positions_of_name_twice_in_o
 
 -- ---- in a package
 
-abbrev pub source_names : List SourceFile → List (List ℕ)
-source_names files = map (λ (file : SourceFile). file.name) files
+abbrev pub source_names : List SourceFileNameAndBytes → List (List ℕ)
+source_names files = map (λ (file : SourceFileNameAndBytes). file.name) files
 
 abbrev pub folder_names_of : List SourceFolder → List (List ℕ)
 folder_names_of folders = map (λ (folder : SourceFolder). folder.name) folders
@@ -152,7 +152,7 @@ abbrev pub AreApartFiles : List SourceFolder → Type 0
 AreApartFiles [] = Unit {0}
 AreApartFiles (folder ∷ folders) = IsApart (source_names folder.files) × AreApartFiles folders
 
-names_of_files : (files : List SourceFile) → map name_of (map value_of_file files) ≡ source_names files
+names_of_files : (files : List SourceFileNameAndBytes) → map name_of (map value_of_file files) ≡ source_names files
 names_of_files [] = refl
 names_of_files (file ∷ files) = λ k. (name_stands file.name (kind_of_file file.bytes)) k ∷ (names_of_files files) k
 

@@ -12,7 +12,7 @@ use Rattle.make_index.proofs.adb_fields.Members.{from-flat_map, from-map}
 use Rattle.make_index.specs.adb_fields.Paths.{path_of}
 use Rattle.make_index.specs.adb_schema.Rules.{is_valid_file_name_in_folder, is_folder_name}
 use Rattle.make_package.specs.package_files.Folders.{FolderListing, prefixes_before_slashes, path_relative_to, tree_names_in_package_folder, all_folders_above, folder_of, folder_listings_by_tree_names, folders_above, is_slash, folder_listing_by_tree_names, last_part_of}
-use Rattle.make_package.specs.package_files.Package.{SourceFile, SourceFolder, kind_of_file, installed_size, size_of_folder, size_of_kind}
+use Rattle.make_package.specs.package_files.Package.{SourceFileNameAndBytes, SourceFolder, kind_of_file, installed_size, size_of_folder, size_of_kind}
 use Rattle.make_package.specs.package_files.Sources.{and_then, results_from_read, source_file_at_place_by_read, source_files_at_place_from_read, source_folder_at_place_by_read, source_folders_at_place_from_read, found_bytes_or_missing}
 use Rattle.make_index.specs.make_info.Reads.{Reads}
 use Rattle.make_index.specs.make_info.declared.fault.MakeFault.{MakeFault}
@@ -169,17 +169,17 @@ each_read R count of h n (x ∷ xs) ys e =
     let same : one.x ∷ two.x ≡ ys = cc (gives) in
     subst (AllOf R (x ∷ xs)) same (h n x one.x one.is, each_read R count of h (n + count x) xs two.x two.is)
 
-abbrev IsFileOf : List ℕ → SourceFile → Type 0
+abbrev IsFileOf : List ℕ → SourceFileNameAndBytes → Type 0
 IsFileOf name file = file.name ≡ last_part_of name
 
-file_read : (place : ℕ) (read : Reads) (n : ℕ) (name : List ℕ) (file : SourceFile) → source_file_at_place_by_read place read n name ≡ Ok file → IsFileOf name file
+file_read : (place : ℕ) (read : Reads) (n : ℕ) (name : List ℕ) (file : SourceFileNameAndBytes) → source_file_at_place_by_read place read n name ≡ Ok file → IsFileOf name file
 file_read place read n name file e =
     let one = after_ok (found_bytes_or_missing place (read n name)) (λ bytes. Ok (record { name = last_part_of name; bytes = bytes })) file e in
     let gives = one.gives in
     let same : record { name = last_part_of name; bytes = one.x } ≡ file = cc (gives) in
-    ap (λ (f : SourceFile). f.name) (sym same)
+    ap (λ (f : SourceFileNameAndBytes). f.name) (sym same)
 
-names_read : (names : List (List ℕ)) (files : List SourceFile) → AllOf IsFileOf names files → source_names files ≡ map last_part_of names
+names_read : (names : List (List ℕ)) (files : List SourceFileNameAndBytes) → AllOf IsFileOf names files → source_names files ≡ map last_part_of names
 names_read [] [] h = refl
 names_read [] (file ∷ files) h = absurd h
 names_read (name ∷ names) [] h = absurd h
@@ -251,10 +251,10 @@ module _ (dir : List ℕ) (names : List (List ℕ)) where
 
 -- ---- where their sizes are small
 
-abbrev file_size : SourceFile → ℕ
+abbrev file_size : SourceFileNameAndBytes → ℕ
 file_size file = size_of_kind (kind_of_file file.bytes)
 
-files_sized : (f : List ℕ) (files : List SourceFile) → AreFileNames f (source_names files) → sum_by file_size files < 2 ^ 64 → AreGoodFiles f files
+files_sized : (f : List ℕ) (files : List SourceFileNameAndBytes) → AreFileNames f (source_names files) → sum_by file_size files < 2 ^ 64 → AreGoodFiles f files
 files_sized f [] named small = tt
 files_sized f (file ∷ files) named small =
     let sum = sum_by-cons file_size file files in

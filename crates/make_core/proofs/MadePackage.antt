@@ -11,7 +11,7 @@ use Rattle.make_index.specs.make_info.declared.fault.MakeFault.{MakeFault}
 use Rattle.make_index.specs.make_info.declared.fault.MakeFault.TheVariants.{FileMissing, FileBad, InfoBad, TooLarge, Disk, Memory}
 use Rattle.make_package.specs.Answers.{IsMadeBySomeReads, IsMadeFromTree, IsMadeOf, IsMakeResult, UnlessDiskOrMemory}
 use Rattle.make_package.specs.Making.{made_package}
-use Rattle.make_package.specs.package_files.Sources.{AreSortedNamesBelowFirstFolder, values_of_letter}
+use Rattle.make_package.specs.package_files.Sources.{AreSortedAndEachBelowFirstFolder, values_of_letter}
 
 made_in : (told : List TreeState) (command : CommandLine) (made : Result (List ℕ) MakeFault) → IsMadeOf told command made → IfObservable told (λ v. IsMadeFromTree command v made)
 made_in [] command made m = tt
@@ -52,7 +52,7 @@ module _ (told : List TreeState) (command : CommandLine) where
 -- ---- what is made is sound
 
 abbrev pub SoundPackage : Type 0
-SoundPackage = (command : CommandLine) (names : List (List ℕ)) (read : Reads) (bytes : List ℕ) → AreSortedNamesBelowFirstFolder (values_of_letter FILES command.values) names
+SoundPackage = (command : CommandLine) (names : List (List ℕ)) (read : Reads) (bytes : List ℕ) → AreSortedAndEachBelowFirstFolder (values_of_letter FILES command.values) names
     → made_package command names read ≡ Ok bytes → length bytes < 2 ^ 64 → container_fault bytes ≡ None
 
 pub run_sound : SoundPackage → (told : List TreeState) (command : CommandLine) (r : Result (Vec ℕ Global) MakeFault) → IsMakeResult told command r → IfOk r (λ file. container_fault file.items ≡ None)

@@ -15,7 +15,7 @@ use Rattle.make_index.specs.make_info.declared.fault.MakeFault.{MakeFault}
 use Rattle.make_index.specs.make_info.declared.fault.MakeFault.TheVariants.{FileMissing}
 use Rattle.make_package.specs.package_files.Folders.{FolderListing, all_folders_above, folder_listings_by_tree_names, last_part_of, folder_listing_by_tree_names, tree_names_in_package_folder, path_relative_to}
 use Rattle.make_package.specs.Making.{container_unless_too_large, made_package, or_info_bad, package_container, package_of_parts}
-use Rattle.make_package.specs.package_files.Package.{Script, SourceFile, SourceFolder}
+use Rattle.make_package.specs.package_files.Package.{Script, SourceFileNameAndBytes, SourceFolder}
 use Rattle.make_package.specs.package_files.Sources.{results_from_read, source_file_at_place_by_read, source_folder_at_place_by_read, source_folders_of_first_option_only, found_bytes_or_missing, and_then, script_at, scripts_from_read, source_folders_at_place_from_read, source_files_at_place_from_read, values_of_letter}
 use Rattle.make_index.specs.pkg_core.Contents.{Contents}
 use Rattle.make_core.specs.Missing.{IsAbsent, IsPlaceOfFolderWithMissingFile, IsPlaceOfScriptOptionWithoutFile}
@@ -78,7 +78,7 @@ script_fails read n v fault e =
 
 file_fails : (place : ℕ) (read : Reads) (n : ℕ) (name : List ℕ) (fault : MakeFault) → source_file_at_place_by_read place read n name ≡ Err fault → IsMissingAt read place name fault
 file_fails place read n name fault e =
-    missing_by read place n name (read n name) (λ bytes. let file : SourceFile = record { name = last_part_of name; bytes = bytes } in Ok file) fault refl (λ bytes f. cc (f)) e
+    missing_by read place n name (read n name) (λ bytes. let file : SourceFileNameAndBytes = record { name = last_part_of name; bytes = bytes } in Ok file) fault refl (λ bytes f. cc (f)) e
 
 -- ---- the files below a folder
 

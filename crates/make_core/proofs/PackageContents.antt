@@ -8,7 +8,7 @@ use Rattle.make_index.specs.adb_schema.Texts.{is_file_with_contents}
 use Rattle.adb_view.specs.Values.{entry_at_index, int_in, text_in}
 use Rattle.make_index.specs.pkg_core.Contents.{Contents, ExpectedFile, expected_file_if_with_contents, expected_files_of_package, expected_files_of_folder, expected_files_of_folders, fault_if_digest_is_not_of_bytes}
 use Rattle.make_index.specs.pkg_core.GoodContents.{MatchEachExpectedSizeAndKnownDigest}
-use Rattle.make_package.specs.package_files.Package.{Script, SourceFile, SourceFolder, contents_of_file, contents_of_files, contents_of_folders, has_contents, kind_of_file}
+use Rattle.make_package.specs.package_files.Package.{Script, SourceFileNameAndBytes, SourceFolder, contents_of_file, contents_of_files, contents_of_folders, has_contents, kind_of_file}
 use Rattle.make_package.specs.package_files.Package.{value_of_file, value_of_folder, value_of_kind, value_of_package}
 use Rattle.make_package.specs.package_files.declared.file.FileKind.{FileKind}
 use Rattle.make_package.specs.package_files.declared.file.FileKind.TheVariants.{Link, Regular}
@@ -54,7 +54,7 @@ file_contents d i name bytes (Regular size digest) of true e = (
   tt,
 )
 
-at_good : (d i : ℕ) (file : SourceFile) → MatchEachExpectedSizeAndKnownDigest (expected_file_if_with_contents d i (value_of_file file)) (contents_of_file d i file.bytes)
+at_good : (d i : ℕ) (file : SourceFileNameAndBytes) → MatchEachExpectedSizeAndKnownDigest (expected_file_if_with_contents d i (value_of_file file)) (contents_of_file d i file.bytes)
 at_good d i file =
     let kind : FileKind = kind_of_file file.bytes in
     let this : List ExpectedFile = record { folder = d; file = i; size = int_in (entry_at_index (value_of_kind file.name kind) 2); hash = text_in (entry_at_index (value_of_kind file.name kind) 4) } ∷ [] in
@@ -69,7 +69,7 @@ both [] fs (c ∷ cs) ds a b = absurd a
 both (e ∷ es) fs [] ds a b = absurd a
 both (e ∷ es) fs (c ∷ cs) ds a b = (a.0, both es fs cs ds a.1 b)
 
-files_contents : (d i : ℕ) (files : List SourceFile) → MatchEachExpectedSizeAndKnownDigest (expected_files_of_folder d i (map value_of_file files)) (contents_of_files d i files)
+files_contents : (d i : ℕ) (files : List SourceFileNameAndBytes) → MatchEachExpectedSizeAndKnownDigest (expected_files_of_folder d i (map value_of_file files)) (contents_of_files d i files)
 files_contents d i [] = tt
 files_contents d i (file ∷ files) =
     both (expected_file_if_with_contents d i (value_of_file file)) (expected_files_of_folder d (i + 1) (map value_of_file files)) (contents_of_file d i file.bytes) (contents_of_files d (i + 1) files) (at_good d i file) (files_contents d (i + 1) files)

@@ -16,7 +16,7 @@ use Rattle.adb_view.specs.Values.{entries_in, entry_at_index, int_in, text_in}
 use Rattle.adb_view.specs.declared.tables.Which.TheVariants.{Acl, File, Dir, Scripts, PkgInfo, Package}
 use Rattle.adb_view.specs.declared.tables.Kind.TheVariants.{Obj}
 use Rattle.command_core.specs.Values.{script_types}
-use Rattle.make_package.specs.package_files.Package.{SourceFile, SourceFolder, Script, access_value, kind_of_file, value_of_kind, value_of_file, value_of_folder, hash_of_kind, is_link_file, link_text, value_of_package, script_bytes_of_field, value_of_scripts, size_of_kind, target_of_kind}
+use Rattle.make_package.specs.package_files.Package.{SourceFileNameAndBytes, SourceFolder, Script, access_value, kind_of_file, value_of_kind, value_of_file, value_of_folder, hash_of_kind, is_link_file, link_text, value_of_package, script_bytes_of_field, value_of_scripts, size_of_kind, target_of_kind}
 use Rattle.make_index.specs.make_info.Values.{number_or_null, plains_of_list, size_or_null_if_zero}
 use Rattle.make_package.specs.package_files.declared.file.FileKind.{FileKind}
 use Rattle.make_package.specs.package_files.declared.file.FileKind.TheVariants.{Link, Regular}
@@ -169,11 +169,11 @@ file_good folder name kind named good =
 -- ---- a folder
 
 -- each file has a name that it may have there, and a size below 2 ^ 64
-abbrev pub AreGoodFiles : List ℕ → List SourceFile → Type 0
+abbrev pub AreGoodFiles : List ℕ → List SourceFileNameAndBytes → Type 0
 AreGoodFiles folder [] = Unit {0}
 AreGoodFiles folder (file ∷ files) = (is_valid_file_name_in_folder folder file.name ≡ true) × (size_of_kind (kind_of_file file.bytes) < 2 ^ 64) × AreGoodFiles folder files
 
-files_good : (folder : List ℕ) (files : List SourceFile) → AreGoodFiles folder files → Each (IsGood (shape_of (Obj File)) 503 (in_folder folder)) (plains_of_list (map value_of_file files))
+files_good : (folder : List ℕ) (files : List SourceFileNameAndBytes) → AreGoodFiles folder files → Each (IsGood (shape_of (Obj File)) 503 (in_folder folder)) (plains_of_list (map value_of_file files))
 files_good folder [] good = tt
 files_good folder (file ∷ files) good = (file_good folder file.name (kind_of_file file.bytes) good.0 (good_kind file.bytes good.1), files_good folder files good.2)
 

@@ -9,7 +9,7 @@ use Rattle.std.proofs.lemmas.List.Concat.{flat_map-cons}
 use Rattle.std.proofs.lemmas.List.Elements.{All-cons, All-nil}
 use Rattle.std.proofs.lemmas.List.Sorted.{IsPermutation-map}
 use Rattle.base_core.specs.Files.{Files}
-use Rattle.base_core.specs.Listed.{AreSortedNamesBelowFolder}
+use Rattle.base_core.specs.Listed.{AreSortedAndEachBelowFolder}
 use Rattle.make_index.specs.adb_fields.FirstPair.{IsIn}
 use Rattle.make_index.specs.adb_fields.Paths.{path_of}
 use Rattle.make_index.specs.adb_fields.Repeated.{files_in, folders_in, name_of, paths_of_folder_files}
@@ -22,8 +22,8 @@ use Rattle.command_core.specs.declared.values.OptionValue.{OptionValue}
 use Rattle.make_index.specs.make_info.Information.{replaces_priority}
 use Rattle.make_package.specs.package_files.Folders.{FolderListing, all_folders_above, folder_listings_by_tree_names, last_part_of, folder_listing_by_tree_names, tree_names_in_package_folder, path_relative_to}
 use Rattle.make_package.specs.Making.{made_package}
-use Rattle.make_package.specs.package_files.Package.{SourceFile, SourceFolder, value_of_file, value_of_folder, kind_of_file}
-use Rattle.make_package.specs.package_files.Sources.{AreSortedNamesBelowFirstFolder, source_file_at_place_by_read, source_folder_at_place_by_read, source_folders_of_first_option_only, found_bytes_or_missing, source_folders_at_place_from_read, source_files_at_place_from_read, texts_of, values_of_letter}
+use Rattle.make_package.specs.package_files.Package.{SourceFileNameAndBytes, SourceFolder, value_of_file, value_of_folder, kind_of_file}
+use Rattle.make_package.specs.package_files.Sources.{AreSortedAndEachBelowFirstFolder, source_file_at_place_by_read, source_folder_at_place_by_read, source_folders_of_first_option_only, found_bytes_or_missing, source_folders_at_place_from_read, source_files_at_place_from_read, texts_of, values_of_letter}
 use Rattle.make_index.specs.pkg_core.Whole.{PackageWithContents}
 use Rattle.make_core.specs.FilesBelow.{HasJustNamedFilesBelowFolder, IsFileBelow, path_joined_to_folder}
 use Rattle.make_core.proofs.Apart.{Tells}
@@ -41,15 +41,15 @@ found_is place (Some b) bytes e = let same : b ≡ bytes = cc (e) in ap Some sam
 
 module _ (files : Files) where
   -- a file is that of a name, with the bytes that stand there
-  abbrev IsRead : List ℕ → SourceFile → Type 0
+  abbrev IsRead : List ℕ → SourceFileNameAndBytes → Type 0
   IsRead name file = (file.name ≡ last_part_of name) × (files name ≡ Some file.bytes)
 
-  file_is_read : (place n : ℕ) (name : List ℕ) (file : SourceFile) → source_file_at_place_by_read place (λ n name. files name) n name ≡ Ok file → IsRead name file
+  file_is_read : (place n : ℕ) (name : List ℕ) (file : SourceFileNameAndBytes) → source_file_at_place_by_read place (λ n name. files name) n name ≡ Ok file → IsRead name file
   file_is_read place n name file e =
       let one = after_ok (found_bytes_or_missing place (files name)) (λ bytes. Ok (record { name = last_part_of name; bytes = bytes })) file e in
       let gives = one.gives in
       let same : record { name = last_part_of name; bytes = one.x } ≡ file = cc (gives) in
-      (ap (λ (f : SourceFile). f.name) (sym same), found_is place (files name) one.x one.is ∙ ap (λ (f : SourceFile). Some f.bytes) same)
+      (ap (λ (f : SourceFileNameAndBytes). f.name) (sym same), found_is place (files name) one.x one.is ∙ ap (λ (f : SourceFileNameAndBytes). Some f.bytes) same)
 
   abbrev IsFolderRead : FolderListing → SourceFolder → Type 0
   IsFolderRead l s = (s.name ≡ l.name) × AllOf IsRead l.files s.files
@@ -63,18 +63,18 @@ module _ (files : Files) where
 
   -- ---- where they stand
 
-  abbrev AreFilesAt : List ℕ → List ℕ → List SourceFile → Type 0
+  abbrev AreFilesAt : List ℕ → List ℕ → List SourceFileNameAndBytes → Type 0
   AreFilesAt dir folder [] = Unit {0}
   AreFilesAt dir folder (s ∷ ss) = (files (path_joined_to_folder dir (path_of folder s.name)) ≡ Some s.bytes) × AreFilesAt dir folder ss
 
   abbrev paths_of : SourceFolder → List (List ℕ)
-  paths_of s = map (λ (file : SourceFile). path_of s.name file.name) s.files
+  paths_of s = map (λ (file : SourceFileNameAndBytes). path_of s.name file.name) s.files
 
-  abbrev AreAt : List ℕ → List ℕ → List (List ℕ) → List SourceFile → Type 0
+  abbrev AreAt : List ℕ → List ℕ → List (List ℕ) → List SourceFileNameAndBytes → Type 0
   AreAt dir folder names sources =
-      (map (λ (file : SourceFile). path_of folder file.name) sources ≡ map (path_relative_to dir) names) × AreFilesAt dir folder sources
+      (map (λ (file : SourceFileNameAndBytes). path_of folder file.name) sources ≡ map (path_relative_to dir) names) × AreFilesAt dir folder sources
 
-  files_at : (dir folder : List ℕ) (names : List (List ℕ)) (sources : List SourceFile) → ((name : List ℕ) → IsIn name names → name ≡ path_joined_to_folder dir (path_of folder (last_part_of name)))
+  files_at : (dir folder : List ℕ) (names : List (List ℕ)) (sources : List SourceFileNameAndBytes) → ((name : List ℕ) → IsIn name names → name ≡ path_joined_to_folder dir (path_of folder (last_part_of name)))
       → AllOf IsRead names sources → AreAt dir folder names sources
   files_at dir folder [] [] all h = (refl, tt)
   files_at dir folder [] (s ∷ ss) all h = absurd h
@@ -110,7 +110,7 @@ module _ (files : Files) where
 
   -- ---- what the package's value says of them
 
-  file_paths_stand : (folder : List ℕ) (sources : List SourceFile) → map (λ (file : Plain). path_of folder (name_of file)) (map value_of_file sources) ≡ map (λ (file : SourceFile). path_of folder file.name) sources
+  file_paths_stand : (folder : List ℕ) (sources : List SourceFileNameAndBytes) → map (λ (file : Plain). path_of folder (name_of file)) (map value_of_file sources) ≡ map (λ (file : SourceFileNameAndBytes). path_of folder file.name) sources
   file_paths_stand folder [] = refl
   file_paths_stand folder (s ∷ ss) = λ k. path_of folder (name_stands s.name (kind_of_file s.bytes) k) ∷ file_paths_stand folder ss k
 
@@ -123,7 +123,7 @@ module _ (files : Files) where
   paths_stand (s ∷ ss) =
       flat_map-cons paths_of_folder_files (value_of_folder s) (map value_of_folder ss) ∙ (λ k. paths_stand_under s k ++ paths_stand ss k) ∙ sym (flat_map-cons paths_of s ss)
 
-  file_stands : (dir folder : List ℕ) (s : SourceFile) → files (path_joined_to_folder dir (path_of folder s.name)) ≡ Some s.bytes → IsFileBelow files dir folder (value_of_file s)
+  file_stands : (dir folder : List ℕ) (s : SourceFileNameAndBytes) → files (path_joined_to_folder dir (path_of folder s.name)) ≡ Some s.bytes → IsFileBelow files dir folder (value_of_file s)
   file_stands dir folder s e =
       let name = name_stands s.name (kind_of_file s.bytes) in
       record {
@@ -132,7 +132,7 @@ module _ (files : Files) where
         is = ap (λ (part : List ℕ). value_of_file (record { name = part; bytes = s.bytes })) (sym name);
       }
 
-  files_stand_at : (dir folder : List ℕ) (sources : List SourceFile) → AreFilesAt dir folder sources → All (IsFileBelow files dir folder) (map value_of_file sources)
+  files_stand_at : (dir folder : List ℕ) (sources : List SourceFileNameAndBytes) → AreFilesAt dir folder sources → All (IsFileBelow files dir folder) (map value_of_file sources)
   files_stand_at dir folder [] h = All-nil (IsFileBelow files dir folder)
   files_stand_at dir folder (s ∷ ss) h = All-cons (IsFileBelow files dir folder) (value_of_file s) (map value_of_file ss) (file_stands dir folder s h.0) (files_stand_at dir folder ss h.1)
 
@@ -169,10 +169,10 @@ read_below law files place n dir names sources pkg all e is =
     }
 
 pub made_below : OneFolder → Holds IsReadBack → Sizes → Exact → Needs → Tells → (command : CommandLine) (names : List (List ℕ)) (files : Files) (bytes : List ℕ) (folder : OptionValue) (others : List OptionValue)
-    → values_of_letter FILES command.values ≡ folder ∷ others → AreSortedNamesBelowFolder (without_one_leading_dot_slash folder.text) names → made_package command names (λ n name. files name) ≡ Ok bytes → length bytes < 2 ^ 64
+    → values_of_letter FILES command.values ≡ folder ∷ others → AreSortedAndEachBelowFolder (without_one_leading_dot_slash folder.text) names → made_package command names (λ n name. files name) ≡ Ok bytes → length bytes < 2 ^ 64
     → HasJustNamedFilesBelowFolder files (without_one_leading_dot_slash folder.text) names (root_value_of_payload Package (payload_in bytes))
 made_below law holds sizes exact needs tells command names files bytes folder others given below e short =
-    let named : AreSortedNamesBelowFirstFolder (values_of_letter FILES command.values) names = subst (λ (l : List OptionValue). AreSortedNamesBelowFirstFolder l names) (sym given) below in
+    let named : AreSortedAndEachBelowFirstFolder (values_of_letter FILES command.values) names = subst (λ (l : List OptionValue). AreSortedAndEachBelowFirstFolder l names) (sym given) below in
     let made = made_of IsReadBack holds sizes exact needs tells command names (λ n name. files name) bytes named e short in
     let read : source_folders_of_first_option_only (λ n name. files name) (length made.scripts) (folder ∷ others) names ≡ Ok made.sources =
     ap (λ (l : List OptionValue). source_folders_of_first_option_only (λ n name. files name) (length made.scripts) l names) (sym given) ∙ made.sources_read in

@@ -19,7 +19,7 @@ use Rattle.make_package.specs.adb_sound.Contents.{total_size_of_file_contents}
 use Rattle.make_package.specs.adb_sound.Container.{container_of_value_and_contents, package_with_contents_from_parts}
 use Rattle.make_package.specs.Making.{container_unless_too_large, made_package, or_info_bad, package_container, package_of_parts}
 use Rattle.make_package.specs.package_files.Package.{Script, SourceFolder, contents_of_folders, installed_size, value_of_package}
-use Rattle.make_package.specs.package_files.Sources.{AreSortedNamesBelowFirstFolder, and_then, source_folders_of_first_option_only, values_of_letter, scripts_from_read, texts_of}
+use Rattle.make_package.specs.package_files.Sources.{AreSortedAndEachBelowFirstFolder, and_then, source_folders_of_first_option_only, values_of_letter, scripts_from_read, texts_of}
 use Rattle.make_package.specs.adb_sound.Root.{IsValidRootValueOfTable}
 use Rattle.make_index.specs.make_info.Reads.{Reads}
 use Rattle.make_core.proofs.Apart.{Tells, package_once, rises_from_pairs}
@@ -83,7 +83,7 @@ are_listed folder (name ∷ names) all =
     let first = All-head (IsValidNameBelowFolder folder) name names all in
     ((first.below.0, first.below.1, first.named), are_listed folder names (All-tail (IsValidNameBelowFolder folder) name names all))
 
-sources_are : (read : Reads) (n : ℕ) (values : List OptionValue) (names : List (List ℕ)) (sources : List SourceFolder) → AreSortedNamesBelowFirstFolder values names → source_folders_of_first_option_only read n values names ≡ Ok sources → AreSources sources
+sources_are : (read : Reads) (n : ℕ) (values : List OptionValue) (names : List (List ℕ)) (sources : List SourceFolder) → AreSortedAndEachBelowFirstFolder values names → source_folders_of_first_option_only read n values names ≡ Ok sources → AreSources sources
 sources_are read n [] names sources below e =
     let same : [] ≡ sources = cc (e) in
     subst AreSources same (record { named = tt; apart = tt; files_apart = tt })
@@ -104,7 +104,7 @@ pub record IsMadeOf (P : Plain → List Contents → List ℕ → Type 0) (comma
   pub sources_read : source_folders_of_first_option_only read (length scripts) (values_of_letter FILES command.values) names ≡ Ok sources
   pub holds : P (value_of_package (information_value_with_installed_size items (installed_size sources)) sources scripts (texts_of (values_of_letter TRIGGER command.values)) (replaces_priority items)) (contents_of_folders 1 sources) bytes
 
-pub made_of : (P : Plain → List Contents → List ℕ → Type 0) → Holds P → Sizes → Exact → Needs → Tells → (command : CommandLine) (names : List (List ℕ)) (read : Reads) (bytes : List ℕ) → AreSortedNamesBelowFirstFolder (values_of_letter FILES command.values) names
+pub made_of : (P : Plain → List Contents → List ℕ → Type 0) → Holds P → Sizes → Exact → Needs → Tells → (command : CommandLine) (names : List (List ℕ)) (read : Reads) (bytes : List ℕ) → AreSortedAndEachBelowFirstFolder (values_of_letter FILES command.values) names
     → made_package command names read ≡ Ok bytes → length bytes < 2 ^ 64 → IsMadeOf P command names read bytes
 unfolding made_package
 made_of P holds sizes exact needs tells command names read bytes below e short =
@@ -131,7 +131,7 @@ made_of P holds sizes exact needs tells command names read bytes below e short =
 abbrev pub IsSoundFile : Plain → List Contents → List ℕ → Type 0
 IsSoundFile v contents bytes = container_fault bytes ≡ None
 
-pub made_sound : Holds IsSoundFile → Sizes → Exact → Needs → Tells → (command : CommandLine) (names : List (List ℕ)) (read : Reads) (bytes : List ℕ) → AreSortedNamesBelowFirstFolder (values_of_letter FILES command.values) names
+pub made_sound : Holds IsSoundFile → Sizes → Exact → Needs → Tells → (command : CommandLine) (names : List (List ℕ)) (read : Reads) (bytes : List ℕ) → AreSortedAndEachBelowFirstFolder (values_of_letter FILES command.values) names
     → made_package command names read ≡ Ok bytes → length bytes < 2 ^ 64 → container_fault bytes ≡ None
 made_sound holds sizes exact needs tells command names read bytes below e short =
     (made_of IsSoundFile holds sizes exact needs tells command names read bytes below e short).holds
@@ -140,7 +140,7 @@ made_sound holds sizes exact needs tells command names read bytes below e short 
 abbrev pub IsReadBack : Plain → List Contents → List ℕ → Type 0
 IsReadBack v contents bytes = package_with_contents bytes ≡ package_with_contents_from_parts v contents
 
-pub made_back : Holds IsReadBack → Sizes → Exact → Needs → Tells → (command : CommandLine) (names : List (List ℕ)) (read : Reads) (bytes : List ℕ) → AreSortedNamesBelowFirstFolder (values_of_letter FILES command.values) names
+pub made_back : Holds IsReadBack → Sizes → Exact → Needs → Tells → (command : CommandLine) (names : List (List ℕ)) (read : Reads) (bytes : List ℕ) → AreSortedAndEachBelowFirstFolder (values_of_letter FILES command.values) names
     → made_package command names read ≡ Ok bytes → length bytes < 2 ^ 64 → package_with_contents_of_command command names read ≡ Ok (package_with_contents bytes)
 made_back holds sizes exact needs tells command names read bytes below e short =
     let made = made_of IsReadBack holds sizes exact needs tells command names read bytes below e short in

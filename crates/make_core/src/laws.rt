@@ -9,12 +9,12 @@ ghost use Rattle.make_index.specs.Files.{EachOperandReadFindsNoFileOrFileBytes};
 ghost use Rattle.make_index.specs.Index.{made_index};
 ghost use Rattle.make_index.specs.make_info.Reads.{Reads};
 ghost use Rattle.make_package.specs.Making.{made_package};
-ghost use Rattle.make_package.specs.package_files.Sources.{AreSortedNamesBelowFirstFolder, values_of_letter};
+ghost use Rattle.make_package.specs.package_files.Sources.{AreSortedAndEachBelowFirstFolder, values_of_letter};
 ghost use Rattle.make_core.specs.ReadBack.{index_value_of_command, package_with_contents_of_command};
 ghost use Rattle.make_index.specs.pkg_core.Whole.{container_fault, package_with_contents};
 ghost use Rattle.std.specs.Prelude.{◌≡◌, ◌<◌, ◌^◌, ◌∷◌, ◌⊎◌, ℕ, List, length, None, Ok, Err};
 ghost use Rattle.base_core.specs.Files.{Files};
-ghost use Rattle.base_core.specs.Listed.{AreSortedNamesBelowFolder};
+ghost use Rattle.base_core.specs.Listed.{AreSortedAndEachBelowFolder};
 ghost use Rattle.command_core.specs.Command.{CommandLine};
 ghost use Rattle.command_core.specs.Files.{without_one_leading_dot_slash};
 ghost use Rattle.command_core.specs.declared.values.OptionValue.{OptionValue};
@@ -55,7 +55,7 @@ pub fn a_made_index_is_sound()
 /// than 2^64 bytes and is made from names below its folder, in byte order and each once.
 pub fn a_made_package_is_sound()
     ensures { (command : CommandLine) (names : List (List ℕ)) (read : Reads) (bytes : List ℕ)
-        → AreSortedNamesBelowFirstFolder (values_of_letter FILES command.values) names
+        → AreSortedAndEachBelowFirstFolder (values_of_letter FILES command.values) names
         → made_package command names read ≡ Ok bytes → length bytes < 2 ^ 64
         → container_fault bytes ≡ None }
 {
@@ -90,7 +90,7 @@ pub fn a_made_index_is_read_back()
 /// that the command describes, if the package has fewer than 2^64 bytes.
 pub fn a_made_package_is_read_back()
     ensures { (command : CommandLine) (names : List (List ℕ)) (read : Reads) (bytes : List ℕ)
-        → AreSortedNamesBelowFirstFolder (values_of_letter FILES command.values) names
+        → AreSortedAndEachBelowFirstFolder (values_of_letter FILES command.values) names
         → made_package command names read ≡ Ok bytes → length bytes < 2 ^ 64
         → package_with_contents_of_command command names read ≡ Ok (package_with_contents bytes) }
 {
@@ -128,7 +128,7 @@ pub fn a_made_package_has_the_files_below_its_folder()
     ensures { (command : CommandLine) (names : List (List ℕ)) (files : Files) (bytes : List ℕ)
         (folder : OptionValue) (others : List OptionValue)
         → values_of_letter FILES command.values ≡ folder ∷ others
-        → AreSortedNamesBelowFolder (without_one_leading_dot_slash folder.text) names
+        → AreSortedAndEachBelowFolder (without_one_leading_dot_slash folder.text) names
         → made_package command names (λ n name. files name) ≡ Ok bytes → length bytes < 2 ^ 64
         → HasJustNamedFilesBelowFolder files (without_one_leading_dot_slash folder.text) names
         (root_value_of_payload Package (payload_in bytes)) }

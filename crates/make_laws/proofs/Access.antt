@@ -3,7 +3,7 @@ use Rattle.std.proofs.Common.{ℕ, List, [], ◌∷◌, map, refl, sym, subst}
 use Rattle.std.specs.Prelude.{All}
 use Rattle.std.proofs.lemmas.List.Elements.{All-cons, All-nil}
 use Rattle.adb_view.proofs.ValueEntries.{nth_obj}
-use Rattle.make_core.specs.package_files.Package.{SourceFile, SourceFolder, access_value, file_fields, folder_fields, kind_of_file, value_of_file, value_of_folder}
+use Rattle.make_core.specs.package_files.Package.{SourceFileNameAndBytes, SourceFolder, access_value, file_fields, folder_fields, kind_of_file, value_of_file, value_of_folder}
 use Rattle.make_core.proofs.PackageFiles.{files_stand}
 use Rattle.make_laws.specs.MadePackages.{IsEnterableWithReadableFiles, IsReadableFile, ENTERABLE_FOLDER_MODE, READABLE_FILE_MODE}
 use Rattle.make_laws.specs.NamedFields.{IsAccessOfRoot}
@@ -11,10 +11,10 @@ use Rattle.make_laws.specs.NamedFields.{IsAccessOfRoot}
 access_stands : (mode : ℕ) → IsAccessOfRoot mode (access_value mode)
 access_stands mode = record { of_mode = refl; of_user = refl; of_group = refl }
 
-file_readable : (s : SourceFile) → IsReadableFile (value_of_file s)
+file_readable : (s : SourceFileNameAndBytes) → IsReadableFile (value_of_file s)
 file_readable s = subst (IsAccessOfRoot READABLE_FILE_MODE) (sym (nth_obj (file_fields s.name (kind_of_file s.bytes)) 1)) (access_stands READABLE_FILE_MODE)
 
-files_readable : (ss : List SourceFile) → All IsReadableFile (map value_of_file ss)
+files_readable : (ss : List SourceFileNameAndBytes) → All IsReadableFile (map value_of_file ss)
 files_readable [] = All-nil IsReadableFile
 files_readable (s ∷ ss) = All-cons IsReadableFile (value_of_file s) (map value_of_file ss) (file_readable s) (files_readable ss)
 

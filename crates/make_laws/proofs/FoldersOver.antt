@@ -14,7 +14,7 @@ use Rattle.command_core.specs.declared.values.OptionValue.{OptionValue}
 use Rattle.make_core.specs.make_info.Reads.{Reads}
 use Rattle.make_core.specs.package_files.Folders.{prefixes_before_slashes, all_folders_above, folder_listings_by_tree_names, folders_above, is_slash, folder_listing_by_tree_names, path_relative_to}
 use Rattle.make_core.specs.package_files.Package.{SourceFolder}
-use Rattle.make_core.specs.package_files.Sources.{AreSortedNamesBelowFirstFolder, source_folders_of_first_option_only, values_of_letter}
+use Rattle.make_core.specs.package_files.Sources.{AreSortedAndEachBelowFirstFolder, source_folders_of_first_option_only, values_of_letter}
 use Rattle.make_core.specs.FilesBelow.{path_joined_to_folder}
 use Rattle.make_core.proofs.ListedNames.{AreListed, below_is, listed_in}
 use Rattle.make_core.proofs.SoundPackage.{are_listed}
@@ -96,11 +96,11 @@ names_read read n place dir names sources v vs e =
     let fs : List (List ℕ) = all_folders_above (map (path_relative_to (without_one_leading_dot_slash v.text)) names) in
     listed_names (without_one_leading_dot_slash v.text) names fs sources (folders_named v.place read n (map (folder_listing_by_tree_names (without_one_leading_dot_slash v.text) names) fs) sources e)
 
-pub folders_over_paths : AreFolderNames → (command : CommandLine) (names : List (List ℕ)) (read : Reads) (pkg : Plain) (v : OptionValue) (vs : List OptionValue) → AreSortedNamesBelowFirstFolder (values_of_letter FILES command.values) names
+pub folders_over_paths : AreFolderNames → (command : CommandLine) (names : List (List ℕ)) (read : Reads) (pkg : Plain) (v : OptionValue) (vs : List OptionValue) → AreSortedAndEachBelowFirstFolder (values_of_letter FILES command.values) names
     → values_of_letter FILES command.values ≡ v ∷ vs → IsMadeFrom command names read pkg → HasJustFoldersAbove (without_one_leading_dot_slash v.text) names pkg
 folders_over_paths law command names read pkg v vs below given m =
     let dir : List ℕ = without_one_leading_dot_slash v.text in
-    let named : AreSortedNamesBelowFirstFolder (v ∷ vs) names = subst (λ (l : List OptionValue). AreSortedNamesBelowFirstFolder l names) given below in
+    let named : AreSortedAndEachBelowFirstFolder (v ∷ vs) names = subst (λ (l : List OptionValue). AreSortedAndEachBelowFirstFolder l names) given below in
     let read_of : source_folders_of_first_option_only read (length m.scripts) (v ∷ vs) names ≡ Ok m.sources =
     ap (λ (l : List OptionValue). source_folders_of_first_option_only read (length m.scripts) l names) (sym given) ∙ m.sources_read in
     names_over dir names (are_listed dir names named.each) law pkg

@@ -12,7 +12,7 @@ use Rattle.make_core.specs.make_info.Reads.{Reads}
 use Rattle.make_core.specs.make_info.Values.{number_or_null, plains_of_list}
 use Rattle.make_core.specs.make_package.Making.{made_package, or_info_bad}
 use Rattle.make_core.specs.package_files.Package.{Script, SourceFolder, contents_of_folders, installed_size, package_fields, value_of_folder, value_of_package, value_of_scripts}
-use Rattle.make_core.specs.package_files.Sources.{AreSortedNamesBelowFirstFolder, source_folders_of_first_option_only, and_then, scripts_from_read, texts_of, values_of_letter}
+use Rattle.make_core.specs.package_files.Sources.{AreSortedAndEachBelowFirstFolder, source_folders_of_first_option_only, and_then, scripts_from_read, texts_of, values_of_letter}
 use Rattle.make_core.specs.ReadBack.{packed_of_parts, package_with_contents_of_command}
 use Rattle.make_core.proofs.ListedNames.{after_ok}
 use Rattle.make_core.proofs.PackageFiles.{folders_stand, list-plains}
@@ -21,7 +21,7 @@ use Rattle.make_laws.specs.MadePackages.{HasTriggersOfOptionsInOrder, IsMadePack
 
 -- what a package that is made is read back as
 abbrev pub ReadsBack : Type 0
-ReadsBack = (command : CommandLine) (names : List (List ℕ)) (read : Reads) (bytes : List ℕ) → AreSortedNamesBelowFirstFolder (values_of_letter FILES command.values) names → made_package command names read ≡ Ok bytes → length bytes < 2 ^ 64
+ReadsBack = (command : CommandLine) (names : List (List ℕ)) (read : Reads) (bytes : List ℕ) → AreSortedAndEachBelowFirstFolder (values_of_letter FILES command.values) names → made_package command names read ≡ Ok bytes → length bytes < 2 ^ 64
     → package_with_contents_of_command command names read ≡ Ok (package_with_contents bytes)
 
 pub record IsMadeFrom (command : CommandLine) (names : List (List ℕ)) (read : Reads) (pkg : Plain) : Type 0 where

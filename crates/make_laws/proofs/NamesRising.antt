@@ -20,8 +20,8 @@ use Rattle.command_core.specs.Files.{without_one_leading_dot_slash}
 use Rattle.command_core.specs.declared.values.OptionValue.{OptionValue}
 use Rattle.make_core.specs.make_info.Reads.{Reads}
 use Rattle.make_core.specs.package_files.Folders.{FolderListing, all_folders_above, folder_listings_by_tree_names, folders_above, last_part_of, folder_listing_by_tree_names, tree_names_in_package_folder, path_relative_to}
-use Rattle.make_core.specs.package_files.Package.{SourceFile, SourceFolder, kind_of_file, value_of_file, value_of_folder}
-use Rattle.make_core.specs.package_files.Sources.{AreSortedNamesBelowFirstFolder, source_file_at_place_by_read, source_folder_at_place_by_read, source_folders_of_first_option_only, found_bytes_or_missing, source_folders_at_place_from_read, source_files_at_place_from_read, values_of_letter}
+use Rattle.make_core.specs.package_files.Package.{SourceFileNameAndBytes, SourceFolder, kind_of_file, value_of_file, value_of_folder}
+use Rattle.make_core.specs.package_files.Sources.{AreSortedAndEachBelowFirstFolder, source_file_at_place_by_read, source_folder_at_place_by_read, source_folders_of_first_option_only, found_bytes_or_missing, source_folders_at_place_from_read, source_files_at_place_from_read, values_of_letter}
 use Rattle.make_core.proofs.Apart.{Rises, cmp, in_order_rises, rises_from_pairs}
 use Rattle.make_core.proofs.ListedNames.{AllOf, AreListed, after_ok, each_read, filter_in, listed_in, recovered, stands_in}
 use Rattle.make_core.proofs.PackageFiles.{files_stand, folder_name_stands, name_stands}
@@ -81,24 +81,24 @@ module _ (dir f : List ℕ) where
 
 -- ---- the sources that are read of them
 
-abbrev file_names : List SourceFile → List (List ℕ)
-file_names files = map (λ (file : SourceFile). file.name) files
+abbrev file_names : List SourceFileNameAndBytes → List (List ℕ)
+file_names files = map (λ (file : SourceFileNameAndBytes). file.name) files
 
-abbrev IsFileNamed : List ℕ → SourceFile → Type 0
+abbrev IsFileNamed : List ℕ → SourceFileNameAndBytes → Type 0
 IsFileNamed name file = file.name ≡ last_part_of name
 
 abbrev IsFolderNamed : FolderListing → SourceFolder → Type 0
 IsFolderNamed l s = (s.name ≡ l.name) × (file_names s.files ≡ map last_part_of l.files)
 
 module _ (place : ℕ) (read : Reads) where
-  file_named : (n : ℕ) (name : List ℕ) (file : SourceFile) → source_file_at_place_by_read place read n name ≡ Ok file → IsFileNamed name file
+  file_named : (n : ℕ) (name : List ℕ) (file : SourceFileNameAndBytes) → source_file_at_place_by_read place read n name ≡ Ok file → IsFileNamed name file
   file_named n name file e =
       let one = after_ok (found_bytes_or_missing place (read n name)) (λ bytes. Ok (record { name = last_part_of name; bytes = bytes })) file e in
       let gives = one.gives in
       let same : record { name = last_part_of name; bytes = one.x } ≡ file = cc (gives) in
-      ap (λ (f : SourceFile). f.name) (sym same)
+      ap (λ (f : SourceFileNameAndBytes). f.name) (sym same)
 
-  names_are : (names : List (List ℕ)) (files : List SourceFile) → AllOf IsFileNamed names files → file_names files ≡ map last_part_of names
+  names_are : (names : List (List ℕ)) (files : List SourceFileNameAndBytes) → AllOf IsFileNamed names files → file_names files ≡ map last_part_of names
   names_are [] [] h = refl
   names_are [] (file ∷ files) h = absurd h
   names_are (name ∷ names) [] h = absurd h
@@ -124,7 +124,7 @@ pub folder_names_stand : (sources : List SourceFolder) → map name_of (map valu
 folder_names_stand [] = refl
 folder_names_stand (s ∷ ss) = λ k. folder_name_stands s k ∷ folder_names_stand ss k
 
-file_names_stand : (files : List SourceFile) → map name_of (map value_of_file files) ≡ file_names files
+file_names_stand : (files : List SourceFileNameAndBytes) → map name_of (map value_of_file files) ≡ file_names files
 file_names_stand [] = refl
 file_names_stand (file ∷ files) = λ k. name_stands file.name (kind_of_file file.bytes) k ∷ file_names_stand files k
 
@@ -149,7 +149,7 @@ files_rise dir names (f ∷ fs) (s ∷ ss) all rises h =
 abbrev AreInOrder : List SourceFolder → Type 0
 AreInOrder sources = AreSortedDistinctTexts (names_of sources) × All HasFilesRising (map value_of_folder sources)
 
-sources_in_order : (read : Reads) (n : ℕ) (values : List OptionValue) (names : List (List ℕ)) (sources : List SourceFolder) → AreSortedNamesBelowFirstFolder values names → source_folders_of_first_option_only read n values names ≡ Ok sources → AreInOrder sources
+sources_in_order : (read : Reads) (n : ℕ) (values : List OptionValue) (names : List (List ℕ)) (sources : List SourceFolder) → AreSortedAndEachBelowFirstFolder values names → source_folders_of_first_option_only read n values names ≡ Ok sources → AreInOrder sources
 unfolding folder_listings_by_tree_names
 sources_in_order read n [] names sources below e =
     let same : [] ≡ sources = cc (e) in
@@ -162,7 +162,7 @@ sources_in_order read n (v ∷ vs) names sources below e =
       files_rise dir names fs sources (are_listed dir names below.each) (rises_from_pairs names below.rising) are,
     )
 
-pub in_byte_order : (command : CommandLine) (names : List (List ℕ)) (read : Reads) (pkg : Plain) → AreSortedNamesBelowFirstFolder (values_of_letter FILES command.values) names → IsMadeFrom command names read pkg → HasFoldersAndFilesInByteOrder pkg
+pub in_byte_order : (command : CommandLine) (names : List (List ℕ)) (read : Reads) (pkg : Plain) → AreSortedAndEachBelowFirstFolder (values_of_letter FILES command.values) names → IsMadeFrom command names read pkg → HasFoldersAndFilesInByteOrder pkg
 in_byte_order command names read pkg below m =
     let are = folders_are command names read pkg m in
     let order = sources_in_order read (length m.scripts) (values_of_letter FILES command.values) names m.sources below m.sources_read in

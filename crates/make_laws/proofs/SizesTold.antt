@@ -10,15 +10,15 @@ use Rattle.adb_view.specs.declared.tables.Which.TheVariants.{PkgInfo}
 use Rattle.adb_view.proofs.ValueEntries.{nth_obj}
 use Rattle.adb_view.specs.Plain.{Plain}
 use Rattle.make_core.specs.make_info.Information.{FieldWithValue, information_fields_with_installed_size, information_value_with_installed_size}
-use Rattle.make_core.specs.package_files.Package.{SourceFile, SourceFolder, installed_size, kind_of_file, size_of_folder, size_of_kind, value_of_file, value_of_folder}
+use Rattle.make_core.specs.package_files.Package.{SourceFileNameAndBytes, SourceFolder, installed_size, kind_of_file, size_of_folder, size_of_kind, value_of_file, value_of_folder}
 use Rattle.make_core.proofs.PackageFiles.{files_stand, int-size_or_null_if_zero, size_stands}
 use Rattle.make_laws.specs.MadePackages.{listed_file_size}
 use Rattle.make_laws.specs.NamedFields.{field_named}
 
-abbrev own_size : SourceFile → ℕ
+abbrev own_size : SourceFileNameAndBytes → ℕ
 own_size file = size_of_kind (kind_of_file file.bytes)
 
-files_told : (files : List SourceFile) → sum_by own_size files ≡ sum_by listed_file_size (map value_of_file files)
+files_told : (files : List SourceFileNameAndBytes) → sum_by own_size files ≡ sum_by listed_file_size (map value_of_file files)
 files_told [] = refl
 files_told (f ∷ fs) =
     sum_by-cons own_size f fs

@@ -17,7 +17,7 @@ use Rattle.command_core.specs.declared.values.OptionValue.{OptionValue}
 use Rattle.make_core.specs.FilesBelow.{path_joined_to_folder}
 use Rattle.make_core.specs.make_info.Reads.{Reads}
 use Rattle.make_core.specs.make_package.Making.{made_package}
-use Rattle.make_core.specs.package_files.Sources.{AreSortedNamesBelowFirstFolder, values_of_letter}
+use Rattle.make_core.specs.package_files.Sources.{AreSortedAndEachBelowFirstFolder, values_of_letter}
 use Rattle.make_laws.specs.NamedFields.{IsAccessOfRoot, entries_of_field_named, field_named}
 
 -- `mkpkg` makes these bytes, fewer than 2^64, from the command, these names below its folder, and these
@@ -25,7 +25,7 @@ use Rattle.make_laws.specs.NamedFields.{IsAccessOfRoot, entries_of_field_named, 
 pub record IsMadePackage (command : CommandLine) (names : List (List ℕ)) (read : Reads)
     (bytes : List ℕ) : Type 0 where
   -- the names are below the folder of the option `-F`
-  pub below : AreSortedNamesBelowFirstFolder (values_of_letter FILES command.values) names
+  pub below : AreSortedAndEachBelowFirstFolder (values_of_letter FILES command.values) names
   -- `mkpkg` answers Ok with these bytes
   pub made : made_package command names read ≡ Ok bytes
   -- the length of the package is below 2^64

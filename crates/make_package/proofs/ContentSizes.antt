@@ -6,7 +6,7 @@ use Rattle.std.proofs.lemmas.List.Sums.{sum_by-cons}
 use Rattle.sha2.specs.Sha256.{sha256}
 use Rattle.package_files.specs.pkg_core.Contents.{Contents}
 use Rattle.package_files.specs.adb_sound.Contents.{total_size_of_file_contents}
-use Rattle.package_files.specs.Package.{SourceFile, SourceFolder, contents_of_file, contents_of_files, contents_of_folders, has_contents, installed_size, is_link_file}
+use Rattle.package_files.specs.Package.{SourceFileNameAndBytes, SourceFolder, contents_of_file, contents_of_files, contents_of_folders, has_contents, installed_size, is_link_file}
 use Rattle.package_files.specs.Package.{kind_of_file, link_text, size_of_folder, size_of_kind}
 use Rattle.package_files.specs.declared.file.FileKind.{FileKind}
 use Rattle.package_files.specs.declared.file.FileKind.TheVariants.{Link, Regular}
@@ -40,10 +40,10 @@ size_by d i bytes (Regular size digest) of false e = omega (arith, ltb-false 0 s
 file_total : (d i : ℕ) (bytes : List ℕ) → size_of_kind (kind_of_file bytes) ≡ total_size_of_file_contents (contents_of_file d i bytes)
 file_total d i bytes = size_by d i bytes (kind_of_file bytes) (entry_is_of bytes) (has_contents (kind_of_file bytes)) refl
 
-abbrev file_size : SourceFile → ℕ
+abbrev file_size : SourceFileNameAndBytes → ℕ
 file_size file = size_of_kind (kind_of_file file.bytes)
 
-files_total : (d i : ℕ) (files : List SourceFile) → sum_by file_size files ≡ total_size_of_file_contents (contents_of_files d i files)
+files_total : (d i : ℕ) (files : List SourceFileNameAndBytes) → sum_by file_size files ≡ total_size_of_file_contents (contents_of_files d i files)
 files_total d i [] = refl
 files_total d i (file ∷ files) =
     omega (arith, sum_by-cons file_size file files, file_total d i file.bytes, files_total d (i + 1) files, total-append (contents_of_file d i file.bytes) (contents_of_files d (i + 1) files))

@@ -34,7 +34,7 @@ use Rattle.package_files.specs.adb_sound.Contents.{total_size_of_file_contents}
 use Rattle.package_files.specs.adb_sound.Container.{block_of_contents, container_of_value_and_contents}
 use Rattle.make_package.specs.Answers.{IsBytes, IsFirstValue, IsNotDisk}
 use Rattle.make_package.specs.Making.{container_unless_too_large, package_container}
-use Rattle.package_files.specs.Package.{Script, SourceFile, SourceFolder, contents_of_folders, value_of_file, value_of_folder, folder_with, installed_size, kind_of_file, value_of_kind, value_of_package, package_with, size_of_folder, size_of_kind}
+use Rattle.package_files.specs.Package.{Script, SourceFileNameAndBytes, SourceFolder, contents_of_folders, value_of_file, value_of_folder, folder_with, installed_size, kind_of_file, value_of_kind, value_of_package, package_with, size_of_folder, size_of_kind}
 use Rattle.package_files.specs.Packed.{AreFilesFrom, AreFoldersFrom, ArePackedFolders, packed_file, packed_folder, files_size, installed_size_of_folders}
 use Rattle.package_files.specs.Runs.{AgreesOrIsFault}
 use Rattle.package_files.specs.Sources.{values_of_letter, texts_of}
@@ -160,10 +160,10 @@ first_none values first h e = let P : Option (Bor OptionValue) → Type 0 = λ o
 abbrev pub file_size : File → ℕ
 file_size file = size_of_kind file.kind
 
-abbrev source_size : SourceFile → ℕ
+abbrev source_size : SourceFileNameAndBytes → ℕ
 source_size source = size_of_kind (kind_of_file source.bytes)
 
-files_sized : (files : List File) (sources : List SourceFile) → AreFilesFrom files sources → sum_by file_size files ≡ sum_by source_size sources
+files_sized : (files : List File) (sources : List SourceFileNameAndBytes) → AreFilesFrom files sources → sum_by file_size files ≡ sum_by source_size sources
 files_sized [] [] h = refl
 files_sized [] (s ∷ ss) h = absurd h
 files_sized (f ∷ fs) [] h = absurd h
@@ -182,7 +182,7 @@ folders_sized (f ∷ fs) (s ∷ ss) h =
     let one : folder_size f ≡ size_of_folder s = files_sized f.files.items s.files h.0.files in
     omega (arith, sum_by-cons folder_size f fs, sum_by-cons size_of_folder s ss, folders_sized fs ss h.1, one)
 
-files_valued : (files : List File) (sources : List SourceFile) → AreFilesFrom files sources → map packed_file files ≡ map value_of_file sources
+files_valued : (files : List File) (sources : List SourceFileNameAndBytes) → AreFilesFrom files sources → map packed_file files ≡ map value_of_file sources
 files_valued [] [] h = refl
 files_valued [] (s ∷ ss) h = absurd h
 files_valued (f ∷ fs) [] h = absurd h

@@ -6,7 +6,7 @@ use Rattle.std.specs.Result.{IsErrAnd}
 use Rattle.std.proofs.lemmas.List.{map-append, take-append-drop}
 use Rattle.base_core.specs.Calls.{IfObservable}
 use Rattle.base_core.specs.Read.{OnlyReads}
-use Rattle.base_core.specs.Listed.{AreSortedNamesBelowFolder, IsSortedListingOfFolder}
+use Rattle.base_core.specs.Listed.{AreSortedAndEachBelowFolder, IsSortedListingOfFolder}
 use Rattle.base_core.specs.Faults.{Counts}
 use Rattle.base_core.specs.Tree.{TreeState}
 use Rattle.command_core.specs.Command.{CommandLine}
@@ -23,7 +23,7 @@ use Rattle.package_files.specs.Package.{SourceFolder}
 use Rattle.package_files.specs.Packed.{IsPacking}
 use Rattle.package_files.specs.Runs.{AgreesOrIsFault, HoldsOfSomeReadsOfTree}
 use Rattle.make_package.specs.Scripts.{AreScripts, IsScript, script_view, scripts_view}
-use Rattle.package_files.specs.Sources.{AreSortedNamesBelowFirstFolder, and_then, results_from_read, source_folder_at_place_by_read, source_folders_of_first_option_only, source_folders_at_place_from_read, found_bytes_or_missing, values_of_letter, script_at, scripts_from_read}
+use Rattle.package_files.specs.Sources.{AreSortedAndEachBelowFirstFolder, and_then, results_from_read, source_folder_at_place_by_read, source_folders_of_first_option_only, source_folders_at_place_from_read, found_bytes_or_missing, values_of_letter, script_at, scripts_from_read}
 use Rattle.package_files.specs.make_info.Reads.{Reads}
 use Rattle.package_files.specs.make_info.declared.fault.MakeFault.{MakeFault}
 use Rattle.package_files.specs.make_info.declared.fault.MakeFault.TheVariants.{FileMissing, FileBad, InfoBad, TooLarge, Disk, Memory}
@@ -172,7 +172,7 @@ module _ (command : CommandLine) (names : List (List ℕ)) (read : Reads) where
 
 -- ---- a run, of what is made
 
-pub made_by : (told : List TreeState) (command : CommandLine) (names : List (List ℕ)) (r : Result (Vec ℕ Global) MakeFault) → AreSortedNamesBelowFirstFolder (values_of_letter FILES command.values) names → IfObservable told (λ v. IsSortedListingOfFirstFolder (values_of_letter FILES command.values) v names)
+pub made_by : (told : List TreeState) (command : CommandLine) (names : List (List ℕ)) (r : Result (Vec ℕ Global) MakeFault) → AreSortedAndEachBelowFirstFolder (values_of_letter FILES command.values) names → IfObservable told (λ v. IsSortedListingOfFirstFolder (values_of_letter FILES command.values) v names)
     → HoldsOfSomeReadsOfTree told (λ read. AgreesOrIsFault IsBytes r (made_package command names read)) → IsMakeResult told command r
 made_by told command names (Ok file) named below p = record { names = names; named = named; below = below; reads = record { read = p.read; observed = p.observed; is = p.is.1 ∙ ap Ok p.is.2 } }
 made_by told command names (Err Disk) named below p = tt
@@ -183,7 +183,7 @@ made_by told command names (Err (InfoBad q)) named below p = record { names = na
 made_by told command names (Err (TooLarge b v)) named below p = record { names = names; named = named; below = below; reads = p }
 
 -- the tree was asked before the run, and stayed as it was
-pub run_as : (t0 t1 : List TreeState) (command : CommandLine) (names : List (List ℕ)) (r : Result (Vec ℕ Global) MakeFault) → t1 ≡ t0 → AreSortedNamesBelowFirstFolder (values_of_letter FILES command.values) names → IfObservable t0 (λ v. IsSortedListingOfFirstFolder (values_of_letter FILES command.values) v names)
+pub run_as : (t0 t1 : List TreeState) (command : CommandLine) (names : List (List ℕ)) (r : Result (Vec ℕ Global) MakeFault) → t1 ≡ t0 → AreSortedAndEachBelowFirstFolder (values_of_letter FILES command.values) names → IfObservable t0 (λ v. IsSortedListingOfFirstFolder (values_of_letter FILES command.values) v names)
     → HoldsOfSomeReadsOfTree t1 (λ read. AgreesOrIsFault IsBytes r (made_package command names read)) → IsMakeResult t0 command r
 run_as t0 t1 command names r e named below p =
     let P : List TreeState → Type 0 = λ t. HoldsOfSomeReadsOfTree t (λ read. AgreesOrIsFault IsBytes r (made_package command names read)) in
@@ -195,11 +195,11 @@ pub below_as : (told : List TreeState) (command : CommandLine) (values : List Op
     → IfObservable told (λ v. IsSortedListingOfFirstFolder (values_of_letter FILES command.values) v names)
 below_as told command values names e h = let P : List OptionValue → Type 0 = λ vs. IfObservable told (λ v. IsSortedListingOfFirstFolder (values_of_letter FILES vs) v names) in subst P e h
 
-pub named_as : (command : CommandLine) (values : List OptionValue) (names : List (List ℕ)) → values ≡ command.values → AreSortedNamesBelowFirstFolder (values_of_letter FILES values) names → AreSortedNamesBelowFirstFolder (values_of_letter FILES command.values) names
-named_as command values names e h = let P : List OptionValue → Type 0 = λ vs. AreSortedNamesBelowFirstFolder (values_of_letter FILES vs) names in subst P e h
+pub named_as : (command : CommandLine) (values : List OptionValue) (names : List (List ℕ)) → values ≡ command.values → AreSortedAndEachBelowFirstFolder (values_of_letter FILES values) names → AreSortedAndEachBelowFirstFolder (values_of_letter FILES command.values) names
+named_as command values names e h = let P : List OptionValue → Type 0 = λ vs. AreSortedAndEachBelowFirstFolder (values_of_letter FILES vs) names in subst P e h
 
-pub nothing_named : (dirs : List OptionValue) (names : List (List ℕ)) → dirs ≡ [] → AreSortedNamesBelowFirstFolder dirs names
-nothing_named dirs names e = let P : List OptionValue → Type 0 = λ l. AreSortedNamesBelowFirstFolder l names in subst P (sym e) tt
+pub nothing_named : (dirs : List OptionValue) (names : List (List ℕ)) → dirs ≡ [] → AreSortedAndEachBelowFirstFolder dirs names
+nothing_named dirs names e = let P : List OptionValue → Type 0 = λ l. AreSortedAndEachBelowFirstFolder l names in subst P (sym e) tt
 
 pub nothing_below : (told : List TreeState) (dirs : List OptionValue) (names : List (List ℕ)) → dirs ≡ [] → IfObservable told (λ v. IsSortedListingOfFirstFolder dirs v names)
 nothing_below [] dirs names e = tt
@@ -247,10 +247,10 @@ listed_for told vs folder names f h =
     let Q : List ℕ → Type 0 = λ d. IfObservable told (λ w. IsSortedListingOfFolder d w names) in
     subst P (sym f.first) (subst Q (sym f.name) h)
 
-pub named_for : (vs : List OptionValue) (folder : List ℕ) (names : List (List ℕ)) → IsFolder vs folder → AreSortedNamesBelowFolder folder names → AreSortedNamesBelowFirstFolder (values_of_letter FILES vs) names
+pub named_for : (vs : List OptionValue) (folder : List ℕ) (names : List (List ℕ)) → IsFolder vs folder → AreSortedAndEachBelowFolder folder names → AreSortedAndEachBelowFirstFolder (values_of_letter FILES vs) names
 named_for vs folder names f h =
-    let P : List OptionValue → Type 0 = λ l. AreSortedNamesBelowFirstFolder l names in
-    let Q : List ℕ → Type 0 = λ d. AreSortedNamesBelowFolder d names in
+    let P : List OptionValue → Type 0 = λ l. AreSortedAndEachBelowFirstFolder l names in
+    let Q : List ℕ → Type 0 = λ d. AreSortedAndEachBelowFolder d names in
     subst P (sym f.first) (subst Q (sym f.name) h)
 
 pub packed_for : (told : List TreeState) (dirs : List OptionValue) (v : OptionValue) (others : List OptionValue) (dir : List ℕ) (names : List (List ℕ)) (r : Result Packing MakeFault) (n : ℕ) → dirs ≡ v ∷ others

@@ -16,7 +16,7 @@ use Rattle.package_files.specs.make_info.declared.fault.MakeFault.{MakeFault}
 use Rattle.package_files.specs.make_info.declared.fault.MakeFault.TheVariants.{Disk, Memory}
 use Rattle.make_package.specs.Making.{made_package}
 use Rattle.package_files.specs.Runs.{HoldsOfSomeReadsOfTree}
-use Rattle.package_files.specs.Sources.{AreSortedNamesBelowFirstFolder, values_of_letter}
+use Rattle.package_files.specs.Sources.{AreSortedAndEachBelowFirstFolder, values_of_letter}
 
 -- ---- parts of a run
 
@@ -64,7 +64,7 @@ pub record IsMadeOf (history : List TreeState) (command : CommandLine)
   -- the names of the files below the folder of the option `-F`
   pub names : List (List ℕ)
   -- they are names below this folder, in byte order
-  pub named : AreSortedNamesBelowFirstFolder (values_of_letter FILES command.values) names
+  pub named : AreSortedAndEachBelowFirstFolder (values_of_letter FILES command.values) names
   -- if the tree is observable, they are exactly the tree's names below this folder
   pub below : IfObservable history
       (λ v. IsSortedListingOfFirstFolder (values_of_letter FILES command.values) v names)
@@ -93,7 +93,7 @@ pub record IsMadeBySomeReads (command : CommandLine) (made : Result (List ℕ) M
   -- the names of the files below the folder of the option `-F`
   pub names : List (List ℕ)
   -- they are names below this folder, in byte order
-  pub named : AreSortedNamesBelowFirstFolder (values_of_letter FILES command.values) names
+  pub named : AreSortedAndEachBelowFirstFolder (values_of_letter FILES command.values) names
   -- the results of the reads
   pub read : Reads
   -- the package is made of the command, the names and these reads

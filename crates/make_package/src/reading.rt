@@ -13,7 +13,7 @@ ghost use Rattle.make_package.specs.Answers.{IsOkOrDiskOrMemory, IsFirstValue, I
 ghost use Rattle.package_files.specs.Packed.{IsPacking};
 ghost use Rattle.package_files.specs.Runs.{AgreesOrIsFault, HoldsOfSomeReadsOfTree};
 ghost use Rattle.make_package.specs.Scripts.{AreScripts, IsScript};
-ghost use Rattle.package_files.specs.Sources.{AreSortedNamesBelowFirstFolder, source_folders_of_first_option_only, values_of_letter, script_at, scripts_from_read};
+ghost use Rattle.package_files.specs.Sources.{AreSortedAndEachBelowFirstFolder, source_folders_of_first_option_only, values_of_letter, script_at, scripts_from_read};
 ghost use Rattle.std.specs.Prelude.{◌≡◌, ◌++◌, ◌∷◌, [], ℕ, IfOk, IsTrue, OnOk};
 
 use crate::writing::Script;
@@ -41,7 +41,7 @@ pub(crate) fn list_names<T: Tree>(
     ensures names { IfOk result (λ names. IfObservable (T.history tree.old) (λ v.
         IsSortedListingOfFirstFolder (values_of_letter FILES values.now) v names)) }
     // Whatever the tree returns, these are names below the folder, in byte order and each once.
-    ensures order { IfOk result (λ names. AreSortedNamesBelowFirstFolder
+    ensures order { IfOk result (λ names. AreSortedAndEachBelowFirstFolder
         (values_of_letter FILES values.now) names) }
 {
     match values.first_file(FILES) {

@@ -14,7 +14,7 @@ use Rattle.engine_core.specs.change_outcome.Triggers.{trigger_lines}
 use Rattle.command_core.specs.Command.{CommandLine}
 use Rattle.engine_core.specs.Changed.{IsFirstClashOfCommand, InputsAndReplacement, change_of_selected, change_of_command, selected_from_pool_by_choice, selected_from_inputs_by_choice, simulated_change}
 use Rattle.engine_core.specs.Choice.{IsPreferredChoiceUnlessRefused}
-use Rattle.engine_core.specs.Selecting.{pool_of_inputs, pool_of_command, replacement_of_choice}
+use Rattle.engine_core.specs.Selecting.{pool_of_inputs_unless_too_many_candidates, pool_of_command, replacement_of_choice}
 use Rattle.engine_core.specs.Wishes.{names_to_reinstall, names_to_upgrade, unknown_operand_place, unless_unknown_operand, wishes_of}
 use Rattle.make_core.specs.make_info.Reads.{Reads}
 use Rattle.engine_core.specs.package_changes.Changes.{Replacement, changes_of}
@@ -100,16 +100,16 @@ module _ (known : IsMadeKnown) (command : CommandLine) (files : Files) where
   end_of clash selected = change_outcome files (and_then selected (change_of_selected command (reads_in files) files clash))
 
   by_choice : (inputs : Inputs) (pool : SelectionProblem) (chosen : Option (List ℕ)) (clash : Option NamePair)
-      → inputs_of command (reads_in files) ≡ Ok inputs → pool_of_inputs command inputs ≡ Ok pool → unknown_operand_place command.applet inputs command.operands ≡ None
+      → inputs_of command (reads_in files) ≡ Ok inputs → pool_of_inputs_unless_too_many_candidates command inputs ≡ Ok pool → unknown_operand_place command.applet inputs command.operands ≡ None
       → IsPreferredChoiceUnlessRefused (Ok pool) chosen → IsFirstClashOfCommand command (reads_in files) files chosen clash
       → IsChangeEnd command files (end_of clash (selected_from_pool_by_choice command inputs pool chosen))
   by_choice inputs pool None clash are is known_names choice is_clash =
-      inr (inl (record { pool = pool; is_pool = ap (λ (r : Result Inputs Refusal). and_then r (pool_of_inputs command)) are ∙ is; none = choice; outcome = refl }))
+      inr (inl (record { pool = pool; is_pool = ap (λ (r : Result Inputs Refusal). and_then r (pool_of_inputs_unless_too_many_candidates command)) are ∙ is; none = choice; outcome = refl }))
   by_choice inputs pool (Some trace) clash are is known_names choice is_clash =
       let s : InputsAndReplacement = record { inputs = inputs; replacement = replacement_of_choice (names_to_reinstall command.applet command.operands) inputs pool trace } in
       inr (inr (record {
         pool = pool;
-        is_pool = ap (λ (r : Result Inputs Refusal). and_then r (pool_of_inputs command)) are ∙ is;
+        is_pool = ap (λ (r : Result Inputs Refusal). and_then r (pool_of_inputs_unless_too_many_candidates command)) are ∙ is;
         trace = trace;
         first = choice;
         selected = s;
@@ -125,7 +125,7 @@ module _ (known : IsMadeKnown) (command : CommandLine) (files : Files) where
   -- ---- by what is read
 
   by_place : (inputs : Inputs) (pool : SelectionProblem) (place : Option ℕ) (chosen : Option (List ℕ)) (clash : Option NamePair)
-      → inputs_of command (reads_in files) ≡ Ok inputs → pool_of_inputs command inputs ≡ Ok pool → unknown_operand_place command.applet inputs command.operands ≡ place
+      → inputs_of command (reads_in files) ≡ Ok inputs → pool_of_inputs_unless_too_many_candidates command inputs ≡ Ok pool → unknown_operand_place command.applet inputs command.operands ≡ place
       → IsPreferredChoiceUnlessRefused (Ok pool) chosen → IsFirstClashOfCommand command (reads_in files) files chosen clash
       → IsChangeEnd command files (end_of clash (unless_unknown_operand place (selected_from_pool_by_choice command inputs pool chosen)))
   by_place inputs pool None chosen clash are is at choice is_clash = by_choice inputs pool chosen clash are is at choice is_clash
@@ -141,7 +141,7 @@ module _ (known : IsMadeKnown) (command : CommandLine) (files : Files) where
       })
 
   by_pool : (inputs : Inputs) (pool : Result SelectionProblem Refusal) (chosen : Option (List ℕ)) (clash : Option NamePair)
-      → inputs_of command (reads_in files) ≡ Ok inputs → pool_of_inputs command inputs ≡ pool
+      → inputs_of command (reads_in files) ≡ Ok inputs → pool_of_inputs_unless_too_many_candidates command inputs ≡ pool
       → IsPreferredChoiceUnlessRefused pool chosen → IsFirstClashOfCommand command (reads_in files) files chosen clash
       → IsChangeEnd command files (end_of clash (and_then pool (λ pool. unless_unknown_operand (unknown_operand_place command.applet inputs command.operands) (selected_from_pool_by_choice command inputs pool chosen))))
   by_pool inputs (Ok pool) chosen clash are is choice is_clash = by_place inputs pool (unknown_operand_place command.applet inputs command.operands) chosen clash are is refl choice is_clash
@@ -156,9 +156,9 @@ module _ (known : IsMadeKnown) (command : CommandLine) (files : Files) where
       })
 
   by_inputs : (inputs : Result Inputs Refusal) (chosen : Option (List ℕ)) (clash : Option NamePair) → inputs_of command (reads_in files) ≡ inputs
-      → IsPreferredChoiceUnlessRefused (and_then inputs (pool_of_inputs command)) chosen → IsFirstClashOfCommand command (reads_in files) files chosen clash
+      → IsPreferredChoiceUnlessRefused (and_then inputs (pool_of_inputs_unless_too_many_candidates command)) chosen → IsFirstClashOfCommand command (reads_in files) files chosen clash
       → IsChangeEnd command files (end_of clash (and_then inputs (selected_from_inputs_by_choice command chosen)))
-  by_inputs (Ok inputs) chosen clash are choice is_clash = by_pool inputs (pool_of_inputs command inputs) chosen clash are refl choice is_clash
+  by_inputs (Ok inputs) chosen clash are choice is_clash = by_pool inputs (pool_of_inputs_unless_too_many_candidates command inputs) chosen clash are refl choice is_clash
   by_inputs (Err refusal) chosen clash are choice is_clash =
       inl (record { refusal = refusal; stated = subst (HasKnownRefusal is_input_refusal) are (inputs_stated command (reads_in files)); outcome = refl; unchosen = λ other. ap (λ (r : Result Inputs Refusal). and_then r (selected_from_inputs_by_choice command other)) are })
 

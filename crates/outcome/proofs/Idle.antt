@@ -15,7 +15,7 @@ use Rattle.command_core.specs.declared.command.Applet.TheVariants.{Adbdump, Adbg
 use Rattle.command_core.specs.declared.command.Flags.{Flags}
 use Rattle.command_core.specs.declared.operands.Operand.{Operand}
 use Rattle.engine_core.specs.Changed.{InputsAndReplacement, change_of_selected, change_of_command, selected_from_pool_by_choice, selected_from_reads_by_choice, selected_from_inputs_by_choice, simulated_change}
-use Rattle.engine_core.specs.Selecting.{pool_of_inputs}
+use Rattle.engine_core.specs.Selecting.{pool_of_inputs_unless_too_many_candidates}
 use Rattle.engine_core.specs.Wishes.{unknown_operand_place, unless_unknown_operand, wishes_of}
 use Rattle.gen_core.specs.Generated.{generated_file}
 use Rattle.gen_core.specs.declared.generate.GenFault.{GenFault}
@@ -152,7 +152,7 @@ chosen_inputs command inputs pool (Some trace) s e = ap (λ (r : Result InputsAn
 pub selected_inputs : (command : CommandLine) (read : Reads) (chosen : Option (List ℕ)) (s : InputsAndReplacement) → selected_from_reads_by_choice command read chosen ≡ Ok s → inputs_of command read ≡ Ok s.inputs
 selected_inputs command read chosen s e =
     let (inputs, are, rest) = chain_ok (inputs_of command read) (selected_from_inputs_by_choice command chosen) s e in
-    let (pool, is, left) = chain_ok (pool_of_inputs command inputs) (λ pool. unless_unknown_operand (unknown_operand_place command.applet inputs command.operands) (selected_from_pool_by_choice command inputs pool chosen)) s rest in
+    let (pool, is, left) = chain_ok (pool_of_inputs_unless_too_many_candidates command inputs) (λ pool. unless_unknown_operand (unknown_operand_place command.applet inputs command.operands) (selected_from_pool_by_choice command inputs pool chosen)) s rest in
     are ∙ ap (λ (x : Inputs). Ok x) (sym (chosen_inputs command inputs pool chosen s (place_ok (unknown_operand_place command.applet inputs command.operands) (selected_from_pool_by_choice command inputs pool chosen) s left)))
 
 selected_idle : HaveIdle → (command : CommandLine) (read : Reads) (files : Files) (clash : Option NamePair) (s : InputsAndReplacement) (done : ChangeDone) → AreDatabaseAndWorldReadFromFiles files s.inputs.root

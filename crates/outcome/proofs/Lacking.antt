@@ -12,7 +12,7 @@ use Rattle.command_core.specs.Command.{CommandLine}
 use Rattle.report_core.specs.declared.refusal.Refusal.TheVariants.{DatabaseBad, NoDatabase}
 use Rattle.root_names.specs.RootNames.{database_name, text_database_name}
 use Rattle.tell_core.specs.v2_core.Database.{database_value_of_records}
-use Rattle.tell_core.specs.v2_core.Payload.{payload_unless_too_large, payload_of_text, payload_if_sound, payload_unless_fault, payload_of_records}
+use Rattle.tell_core.specs.v2_core.Payload.{payload_unless_too_large, payload_of_text, payload_if_sound, payload_unless_fault, untested_payload_of_records}
 use Rattle.tell_core.specs.v2_core.Reading.{records_of}
 use Rattle.tell_core.specs.v2_core.Records.{Record}
 use Rattle.tell_core.specs.v2_core.declared.read.V2Fault.{V2Fault}
@@ -29,7 +29,7 @@ pub large_remembers : (r : Result (List ℕ) ByteAndValueCounts) → payload_unl
 large_remembers (Ok payload) e = cc (e)
 large_remembers (Err counts) e = cc (e)
 
-pub written_remembers : (r : Result (List Record) ℕ) → payload_of_records r ≡ Err Memory → ⊥
+pub written_remembers : (r : Result (List Record) ℕ) → untested_payload_of_records r ≡ Err Memory → ⊥
 written_remembers (Ok records) e = large_remembers (payload_or_counts_at_overflow (database_value_of_records records)) e
 written_remembers (Err line) e = cc (e)
 
@@ -39,7 +39,7 @@ tested_remembers (Err fault) h e = h e
 
 pub text_remembers : (text : List ℕ) → payload_of_text text ≡ Err Memory → ⊥
 unfolding payload_of_text
-text_remembers text e = tested_remembers (payload_of_records (records_of text)) (written_remembers (records_of text)) e
+text_remembers text e = tested_remembers (untested_payload_of_records (records_of text)) (written_remembers (records_of text)) e
 
 -- ---- so none is missing where there is a file
 

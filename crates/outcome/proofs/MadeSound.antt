@@ -8,7 +8,7 @@ use Rattle.gen_core.specs.adb_schema.Reserved.{is_reserved}
 use Rattle.adb_view.specs.Plain.{Plain}
 use Rattle.gen_core.specs.adb_write.Canonical.{ByteAndValueCounts, counts_at_first_overflow, payload_or_counts_at_overflow}
 use Rattle.base_core.specs.Files.{HaveValidNamesAndBytes, Files, drop_name}
-use Rattle.base_core.specs.Listed.{AreSortedNamesBelowFolder, IsValidNameBelowFolder, IsSortedListOfAllNamesInMap}
+use Rattle.base_core.specs.Listed.{AreSortedAndEachBelowFolder, IsValidNameBelowFolder, IsSortedListOfAllNamesInMap}
 use Rattle.base_core.specs.Tree.{IsWellFormed, TreeState, files_of}
 use Rattle.base_core.specs.declared.cause.Cause.{Cause}
 use Rattle.command_core.specs.declared.values.TheConstants.{FILES, SCRIPT, TRIGGER}
@@ -21,9 +21,9 @@ use Rattle.base_core.specs.Sorted.{sorted_by}
 use Rattle.make_core.specs.make_info.Information.{FieldWithValue, information_value_with_installed_size, information, replaces_priority}
 use Rattle.make_core.specs.make_package.Making.{container_unless_too_large, made_package, or_info_bad, package_container, package_of_parts}
 use Rattle.make_core.specs.make_info.Output.{output_name}
-use Rattle.make_core.specs.package_files.Package.{Script, SourceFile, SourceFolder, contents_of_folders, installed_size, value_of_package}
+use Rattle.make_core.specs.package_files.Package.{Script, SourceFileNameAndBytes, SourceFolder, contents_of_folders, installed_size, value_of_package}
 use Rattle.make_core.specs.make_index.Files.{EachOperandReadFindsNoFileOrFileBytes}
-use Rattle.make_core.specs.package_files.Sources.{AreSortedNamesBelowFirstFolder, and_then, results_from_read, source_file_at_place_by_read, source_files_at_place_from_read, source_folder_at_place_by_read, source_folders_of_first_option_only, found_bytes_or_missing, values_of_letter, script_at, scripts_from_read, texts_of}
+use Rattle.make_core.specs.package_files.Sources.{AreSortedAndEachBelowFirstFolder, and_then, results_from_read, source_file_at_place_by_read, source_files_at_place_from_read, source_folder_at_place_by_read, source_folders_of_first_option_only, found_bytes_or_missing, values_of_letter, script_at, scripts_from_read, texts_of}
 use Rattle.make_core.specs.make_info.Reads.{Reads}
 use Rattle.make_core.specs.make_info.declared.fault.MakeFault.{MakeFault}
 use Rattle.make_core.specs.make_info.declared.fault.MakeFault.TheVariants.{FileMissing, FileBad, InfoBad, TooLarge, Disk, Memory}
@@ -51,7 +51,7 @@ use Rattle.outcome.specs.Work.{recovery_fault, files_recovered_if_needed}
 
 -- a package that is made of names below its folder is sound, and so is an index of files
 abbrev pub SoundPackage : Type 0
-SoundPackage = (command : CommandLine) (names : List (List ℕ)) (read : Reads) (bytes : List ℕ) → AreSortedNamesBelowFirstFolder (values_of_letter FILES command.values) names → made_package command names read ≡ Ok bytes → length bytes < 2 ^ 64 → container_fault bytes ≡ None
+SoundPackage = (command : CommandLine) (names : List (List ℕ)) (read : Reads) (bytes : List ℕ) → AreSortedAndEachBelowFirstFolder (values_of_letter FILES command.values) names → made_package command names read ≡ Ok bytes → length bytes < 2 ^ 64 → container_fault bytes ≡ None
 
 abbrev pub SoundIndex : Type 0
 SoundIndex = (command : CommandLine) (read : Reads) (bytes : List ℕ) → EachOperandReadFindsNoFileOrFileBytes read 0 command.operands → made_index command read ≡ Ok bytes → container_fault bytes ≡ None
@@ -63,13 +63,13 @@ name_below folder files good q some =
     let found = if_some (starts_with nat_eq q (folder ++ codes "/")) (files q) some in
     record { named = good.named q found.1; below = is_below folder q found.0 }
 
-names_below : (folder : List ℕ) (files : Files) (names : List (List ℕ)) → HaveValidNamesAndBytes files → IsSortedListOfAllNamesInMap (files_below folder files) names → AreSortedNamesBelowFolder folder names
+names_below : (folder : List ℕ) (files : Files) (names : List (List ℕ)) → HaveValidNamesAndBytes files → IsSortedListOfAllNamesInMap (files_below folder files) names → AreSortedAndEachBelowFolder folder names
 names_below folder files names good are = record {
   rising = are.rising;
   each = All-weaker (Contains names) (IsValidNameBelowFolder folder) (λ q here. name_below folder files good q ((are.each q).0 here)) names (All-contains_itself names);
 }
 
-names_for : (values : List OptionValue) (files : Files) (names : List (List ℕ)) → HaveValidNamesAndBytes files → AreNamesBelowOptionFolder values files names → AreSortedNamesBelowFirstFolder values names
+names_for : (values : List OptionValue) (files : Files) (names : List (List ℕ)) → HaveValidNamesAndBytes files → AreNamesBelowOptionFolder values files names → AreSortedAndEachBelowFirstFolder values names
 names_for [] files names good are = tt
 names_for (folder ∷ values) files names good are = names_below (without_one_leading_dot_slash folder.text) files names good are
 
@@ -123,14 +123,14 @@ script_fine : (read : Reads) (n : ℕ) (v : OptionValue) → IsRefusalOrMade (sc
 unfolding script_of
 script_fine read n v = after_fine (found_bytes_or_missing v.place (read n (without_one_leading_dot_slash (script_file v.text)))) (script_of v) (found_fine v.place (read n (without_one_leading_dot_slash (script_file v.text)))) (λ bytes. tt)
 
-source_of : List ℕ → List ℕ → Result SourceFile MakeFault
+source_of : List ℕ → List ℕ → Result SourceFileNameAndBytes MakeFault
 source_of name bytes = Ok (record { name = last_part_of name; bytes = bytes })
 
 file_fine : (place : ℕ) (read : Reads) (n : ℕ) (name : List ℕ) → IsRefusalOrMade (source_file_at_place_by_read place read n name)
 unfolding source_of
 file_fine place read n name = after_fine (found_bytes_or_missing place (read n name)) (source_of name) (found_fine place (read n name)) (λ bytes. tt)
 
-folder_of : FolderListing → List SourceFile → Result SourceFolder MakeFault
+folder_of : FolderListing → List SourceFileNameAndBytes → Result SourceFolder MakeFault
 folder_of folder files = Ok (record { name = folder.name; files = files })
 
 folder_fine : (place : ℕ) (read : Reads) (n : ℕ) (folder : FolderListing) → IsRefusalOrMade (source_folder_at_place_by_read place read n folder)

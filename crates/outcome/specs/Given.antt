@@ -12,7 +12,7 @@ use Rattle.engine_core.specs.Changed.{IsFirstClashOfCommand, IsFirstClashOfComma
 use Rattle.engine_core.specs.Choice.{IsPreferredChoiceUnlessRefused}
 use Rattle.engine_core.specs.Selecting.{pool_of_command}
 use Rattle.make_core.specs.make_info.Reads.{Reads}
-use Rattle.make_core.specs.package_files.Sources.{AreSortedNamesBelowFirstFolder, values_of_letter}
+use Rattle.make_core.specs.package_files.Sources.{AreSortedAndEachBelowFirstFolder, values_of_letter}
 use Rattle.tell_core.specs.path_clashes.Clash.{NamePair}
 use Rattle.outcome.specs.Effect.{Effect, Changes, effect_of}
 use Rattle.outcome.specs.Make.{AreNamesBelowOptionFolder}
@@ -73,7 +73,7 @@ pub record IsListingChoiceAndClashFor (command : CommandLine) (read : Reads) (fi
 -- others none
 abbrev pub ArePossibleNamesListedForApplet : Applet → CommandLine → List (List ℕ) → Type 0
 ArePossibleNamesListedForApplet Mkpkg command names =
-    AreSortedNamesBelowFirstFolder (values_of_letter FILES command.values) names
+    AreSortedAndEachBelowFirstFolder (values_of_letter FILES command.values) names
 ArePossibleNamesListedForApplet other command names = names ≡ []
 
 -- `clash` is the first clash of names that a command makes among some present files, or None; only a change has one.

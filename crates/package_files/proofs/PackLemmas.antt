@@ -8,7 +8,7 @@ use Rattle.adb_sound.specs.pkg_core.Contents.{Contents}
 use Rattle.package_files.specs.declared.file.File.{File}
 use Rattle.package_files.specs.declared.file.Folder.{Folder}
 use Rattle.package_files.specs.Blocks.{contents_block, contents_blocks}
-use Rattle.package_files.specs.Package.{SourceFile, SourceFolder, contents_of_file, contents_of_files, contents_of_folders, kind_of_file}
+use Rattle.package_files.specs.Package.{SourceFileNameAndBytes, SourceFolder, contents_of_file, contents_of_files, contents_of_folders, kind_of_file}
 use Rattle.package_files.specs.Folders.{last_part_of, folder_listing_by_tree_names, all_folders_above, tree_names_in_package_folder, path_relative_to, folder_listings_by_tree_names, FolderListing}
 use Rattle.package_files.specs.Packed.{IsFileFrom, AreFilesFrom, IsPackedFile, ArePackedFiles, IsFolderFrom, AreFoldersFrom, IsPackedFolder, ArePackedFolders}
 use Rattle.package_files.specs.BorrowedNames.{listings_of, names_borrowed}
@@ -20,19 +20,19 @@ use Rattle.make_info.specs.declared.fault.MakeFault.{MakeFault}
 use Rattle.package_files.specs.declared.file.FileKind.{FileKind}
 use Rattle.package_files.proofs.ReadLemmas.{RestsOnOwn, fault_of_part, IsSoFar, IsNext, so_far_more, so_far_stops, total, each_rests}
 
-files_more : (files : List File) (sources : List SourceFile) (file : File) (source : SourceFile) → AreFilesFrom files sources → IsFileFrom file source → AreFilesFrom (files ++ file ∷ []) (sources ++ source ∷ [])
+files_more : (files : List File) (sources : List SourceFileNameAndBytes) (file : File) (source : SourceFileNameAndBytes) → AreFilesFrom files sources → IsFileFrom file source → AreFilesFrom (files ++ file ∷ []) (sources ++ source ∷ [])
 files_more [] [] file source h i = (i, tt)
 files_more [] (s ∷ ss) file source h i = absurd h
 files_more (f ∷ fs) [] file source h i = absurd h
 files_more (f ∷ fs) (s ∷ ss) file source h i = (h.0, files_more fs ss file source h.1 i)
 
-as_many : (files : List File) (sources : List SourceFile) → AreFilesFrom files sources → length files ≡ length sources
+as_many : (files : List File) (sources : List SourceFileNameAndBytes) → AreFilesFrom files sources → length files ≡ length sources
 as_many [] [] h = refl
 as_many [] (s ∷ ss) h = absurd h
 as_many (f ∷ fs) [] h = absurd h
 as_many (f ∷ fs) (s ∷ ss) h = ap suc (as_many fs ss h.1)
 
-contents_more : (folder k m : ℕ) (sources : List SourceFile) (source : SourceFile) → m ≡ k + length sources
+contents_more : (folder k m : ℕ) (sources : List SourceFileNameAndBytes) (source : SourceFileNameAndBytes) → m ≡ k + length sources
     → contents_of_files folder k (sources ++ source ∷ []) ≡ contents_of_files folder k sources ++ contents_of_file folder m source.bytes
 contents_more folder k m [] source e =
     let same : m ≡ k = omega arith in
@@ -53,7 +53,7 @@ packed_none folder blocks files e = record {
   blocks = sym (append-nil blocks);
 }
 
-pub packed_more : (folder i : ℕ) (before mid later : List ℕ) (files more_files : Vec File Global) (file : File) (sources : List SourceFile) (source : SourceFile)
+pub packed_more : (folder i : ℕ) (before mid later : List ℕ) (files more_files : Vec File Global) (file : File) (sources : List SourceFileNameAndBytes) (source : SourceFileNameAndBytes)
     → length files.items ≡ i → more_files.items ≡ files.items ++ file ∷ [] → ArePackedFiles folder before mid files sources → IsPackedFile folder (i + 1) mid later file source
     → ArePackedFiles folder before later more_files (sources ++ source ∷ [])
 packed_more folder i before mid later files more_files file sources source long e h p = record {
@@ -91,7 +91,7 @@ IsFound bytes found = found ≡ bytes.items
 
 pub file_own : (place : ℕ) → RestsOnOwn (λ (name : List ℕ). 1) (source_file_at_place_by_read place)
 file_own place f g n name h =
-    ap (λ (o : Option (List ℕ)). and_then (found_bytes_or_missing place o) (λ bytes. let file : SourceFile = record { name = last_part_of name; bytes = bytes } in Ok file)) (h n name (omega arith) (omega arith))
+    ap (λ (o : Option (List ℕ)). and_then (found_bytes_or_missing place o) (λ bytes. let file : SourceFileNameAndBytes = record { name = last_part_of name; bytes = bytes } in Ok file)) (h n name (omega arith) (omega arith))
 
 -- what was found stands in the blocks from a place on
 abbrev pub IsFoundAt : List ℕ → ℕ → List ℕ → Type 0
@@ -107,7 +107,7 @@ pub packed_file_is : (folder file : ℕ) (before mid later : List ℕ) (place : 
     → AgreesOrIsFault (IsFoundAt mid) (Ok at) (found_bytes_or_missing place (read n name)) → AgreesOrIsFault (IsPackedFile folder file before later) (Ok (record { name = part; kind = kind })) (source_file_at_place_by_read place read n name)
 packed_file_is folder file before mid later place read n name at part kind p k b h = (
   record { name = last_part_of name; bytes = h.0 },
-  ap (λ (r : Result (List ℕ) MakeFault). and_then r (λ bytes. let file : SourceFile = record { name = last_part_of name; bytes = bytes } in Ok file)) h.1,
+  ap (λ (r : Result (List ℕ) MakeFault). and_then r (λ bytes. let file : SourceFileNameAndBytes = record { name = last_part_of name; bytes = bytes } in Ok file)) h.1,
   record {
     is = record { name = p; kind = k ∙ ap kind_of_file (sym h.2) };
     blocks = b ∙ ap (λ (l : List ℕ). before ++ contents_blocks (contents_of_file folder file l)) (sym h.2);
@@ -119,14 +119,14 @@ count_more xs ys x i e h = ap length e ∙ length-append xs (x ∷ []) ∙ ap (�
 
 -- ---- a loop over files
 
-pub files_go_on : (told : List TreeState) (place : ℕ) (names : List (Bor (List ℕ))) (i : ℕ) (name : Bor (List ℕ)) (R R' : List SourceFile → Type 0) (S : File → SourceFile → Type 0) (file : File)
+pub files_go_on : (told : List TreeState) (place : ℕ) (names : List (Bor (List ℕ))) (i : ℕ) (name : Bor (List ℕ)) (R R' : List SourceFileNameAndBytes → Type 0) (S : File → SourceFileNameAndBytes → Type 0) (file : File)
     → i < length names → name ≡ get_or names i name → IsSoFar told (λ (name : List ℕ). 1) (source_file_at_place_by_read place) (take i (now_of names)) R → IsNext told (source_file_at_place_by_read place) name.now S (Ok file)
-    → ((ys : List SourceFile) (y : SourceFile) → R ys → S file y → R' (ys ++ y ∷ [])) → IsSoFar told (λ (name : List ℕ). 1) (source_file_at_place_by_read place) (take (i + 1) (now_of names)) R'
+    → ((ys : List SourceFileNameAndBytes) (y : SourceFileNameAndBytes) → R ys → S file y → R' (ys ++ y ∷ [])) → IsSoFar told (λ (name : List ℕ). 1) (source_file_at_place_by_read place) (take (i + 1) (now_of names)) R'
 files_go_on told place names i name R R' S file lt e so_far next grows =
     let P : List (List ℕ) → Type 0 = λ xs. IsSoFar told (λ (name : List ℕ). 1) (source_file_at_place_by_read place) xs R' in
     subst P (sym (names_more names i name lt e)) (so_far_more told (λ (name : List ℕ). 1) (source_file_at_place_by_read place) (file_own place) (take i (now_of names)) name.now R R' S file so_far next grows)
 
-pub files_stop : {A : Type 0} (told : List TreeState) (place : ℕ) (names : List (Bor (List ℕ))) (i : ℕ) (name : Bor (List ℕ)) (R : List SourceFile → Type 0) (S : File → SourceFile → Type 0) (T : A → List SourceFile → Type 0) (fault : MakeFault)
+pub files_stop : {A : Type 0} (told : List TreeState) (place : ℕ) (names : List (Bor (List ℕ))) (i : ℕ) (name : Bor (List ℕ)) (R : List SourceFileNameAndBytes → Type 0) (S : File → SourceFileNameAndBytes → Type 0) (T : A → List SourceFileNameAndBytes → Type 0) (fault : MakeFault)
     → i < length names → name ≡ get_or names i name → IsSoFar told (λ (name : List ℕ). 1) (source_file_at_place_by_read place) (take i (now_of names)) R → IsNext told (source_file_at_place_by_read place) name.now S (Err fault)
     → (n : ℕ) → HoldsOfSomeReadsOfTree told (λ read. AgreesOrIsFault T (Err fault) (source_files_at_place_from_read place read n (now_of names)))
 files_stop {A} told place names i name R S T fault lt e so_far next n =
@@ -142,7 +142,7 @@ total_ones : {X : Type 0} (xs : List X) → total (λ (x : X). 1) xs ≡ length 
 total_ones [] = refl
 total_ones (x ∷ xs) = let further = total_ones xs in omega arith
 
-abbrev with_name : List ℕ → List SourceFile → Result SourceFolder MakeFault
+abbrev with_name : List ℕ → List SourceFileNameAndBytes → Result SourceFolder MakeFault
 with_name name files = Ok (record { name = name; files = files })
 
 abbrev pub reads_in : FolderListing → ℕ
@@ -151,7 +151,7 @@ reads_in folder = length folder.files
 pub folder_own : (place : ℕ) → RestsOnOwn reads_in (source_folder_at_place_by_read place)
 folder_own place f g n folder h =
     let ones = total_ones folder.files in
-    ap (λ (r : Result (List SourceFile) MakeFault). and_then r (with_name folder.name))
+    ap (λ (r : Result (List SourceFileNameAndBytes) MakeFault). and_then r (with_name folder.name))
     (each_rests (λ (name : List ℕ). 1) (source_file_at_place_by_read place) (file_own place) f g n folder.files (λ m name lo hi. h m name lo (omega arith)))
 
 pub folder_fault : (position : ℕ) (before later : List ℕ) (place : ℕ) (read : Reads) (n : ℕ) (folder : FolderListing) (fault : MakeFault)
@@ -164,7 +164,7 @@ pub packed_folder_is : (position : ℕ) (before later : List ℕ) (place : ℕ) 
     → AgreesOrIsFault (IsPackedFolder position before later) (Ok (record { name = name; files = files })) (source_folder_at_place_by_read place read n (record { name = name.now; files = names }))
 packed_folder_is position before later place read n name names files h = (
   record { name = name.now; files = h.0 },
-  ap (λ (r : Result (List SourceFile) MakeFault). and_then r (with_name name.now)) h.1,
+  ap (λ (r : Result (List SourceFileNameAndBytes) MakeFault). and_then r (with_name name.now)) h.1,
   record { is = record { name = refl; files = h.2.are }; blocks = h.2.blocks },
 )
 

@@ -13,7 +13,7 @@ use Rattle.package_files.specs.declared.file.FileKind.{FileKind}
 use Rattle.package_files.specs.declared.file.FileKind.TheVariants.{Link, Regular}
 
 -- a file that was read: the last part of its path, and its bytes
-pub record SourceFile : Type 0 where
+pub record SourceFileNameAndBytes : Type 0 where
   -- the last part of the file's path
   pub name : List ℕ
   -- the bytes that were read of the file
@@ -24,7 +24,7 @@ pub record SourceFolder : Type 0 where
   -- the folder's name in the package
   pub name : List ℕ
   -- the files directly in this folder
-  pub files : List SourceFile
+  pub files : List SourceFileNameAndBytes
 
 -- a script that was read: its type, which is its field's name, and its bytes
 pub record Script : Type 0 where
@@ -101,7 +101,7 @@ abbrev pub value_of_kind : List ℕ → FileKind → Plain
 value_of_kind name kind = trimmed_object_or_null (file_fields name kind)
 
 -- the entry of a file that was read, made of its bytes
-abbrev pub value_of_file : SourceFile → Plain
+abbrev pub value_of_file : SourceFileNameAndBytes → Plain
 value_of_file file = value_of_kind file.name (kind_of_file file.bytes)
 
 -- the fields of the entry of a folder with this name: name, access list, and the entries of its files
@@ -121,7 +121,7 @@ value_of_folder folder = folder_with folder.name (map value_of_file folder.files
 -- the sum of the sizes of a folder's files
 abbrev pub size_of_folder : SourceFolder → ℕ
 size_of_folder folder =
-    sum_by (λ (file : SourceFile). size_of_kind (kind_of_file file.bytes)) folder.files
+    sum_by (λ (file : SourceFileNameAndBytes). size_of_kind (kind_of_file file.bytes)) folder.files
 
 -- the installed size of a package: the sum of the sizes of all files, links as 0
 abbrev pub installed_size : List SourceFolder → ℕ
@@ -183,7 +183,7 @@ contents_of_file folder i bytes =
 
 -- the contents of these files of the folder with the position `folder`; the first of the files has the
 -- position `i` in it
-abbrev pub contents_of_files : ℕ → ℕ → List SourceFile → List Contents
+abbrev pub contents_of_files : ℕ → ℕ → List SourceFileNameAndBytes → List Contents
 contents_of_files folder i [] = []
 contents_of_files folder i (file ∷ files) =
     contents_of_file folder i file.bytes ++ contents_of_files folder (i + 1) files

@@ -7,7 +7,7 @@ use Rattle.adb_view.specs.Plain.{Plain}
 use Rattle.package_files.specs.declared.file.File.{File}
 use Rattle.package_files.specs.declared.file.Folder.{Folder}
 use Rattle.package_files.specs.declared.file.Packing.{Packing}
-use Rattle.package_files.specs.Package.{SourceFile, SourceFolder, kind_of_file, value_of_kind, size_of_kind, folder_with, contents_of_file, contents_of_files, contents_of_folders}
+use Rattle.package_files.specs.Package.{SourceFileNameAndBytes, SourceFolder, kind_of_file, value_of_kind, size_of_kind, folder_with, contents_of_file, contents_of_files, contents_of_folders}
 use Rattle.package_files.specs.Blocks.{contents_blocks}
 
 -- the entry of a file that was packed
@@ -28,7 +28,7 @@ installed_size_of_folders folders = sum_by (λ (folder : Folder). files_size fol
 
 -- the packed file `file` is made of the source file: it has the same name, and the kind that follows from
 -- the source's bytes
-pub record IsFileFrom (file : File) (source : SourceFile) : Type 0 where
+pub record IsFileFrom (file : File) (source : SourceFileNameAndBytes) : Type 0 where
   -- both have the same name
   pub name : file.name.now ≡ source.name
   -- the kind follows from the bytes of the source
@@ -36,7 +36,7 @@ pub record IsFileFrom (file : File) (source : SourceFile) : Type 0 where
 
 -- each packed file is made of the source file at the same place of the other list; both lists have the
 -- same length
-abbrev pub AreFilesFrom : List File → List SourceFile → Type 0
+abbrev pub AreFilesFrom : List File → List SourceFileNameAndBytes → Type 0
 AreFilesFrom [] [] = Unit {0}
 AreFilesFrom [] (source ∷ sources) = ⊥
 AreFilesFrom (file ∷ files) [] = ⊥
@@ -64,7 +64,8 @@ AreFoldersFrom (folder ∷ folders) (source ∷ sources) =
 
 -- the source file was packed as `file`, at the position `at` of the folder with the position `folder`.
 -- Its block of contents was appended to the blocks `before`, which gave the blocks `later`
-pub record IsPackedFile (folder at : ℕ) (before later : List ℕ) (file : File) (source : SourceFile) :
+pub record IsPackedFile (folder at : ℕ) (before later : List ℕ) (file : File)
+    (source : SourceFileNameAndBytes) :
     Type 0 where
   -- the packed file is that of the source file
   pub is : IsFileFrom file source
@@ -74,7 +75,7 @@ pub record IsPackedFile (folder at : ℕ) (before later : List ℕ) (file : File
 -- the source files were packed as `files`, all files of the folder with the position `folder`. Their
 -- blocks of contents were appended to the blocks `before`, which gave the blocks `later`
 pub record ArePackedFiles (folder : ℕ) (before later : List ℕ) (files : Vec File Global)
-    (sources : List SourceFile) : Type 0 where
+    (sources : List SourceFileNameAndBytes) : Type 0 where
   -- the packed files are those of the source files
   pub are : AreFilesFrom files.items sources
   -- their blocks of contents were appended to the blocks

@@ -3,7 +3,7 @@
 -- `-F`, and the place at which an absent file is reported.
 use Rattle.std.specs.Prelude.{ℕ, ◌+◌, ◌==◌, List, [], ◌∷◌, length, map, filter, Option, Some, None, Result, Ok, Err}
 pub use Rattle.base_core.specs.Lists.{and_then}
-use Rattle.base_core.specs.Listed.{AreSortedNamesBelowFolder}
+use Rattle.base_core.specs.Listed.{AreSortedAndEachBelowFolder}
 use Rattle.command_core.specs.Values.{script_type, script_file}
 use Rattle.command_core.specs.Files.{without_one_leading_dot_slash}
 use Rattle.command_core.specs.declared.values.OptionValue.{OptionValue}
@@ -11,7 +11,7 @@ use Rattle.make_info.specs.Reads.{Reads}
 use Rattle.make_info.specs.declared.fault.MakeFault.{MakeFault}
 use Rattle.make_info.specs.declared.fault.MakeFault.TheVariants.{FileMissing}
 use Rattle.package_files.specs.Folders.{last_part_of, FolderListing, folder_listings_by_tree_names}
-use Rattle.package_files.specs.Package.{SourceFile, SourceFolder, Script}
+use Rattle.package_files.specs.Package.{SourceFileNameAndBytes, SourceFolder, Script}
 
 -- the bytes that a read found, or, if it found no file, the error that names the argument at this place
 -- of the command line
@@ -40,10 +40,10 @@ texts_of values = map (λ (v : OptionValue). v.text) values
 
 -- the names are names below the folder that the first of these values of `-F` gives, in byte order and
 -- each once. Without a value nothing is stated
-abbrev pub AreSortedNamesBelowFirstFolder : List OptionValue → List (List ℕ) → Type 0
-AreSortedNamesBelowFirstFolder [] names = Unit {0}
-AreSortedNamesBelowFirstFolder (folder ∷ others) names =
-    AreSortedNamesBelowFolder (without_one_leading_dot_slash folder.text) names
+abbrev pub AreSortedAndEachBelowFirstFolder : List OptionValue → List (List ℕ) → Type 0
+AreSortedAndEachBelowFirstFolder [] names = Unit {0}
+AreSortedAndEachBelowFirstFolder (folder ∷ others) names =
+    AreSortedAndEachBelowFolder (without_one_leading_dot_slash folder.text) names
 
 -- ---- scripts
 
@@ -66,12 +66,12 @@ scripts_from_read read n values = results_from_read (λ v. 1) (script_at read) n
 -- ---- files
 
 -- the source file with these bytes; its name is the last part of `name`, its name in the tree
-abbrev pub source_file_named_by_last_part : List ℕ → List ℕ → SourceFile
+abbrev pub source_file_named_by_last_part : List ℕ → List ℕ → SourceFileNameAndBytes
 source_file_named_by_last_part name bytes = record { name = last_part_of name; bytes = bytes }
 
 -- the source file under this name in the tree, by the read with the number `n`; if it is absent,
 -- the argument at `place` is reported
-abbrev pub source_file_at_place_by_read : ℕ → Reads → ℕ → List ℕ → Result SourceFile MakeFault
+abbrev pub source_file_at_place_by_read : ℕ → Reads → ℕ → List ℕ → Result SourceFileNameAndBytes MakeFault
 source_file_at_place_by_read place read n name =
     and_then (found_bytes_or_missing place (read n name))
     (λ bytes. Ok (source_file_named_by_last_part name bytes))
@@ -79,7 +79,7 @@ source_file_at_place_by_read place read n name =
 -- the source files under these names in the tree, which are read one after the other; the first read has
 -- the number `n`. If a file is absent, the argument `-F` at `place` is reported
 abbrev pub source_files_at_place_from_read : ℕ → Reads → ℕ → List (List ℕ)
-    → Result (List SourceFile) MakeFault
+    → Result (List SourceFileNameAndBytes) MakeFault
 source_files_at_place_from_read place read n names =
     results_from_read (λ name. 1) (source_file_at_place_by_read place read) n names
 

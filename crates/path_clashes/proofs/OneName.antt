@@ -8,7 +8,7 @@ use Rattle.std.proofs.lemmas.List.{length-take-le}
 use Rattle.adb_fields.specs.JoinedPath.{joined_path}
 use Rattle.adb_fields.specs.declared.file_path.FilePath.{FilePath}
 use Rattle.base_core.specs.Files.{IsFolderOf}
-use Rattle.base_core.specs.Listed.{AreSortedNamesBelowFolder}
+use Rattle.base_core.specs.Listed.{AreSortedAndEachBelowFolder}
 use Rattle.base_core.specs.Name.{IsName, is_name}
 use Rattle.base_core.specs.ByteOrder.{precedes}
 use Rattle.path_clashes.specs.Clash.{NameChange, is_present_after_change}
@@ -85,7 +85,7 @@ no_name_alone paths does_release name names off = none_after (name_change_of_pat
 
 -- ---- a name below
 
-pub listed_alone : (does_release : List ℕ → Bool) (folder : List ℕ) (names : List (List ℕ)) → AreSortedNamesBelowFolder folder names → (found : Option (List ℕ)) → found ≡ find (λ name. not (does_release name)) names
+pub listed_alone : (does_release : List ℕ → Bool) (folder : List ℕ) (names : List (List ℕ)) → AreSortedAndEachBelowFolder folder names → (found : Option (List ℕ)) → found ≡ find (λ name. not (does_release name)) names
     → IsFirstNameBelowOrNone does_release (files_with_only_name found) folder found
 listed_alone does_release folder names below None is = λ other over present_files. absurd (cc)
 listed_alone does_release folder names below (Some name) is = record {

@@ -25,8 +25,8 @@ table_of_schema schema =
     else if schema == INTENT_WORD then Some Intent
     else None
 
--- the first failed test of the blocks after the first: for a package the contents of its files, for
--- another container that no block has contents
+-- the first failed test of the blocks after the first. In a package, they must be the contents of its files; in
+-- another container, no block may have contents
 abbrev pub fault_of_contents_blocks_by_root_table : Which → Plain → Reading → Option Cause
 fault_of_contents_blocks_by_root_table Package value r = contents_fault (expected_files_of_package value) r
 fault_of_contents_blocks_by_root_table which value r = remaining_blocks_fault_unless_package which r

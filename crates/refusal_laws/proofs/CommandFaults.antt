@@ -15,7 +15,7 @@ use Rattle.command_core.specs.declared.operands.Operand.{Operand}
 use Rattle.dep_core.specs.World.{has_dependency_named}
 use Rattle.outcome.specs.engine_core.Changed.{IsFirstClashOfCommand, IsFirstClashUnlessRefused, IsFirstClashUnlessSimulated, InputsAndReplacement, change_of_selected, change_of_command, selected_from_pool_by_choice, selected_from_reads_by_choice, selected_from_inputs_by_choice, simulated_change}
 use Rattle.outcome.specs.engine_core.Choice.{IsPreferredChoiceUnlessRefused}
-use Rattle.outcome.specs.engine_core.Selecting.{pool_of_inputs, pool_of_command}
+use Rattle.outcome.specs.engine_core.Selecting.{pool_of_inputs_unless_too_many_candidates, pool_of_command}
 use Rattle.outcome.specs.engine_core.Wishes.{place_of_first_unknown_operand, is_installed_name, is_name_in_world_or_installed, names_to_upgrade, unknown_operand_place, unless_unknown_operand, wishes_of}
 use Rattle.outcome.specs.make_info.Reads.{Reads}
 use Rattle.outcome.specs.path_clashes.Clash.{NamePair}
@@ -73,13 +73,13 @@ module _ (command : CommandLine) (read : Reads) (chosen : Option (List ℕ)) (ch
   abbrev IsSo : Inputs → Refusal → Type 0
   IsSo inputs refusal = IsFaultOfSelection command inputs refusal
 
-  none_chosen : (inputs : Inputs) (pool : SelectionProblem) (o : Option (List ℕ)) (refusal : Refusal) → pool_of_inputs command inputs ≡ Ok pool → IsPreferredChoiceUnlessRefused (Ok pool) o → selected_from_pool_by_choice command inputs pool o ≡ Err refusal → IsSo inputs refusal
+  none_chosen : (inputs : Inputs) (pool : SelectionProblem) (o : Option (List ℕ)) (refusal : Refusal) → pool_of_inputs_unless_too_many_candidates command inputs ≡ Ok pool → IsPreferredChoiceUnlessRefused (Ok pool) o → selected_from_pool_by_choice command inputs pool o ≡ Err refusal → IsSo inputs refusal
   none_chosen inputs pool None refusal is none e =
       let same : Unsatisfied ≡ refusal = cc in
       subst (IsSo inputs) same (record { pool = pool; is_pool = is; none = none })
   none_chosen inputs pool (Some trace) refusal is none e = absurd (cc (e))
 
-  place_fault : (inputs : Inputs) (pool : SelectionProblem) (o : Option ℕ) (refusal : Refusal) → pool_of_inputs command inputs ≡ Ok pool → IsPreferredChoiceUnlessRefused (Ok pool) chosen → unknown_operand_place command.applet inputs command.operands ≡ o
+  place_fault : (inputs : Inputs) (pool : SelectionProblem) (o : Option ℕ) (refusal : Refusal) → pool_of_inputs_unless_too_many_candidates command inputs ≡ Ok pool → IsPreferredChoiceUnlessRefused (Ok pool) chosen → unknown_operand_place command.applet inputs command.operands ≡ o
       → unless_unknown_operand o (selected_from_pool_by_choice command inputs pool chosen) ≡ Err refusal → IsSo inputs refusal
   place_fault inputs pool None refusal is from known e = none_chosen inputs pool chosen refusal is from e
   place_fault inputs pool (Some place) refusal is from unknown e =
@@ -87,14 +87,14 @@ module _ (command : CommandLine) (read : Reads) (chosen : Option (List ℕ)) (ch
       let same : NotInstalled place ≡ refusal = cc in
       subst (IsSo inputs) same (record { operand = found.0; given = found.1; at = found.2; unknown = found.3 })
 
-  choice_of : (inputs : Inputs) (pool : SelectionProblem) → inputs_of command read ≡ Ok inputs → pool_of_inputs command inputs ≡ Ok pool → IsPreferredChoiceUnlessRefused (Ok pool) chosen
+  choice_of : (inputs : Inputs) (pool : SelectionProblem) → inputs_of command read ≡ Ok inputs → pool_of_inputs_unless_too_many_candidates command inputs ≡ Ok pool → IsPreferredChoiceUnlessRefused (Ok pool) chosen
   choice_of inputs pool is has =
-      let same : pool_of_command command read ≡ Ok pool = ap (λ (x : Result Inputs Refusal). and_then x (pool_of_inputs command)) is ∙ has in
+      let same : pool_of_command command read ≡ Ok pool = ap (λ (x : Result Inputs Refusal). and_then x (pool_of_inputs_unless_too_many_candidates command)) is ∙ has in
       subst (λ (x : Result SelectionProblem Refusal). IsPreferredChoiceUnlessRefused x chosen) same choice
 
   selection_fault : (inputs : Inputs) (refusal : Refusal) → inputs_of command read ≡ Ok inputs → selected_from_inputs_by_choice command chosen inputs ≡ Err refusal → IsSo inputs refusal
   selection_fault inputs refusal is e =
-      elim (and_then_err (pool_of_inputs command inputs) (λ pool. unless_unknown_operand (unknown_operand_place command.applet inputs command.operands) (selected_from_pool_by_choice command inputs pool chosen)) refusal e) [
+      elim (and_then_err (pool_of_inputs_unless_too_many_candidates command inputs) (λ pool. unless_unknown_operand (unknown_operand_place command.applet inputs command.operands) (selected_from_pool_by_choice command inputs pool chosen)) refusal e) [
         | inl first ↦ (let many = pool_fault inputs (names_to_upgrade command.applet command.operands) refusal first in subst (IsSo inputs) many.2 many.1)
         | inr next ↦ place_fault inputs next.0 (unknown_operand_place command.applet inputs command.operands) refusal next.1 (choice_of inputs next.0 is next.1) refl next.2
       ]

@@ -15,7 +15,7 @@ use Rattle.outcome.specs.make_info.declared.fault.MakeFault.{MakeFault}
 use Rattle.outcome.specs.make_info.declared.fault.MakeFault.TheVariants.{TooLarge}
 use Rattle.outcome.specs.package_files.Folders.{FolderListing, folder_listings_by_tree_names}
 use Rattle.outcome.specs.make_package.Making.{container_unless_too_large, made_package, or_info_bad, package_container, package_of_parts}
-use Rattle.outcome.specs.package_files.Package.{Script, SourceFile, SourceFolder, contents_of_folders, installed_size, value_of_package}
+use Rattle.outcome.specs.package_files.Package.{Script, SourceFileNameAndBytes, SourceFolder, contents_of_folders, installed_size, value_of_package}
 use Rattle.outcome.specs.package_files.Sources.{results_from_read, source_file_at_place_by_read, source_folder_at_place_by_read, source_folders_of_first_option_only, found_bytes_or_missing, and_then, script_at, script_with, scripts_from_read, source_file_named_by_last_part, source_files_at_place_from_read, texts_of, values_of_letter}
 use Rattle.outcome.specs.pkg_core.Contents.{Contents}
 use Rattle.refusal_laws.specs.MadeTooLarge.{IsPackageToBeMadeTooLarge}
@@ -59,10 +59,10 @@ module _ (bytes values : ℕ) where
         | inr last ↦ no_fault (source_folder last.0) (TooLarge bytes values) last.2
       ]
     where
-      source_folder : List SourceFile → SourceFolder
+      source_folder : List SourceFileNameAndBytes → SourceFolder
       source_folder files = record { name = folder.name; files = files }
 
-      with_files : List SourceFile → Result SourceFolder MakeFault
+      with_files : List SourceFileNameAndBytes → Result SourceFolder MakeFault
       with_files files = Ok (source_folder files)
 
   folders_never : (read : Reads) (n : ℕ) (vs : List OptionValue) (names : List (List ℕ)) → IsNever (source_folders_of_first_option_only read n vs names)

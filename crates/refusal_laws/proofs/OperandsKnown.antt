@@ -8,7 +8,7 @@ use Rattle.command_core.specs.declared.command.Applet.{Applet}
 use Rattle.command_core.specs.declared.command.Applet.TheVariants.{Del, Fix, Upgrade}
 use Rattle.command_core.specs.declared.operands.Operand.{Operand}
 use Rattle.outcome.specs.engine_core.Changed.{selected_from_pool_by_choice, selected_from_inputs_by_choice}
-use Rattle.outcome.specs.engine_core.Selecting.{pool_of_inputs}
+use Rattle.outcome.specs.engine_core.Selecting.{pool_of_inputs_unless_too_many_candidates}
 use Rattle.outcome.specs.engine_core.Wishes.{place_of_first_unknown_operand, is_installed_name, is_name_in_world_or_installed, names_to_upgrade, unknown_operand_place, unless_unknown_operand}
 use Rattle.outcome.specs.candidate_core.Rank.{SelectionProblem}
 use Rattle.report_core.specs.declared.refusal.Refusal.{Refusal}
@@ -92,7 +92,7 @@ module _ (command : CommandLine) (inputs : Inputs) where
   no_place Fix same e = known_to command inputs Fix (is_installed_name inputs) (λ name known off. true≢false (sym known ∙ off)) same command.operands (all_passing (is_installed_name inputs) command.operands e)
   no_place applet same e = λ o inside unknown. subst (λ (a : Applet). IsNameUnknownToDelUpgradeOrFix a inputs o.text) (sym same) unknown
 
-  passed : (pool : SelectionProblem) → pool_of_inputs command inputs ≡ Ok pool → (place : Option ℕ) → unknown_operand_place command.applet inputs command.operands ≡ place → (chosen : Option (List ℕ)) (refusal : Refusal)
+  passed : (pool : SelectionProblem) → pool_of_inputs_unless_too_many_candidates command inputs ≡ Ok pool → (place : Option ℕ) → unknown_operand_place command.applet inputs command.operands ≡ place → (chosen : Option (List ℕ)) (refusal : Refusal)
       → unless_unknown_operand place (selected_from_pool_by_choice command inputs pool chosen) ≡ Err refusal → HasPassedTestsBeforeSelectionRefusal command inputs refusal
   passed pool is (Some place) at chosen refusal e =
       let same : NotInstalled place ≡ refusal = cc in
@@ -104,7 +104,7 @@ module _ (command : CommandLine) (inputs : Inputs) where
 
   pub selection_passed : (chosen : Option (List ℕ)) (refusal : Refusal) → selected_from_inputs_by_choice command chosen inputs ≡ Err refusal → HasPassedTestsBeforeSelectionRefusal command inputs refusal
   selection_passed chosen refusal e =
-      elim (and_then_err (pool_of_inputs command inputs) (λ pool. unless_unknown_operand (unknown_operand_place command.applet inputs command.operands) (selected_from_pool_by_choice command inputs pool chosen)) refusal e) [
+      elim (and_then_err (pool_of_inputs_unless_too_many_candidates command inputs) (λ pool. unless_unknown_operand (unknown_operand_place command.applet inputs command.operands) (selected_from_pool_by_choice command inputs pool chosen)) refusal e) [
         | inl first ↦ (let many = pool_fault inputs (names_to_upgrade command.applet command.operands) refusal first in subst (HasPassedTestsBeforeSelectionRefusal command inputs) many.2 tt)
         | inr next ↦ passed next.0 next.1 (unknown_operand_place command.applet inputs command.operands) refl chosen refusal next.2
       ]

@@ -10,7 +10,7 @@ use Rattle.command_core.specs.declared.command.Applet.TheVariants.{Del, Fix, Upg
 use Rattle.command_core.specs.declared.operands.Operand.{Operand}
 use Rattle.dep_core.specs.World.{has_dependency_named}
 use Rattle.outcome.specs.engine_core.Changed.{InputsAndReplacement, selected_from_reads_by_choice}
-use Rattle.outcome.specs.engine_core.Selecting.{pool_of_inputs}
+use Rattle.outcome.specs.engine_core.Selecting.{pool_of_inputs_unless_too_many_candidates}
 use Rattle.outcome.specs.engine_core.Wishes.{is_installed_name, wishes_of}
 use Rattle.outcome.specs.make_info.Reads.{Reads}
 use Rattle.outcome.specs.candidate_core.Rank.{SelectionProblem}
@@ -46,7 +46,7 @@ pub record IsOperandRefusedAsNotInstalled (command : CommandLine) (inputs : Inpu
 pub record IsNewWorldUnsatisfiable (command : CommandLine) (inputs : Inputs) : Type 0 where
   -- the candidates of the command, under its new world
   pub pool : SelectionProblem
-  pub is_pool : pool_of_inputs command inputs ≡ Ok pool
+  pub is_pool : pool_of_inputs_unless_too_many_candidates command inputs ≡ Ok pool
   -- no selection of these candidates satisfies the new world
   pub none : (selection : List ℕ) → IsSatisfying pool selection → ⊥
 

@@ -5,7 +5,7 @@ use Rattle.outcome.specs.adb_fields.FirstPair.{IsIn}
 use Rattle.outcome.specs.change_inputs.Inputs.{Inputs}
 use Rattle.command_core.specs.Command.{CommandLine}
 use Rattle.command_core.specs.declared.operands.Operand.{Operand}
-use Rattle.outcome.specs.engine_core.Selecting.{pool_of_inputs}
+use Rattle.outcome.specs.engine_core.Selecting.{pool_of_inputs_unless_too_many_candidates}
 use Rattle.outcome.specs.candidate_core.Rank.{SelectionProblem}
 use Rattle.report_core.specs.declared.refusal.Refusal.{Refusal}
 use Rattle.report_core.specs.declared.refusal.Refusal.TheVariants.{NotInstalled, Unsatisfied}
@@ -31,7 +31,8 @@ pub record IsFirstUnknown (command : CommandLine) (inputs : Inputs) (place : ℕ
 
 -- there are no more candidates than a pool holds
 abbrev pub HasPool : CommandLine → Inputs → Type 0
-HasPool command inputs = (pool : SelectionProblem) × (pool_of_inputs command inputs ≡ Ok pool)
+HasPool command inputs =
+    (pool : SelectionProblem) × (pool_of_inputs_unless_too_many_candidates command inputs ≡ Ok pool)
 
 -- the tests before this refusal of a selection were passed. First the candidates are counted, then the operands are
 -- tested in their order, and last a selection is searched for

@@ -14,7 +14,7 @@ use Rattle.engine_core.specs.change_outcome.ChangeOutcome.{ChangeDone, change_or
 use Rattle.engine_core.specs.change_outcome.MembersAfter.{found_package_contents, found_members}
 use Rattle.command_core.specs.Command.{CommandLine}
 use Rattle.engine_core.specs.Changed.{InputsAndReplacement, change_of_selected, change_of_command, selected_from_pool_by_choice, selected_from_reads_by_choice, selected_from_inputs_by_choice, simulated_change}
-use Rattle.engine_core.specs.Selecting.{pool_of_inputs}
+use Rattle.engine_core.specs.Selecting.{pool_of_inputs_unless_too_many_candidates}
 use Rattle.engine_core.specs.Wishes.{unknown_operand_place, unless_unknown_operand, wishes_of}
 use Rattle.make_index.specs.make_info.Reads.{Reads}
 use Rattle.engine_core.specs.path_clashes.Clash.{NamePair}
@@ -60,7 +60,7 @@ place_ok (Some place) next a e = absurd (cc (e))
 selected_ok : (command : CommandLine) (read : Reads) (chosen : Option (List ℕ)) (s : InputsAndReplacement) → selected_from_reads_by_choice command read chosen ≡ Ok s → IsSelectedOf command read s
 selected_ok command read chosen s e =
     let inputs = and_then_ok (inputs_of command read) (selected_from_inputs_by_choice command chosen) s e in
-    let pool = and_then_ok (pool_of_inputs command inputs.0) (λ pool. unless_unknown_operand (unknown_operand_place command.applet inputs.0 command.operands) (selected_from_pool_by_choice command inputs.0 pool chosen)) s inputs.2 in
+    let pool = and_then_ok (pool_of_inputs_unless_too_many_candidates command inputs.0) (λ pool. unless_unknown_operand (unknown_operand_place command.applet inputs.0 command.operands) (selected_from_pool_by_choice command inputs.0 pool chosen)) s inputs.2 in
     let is = chosen_ok command inputs.0 pool.0 chosen s (place_ok (unknown_operand_place command.applet inputs.0 command.operands) (selected_from_pool_by_choice command inputs.0 pool.0 chosen) s pool.2) in
     record {
       inputs = inputs.1 ∙ ap (λ (x : Inputs). Ok x) (sym is.0);

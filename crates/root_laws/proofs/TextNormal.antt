@@ -15,7 +15,7 @@ use Rattle.make_index.specs.adb_write.Size.{payload_size_of, value_count}
 use Rattle.base_core.specs.declared.cause.Cause.{Cause}
 use Rattle.base_core.proofs.Booleans.{neither_first}
 use Rattle.engine_core.specs.v2_core.Database.{database_value_of_records}
-use Rattle.engine_core.specs.v2_core.Payload.{payload_unless_too_large, payload_of_text, payload_if_sound, payload_unless_fault, payload_of_records}
+use Rattle.engine_core.specs.v2_core.Payload.{payload_unless_too_large, payload_of_text, payload_if_sound, payload_unless_fault, untested_payload_of_records}
 use Rattle.engine_core.specs.v2_core.Reading.{records_of}
 use Rattle.engine_core.specs.v2_core.Records.{Record}
 use Rattle.engine_core.specs.v2_core.declared.read.V2Fault.{V2Fault}
@@ -58,7 +58,7 @@ module _ (back : ReadBack) (exact : Exact) where
       subst (λ (p : List ℕ). IsNormal (root_value_of_payload Tables.Idb p)) written.1
       (subst IsNormal (sym (root_is (canonical v) v (back (shape_of (Obj Tables.Idb)) v fit.0 fit.1 few))) fit.0)
 
-  read_normal : (read : Result (List Record) ℕ) (payload : List ℕ) → AreGoodIfRead read → payload_if_sound (payload_of_records read) ≡ kept payload → IsNormal (root_value_of_payload Tables.Idb payload)
+  read_normal : (read : Result (List Record) ℕ) (payload : List ℕ) → AreGoodIfRead read → payload_if_sound (untested_payload_of_records read) ≡ kept payload → IsNormal (root_value_of_payload Tables.Idb payload)
   read_normal (Ok records) payload good e = written_normal (database_value_of_records records) payload (records_fit records good) e
   read_normal (Err line) payload good e = absurd (cc (e))
 

@@ -13,7 +13,8 @@ use std::alloc::{AllocError, Global};
 /// The word of the root in these payloads: an object (0xe) at the offset 8, after the head.
 const ROOT: u32 = 0xe000_0008;
 
-/// The most values that a payload may have (`docs/formats.md`, "The shape").
+/// The most visits that a reader of a payload makes, one for each value (`docs/formats.md`, "The
+/// shape").
 const MOST_VISITS: u32 = 4_194_304;
 
 /// The fault of a payload that should have the shape of the table `which`; `Ok` if it has this

@@ -166,8 +166,8 @@ IsAfterChosenRestOfWalkPreferredToOther pool chosen (c ∷ rest) (d ∷ other) =
     ⊎ ((c ≡ d) × IsAfterChosenRestOfWalkPreferredToOther pool (chosen ++ c ∷ []) rest other)
 
 -- one walk is preferred to the walk `other`, from the first need on
-abbrev pub IsWalkPreferredTo : SelectionProblem → List ℕ → List ℕ → Type 0
-IsWalkPreferredTo pool walk other = IsAfterChosenRestOfWalkPreferredToOther pool [] walk other
+abbrev pub IsWalkOfCandidatesPreferredTo : SelectionProblem → List ℕ → List ℕ → Type 0
+IsWalkOfCandidatesPreferredTo pool walk other = IsAfterChosenRestOfWalkPreferredToOther pool [] walk other
 
 -- `trace` is the preferred solution: it satisfies the world, is its own walk, and is preferred to the walk of each
 -- other satisfying selection
@@ -179,4 +179,4 @@ pub record IsFirstPreferredSelection (pool : SelectionProblem) (trace : List ℕ
   -- the walk of each satisfying selection is equal to `trace`, or `trace` is preferred to it
   pub first :
       (selection walk : List ℕ) → IsSatisfying pool selection → IsSelectionWalk pool selection walk →
-      (walk ≡ trace) ⊎ IsWalkPreferredTo pool trace walk
+      (walk ≡ trace) ⊎ IsWalkOfCandidatesPreferredTo pool trace walk

@@ -11,7 +11,7 @@ use Rattle.search_choices.specs.candidate_core.Candidates.{Need, is_eligible}
 use Rattle.search_choices.specs.candidate_core.Rank.{SelectionProblem, is_better, meets_at, rank_cmp}
 use Rattle.search_choices.specs.candidate_core.Options.{IsStrictlySortedBestFirst, IsIn, options_for, places_passing_counted_from}
 use Rattle.search_choices.specs.search_tables.Reasons.{HasOptions}
-use Rattle.search_choices.specs.search_tables.Selection.{AreAllMembersOf, IsWalkPreferredTo, IsAfterChosenRestOfWalkPreferredToOther, IsFirstPreferredSelection, IsSatisfying, IsSelectionWalk, IsRestOfSelectionWalkAfterChosen, next_need}
+use Rattle.search_choices.specs.search_tables.Selection.{AreAllMembersOf, IsWalkOfCandidatesPreferredTo, IsAfterChosenRestOfWalkPreferredToOther, IsFirstPreferredSelection, IsSatisfying, IsSelectionWalk, IsRestOfSelectionWalkAfterChosen, next_need}
 use Rattle.search_choices.proofs.search_tables.Theory as law
 use Rattle.search_choices.proofs.search_tables.Turns.{PoolFacts}
 use Rattle.search_choices.proofs.search_tables.PoolFacts.{pool_facts}
@@ -74,14 +74,14 @@ module _ (pool : SelectionProblem) (total : (need : Need) → IsTotalOrder (rank
     pub has_one_walk : (selection walk other : List ℕ) → IsSelectionWalk pool selection walk → IsSelectionWalk pool selection other → walk ≡ other
     has_one_walk selection walk other a b = law.walk_unique facts one_way selection [] walk other a b
 
-    pub walks_compare : (selection other walk second : List ℕ) → IsSatisfying pool selection → IsSatisfying pool other → IsSelectionWalk pool selection walk → IsSelectionWalk pool other second → (walk ≡ second) ⊎ (IsWalkPreferredTo pool walk second ⊎ IsWalkPreferredTo pool second walk)
+    pub walks_compare : (selection other walk second : List ℕ) → IsSatisfying pool selection → IsSatisfying pool other → IsSelectionWalk pool selection walk → IsSelectionWalk pool other second → (walk ≡ second) ⊎ (IsWalkOfCandidatesPreferredTo pool walk second ⊎ IsWalkOfCandidatesPreferredTo pool second walk)
     walks_compare selection other walk second s o a b =
         law.before_total facts (λ q c d gc gd mc md. one_of q c d) selection other [] walk second (closed_of_satisfying pool selection s) (closed_of_satisfying pool other o) a b
 
-    pub not_both_before : (walk second : List ℕ) → IsWalkPreferredTo pool walk second → IsWalkPreferredTo pool second walk → ⊥
+    pub not_both_before : (walk second : List ℕ) → IsWalkOfCandidatesPreferredTo pool walk second → IsWalkOfCandidatesPreferredTo pool second walk → ⊥
     not_both_before walk second a b = law.before_asym facts one_way [] walk second a b
 
-    pub before_is_transitive : (a b c : List ℕ) → IsWalkPreferredTo pool a b → IsWalkPreferredTo pool b c → IsWalkPreferredTo pool a c
+    pub before_is_transitive : (a b c : List ℕ) → IsWalkOfCandidatesPreferredTo pool a b → IsWalkOfCandidatesPreferredTo pool b c → IsWalkOfCandidatesPreferredTo pool a c
     before_is_transitive a b c x y = before_chain [] a b c x y
 
     -- of a selection that has the choices in front and another option, the walk takes these choices

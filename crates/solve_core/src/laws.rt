@@ -3,7 +3,7 @@
 ghost use Rattle.std.specs.Prelude.{◌≡◌, ◌⊎◌, ℕ, true, List, [], ◌∷◌, ◌++◌, Some};
 ghost use Rattle.search_choices.specs.candidate_core.Candidates.{Need};
 ghost use Rattle.search_choices.specs.candidate_core.Rank.{SelectionProblem, is_better, meets_at};
-ghost use Rattle.search_choices.specs.search_tables.Selection.{AreAllMembersOf, IsWalkPreferredTo, IsFirstPreferredSelection, IsSatisfying, IsSelectionWalk, next_need};
+ghost use Rattle.search_choices.specs.search_tables.Selection.{AreAllMembersOf, IsWalkOfCandidatesPreferredTo, IsFirstPreferredSelection, IsSatisfying, IsSelectionWalk, next_need};
 
 use crate::selection::options_are_as_promised;
 use search_choices::rank_is_total;
@@ -45,14 +45,16 @@ pub fn walks_have_one_order()
     ensures one_of { (pool : SelectionProblem) (selection other walk second : List ℕ) →
         IsSatisfying pool selection → IsSatisfying pool other →
         IsSelectionWalk pool selection walk → IsSelectionWalk pool other second →
-        (walk ≡ second) ⊎ (IsWalkPreferredTo pool walk second
-        ⊎ IsWalkPreferredTo pool second walk) }
+        (walk ≡ second) ⊎ (IsWalkOfCandidatesPreferredTo pool walk second
+        ⊎ IsWalkOfCandidatesPreferredTo pool second walk) }
     // Of two walks, at most one is preferred to the other.
     ensures not_both { (pool : SelectionProblem) (walk second : List ℕ) →
-        IsWalkPreferredTo pool walk second → IsWalkPreferredTo pool second walk → ⊥ }
+        IsWalkOfCandidatesPreferredTo pool walk second
+        → IsWalkOfCandidatesPreferredTo pool second walk → ⊥ }
     // The order is transitive.
     ensures transitive { (pool : SelectionProblem) (a b c : List ℕ) →
-        IsWalkPreferredTo pool a b → IsWalkPreferredTo pool b c → IsWalkPreferredTo pool a c }
+        IsWalkOfCandidatesPreferredTo pool a b → IsWalkOfCandidatesPreferredTo pool b c
+        → IsWalkOfCandidatesPreferredTo pool a c }
 {
     // Laws that the proof needs; they have no effect at run time.
     options_are_as_promised();

@@ -7,7 +7,7 @@ ghost use Rattle.std.specs.Option.{option_map, option_copied};
 ghost use Rattle.base_core.specs.Calls.{IsCounted, ChangesHistory, IfObservable};
 ghost use Rattle.base_core.specs.Faults.{CountsOnlyRise, CountsNewFaultWithCause, CountsNoNewFaultOrLackOfMemory, saturating_increment};
 ghost use Rattle.base_core.specs.Files.{put_name};
-ghost use Rattle.base_core.specs.Listed.{AreSortedNamesBelowFolder, IsSortedListOfAllNamesInMap, IsSortedListingOfFolder};
+ghost use Rattle.base_core.specs.Listed.{AreSortedAndEachBelowFolder, IsSortedListOfAllNamesInMap, IsSortedListingOfFolder};
 ghost use Rattle.base_core.specs.Tree.{files_of, after_create, after_append, after_failed_append, after_sync, after_rename, after_remove, after_sync_names, unchanged_after_failed_call, IsAlwaysAllowed, HasName, CanRead, CanCreate, CanRename};
 ghost use Rattle.base_core.specs.Undone.{IsAfterCrash};
 ghost use Rattle.base_core.specs.declared.tree.TreeFault.TheVariants.{Memory, Disk as DiskFault};
@@ -451,7 +451,7 @@ impl Tree for MemoryTree {
         ensures value { IfOk result (λ names.
             IfObservable (history_of self.old) (λ v. IsSortedListingOfFolder folder.now v names)) }
         // Each element of the answer is a valid name below the folder.
-        ensures order { IfOk result (λ names. AreSortedNamesBelowFolder folder.now names) }
+        ensures order { IfOk result (λ names. AreSortedAndEachBelowFolder folder.now names) }
 
         // The call fails with an I/O error exactly if its failure is planned.
         ensures when { IsErrOf result DiskFault

@@ -6,7 +6,7 @@ use Rattle.v2_lines.proofs.adb_values.Lists.{Closes}
 use Rattle.v2_lines.specs.adb_write.Canonical.{ByteAndValueCounts, payload_or_counts_at_overflow}
 use Rattle.v2_lines.specs.make_info.Values.{plains_of_list}
 use Rattle.v2_core.specs.Database.{array_or_null_of_list, record_value, database_value_of_records}
-use Rattle.v2_core.specs.Payload.{IsV2Fault, payload_unless_too_large, payload_if_sound, payload_of_records}
+use Rattle.v2_core.specs.Payload.{IsV2Fault, payload_unless_too_large, payload_if_sound, untested_payload_of_records}
 use Rattle.v2_core.specs.Records.{Record}
 use Rattle.v2_core.specs.Writing.{IsLineFault, draft_with_database, draft_with_records}
 use Rattle.v2_core.specs.declared.read.V2Fault.{V2Fault}
@@ -15,7 +15,7 @@ use Rattle.v2_lines.proofs.make_info.Mapped.{with_list}
 
 -- what a draft of the database ends with is the payload, or the counts at which it overflows
 pub finished : (read : Result (List Record) ℕ) (start d : DraftState) (answer : Result (List ℕ) ByteAndValueCounts) → start ≡ empty_draft → draft_with_database read start ≡ Ok d
-    → ((v : Plain) → d ≡ draft_with v empty_draft → payload_or_counts_at_overflow v ≡ answer) → payload_of_records read ≡ payload_unless_too_large answer
+    → ((v : Plain) → d ≡ draft_with v empty_draft → payload_or_counts_at_overflow v ≡ answer) → untested_payload_of_records read ≡ payload_unless_too_large answer
 finished (Ok records) start d answer fresh so end =
     let v : Plain = database_value_of_records records in
     let same : draft_with v start ≡ d = cc in
@@ -23,8 +23,8 @@ finished (Ok records) start d answer fresh so end =
 finished (Err line) start d answer fresh so end = absurd cc
 
 -- a bad line is why there is no payload
-pub line_fault : (fault : V2Fault) (read : Result (List Record) ℕ) → IsLineFault fault read → IsV2Fault fault (payload_of_records read)
-line_fault (Bad cause) read is = ap payload_of_records is.2 ∙ ap (λ c. Err (Bad c)) (sym is.1)
+pub line_fault : (fault : V2Fault) (read : Result (List Record) ℕ) → IsLineFault fault read → IsV2Fault fault (untested_payload_of_records read)
+line_fault (Bad cause) read is = ap untested_payload_of_records is.2 ∙ ap (λ c. Err (Bad c)) (sym is.1)
 line_fault (TooLarge bytes values) read is = absurd is
 line_fault Memory read is = is
 

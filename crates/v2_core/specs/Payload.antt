@@ -24,10 +24,10 @@ payload_unless_too_large (Ok payload) = Ok payload
 payload_unless_too_large (Err counts) = Err (TooLarge counts.0 counts.1)
 
 -- the payload of the database with these records, before it is tested; or the first bad line
-abbrev pub payload_of_records : Result (List Record) ℕ → Result (List ℕ) V2Fault
-payload_of_records (Ok records) =
+abbrev pub untested_payload_of_records : Result (List Record) ℕ → Result (List ℕ) V2Fault
+untested_payload_of_records (Ok records) =
     payload_unless_too_large (payload_or_counts_at_overflow (database_value_of_records records))
-payload_of_records (Err line) = Err (Bad (TextLine line))
+untested_payload_of_records (Err line) = Err (Bad (TextLine line))
 
 -- the payload, if it passes the tests of an installed database; otherwise the first test that it fails. An
 -- earlier fault stays as it is
@@ -39,7 +39,7 @@ payload_if_sound (Err fault) = Err fault
 -- the counts of a limit of the writer that is exceeded, otherwise the first test of an installed
 -- database that fails
 unfoldable pub payload_of_text : List ℕ → Result (List ℕ) V2Fault
-payload_of_text text = payload_if_sound (payload_of_records (records_of text))
+payload_of_text text = payload_if_sound (untested_payload_of_records (records_of text))
 
 -- a fault of reading a text database: it is that of `answer`, the result of the definition; out of memory may
 -- occur for any text

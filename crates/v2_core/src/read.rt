@@ -8,7 +8,7 @@ ghost use Rattle.v2_lines.specs.adb_schema.ReadFaults.{IsReadFault};
 ghost use Rattle.v2_core.specs.declared.read.V2Fault.TheVariants.{Bad};
 ghost use Rattle.v2_lines.specs.adb_schema.Soundness.{payload_fault};
 ghost use Rattle.adb_view.specs.declared.tables.Which.TheVariants as Tables;
-ghost use Rattle.v2_core.specs.Payload.{IsV2Fault, payload_of_text, payload_of_records};
+ghost use Rattle.v2_core.specs.Payload.{IsV2Fault, payload_of_text, untested_payload_of_records};
 ghost use Rattle.v2_core.specs.Reading.{records_from_record_end, records_from_unfinished_record, records_of};
 ghost use Rattle.v2_core.specs.Records.{Record as RecordModel, empty_record};
 ghost use Rattle.v2_core.specs.Writing.{IsLineFault, draft_with_database, draft_with_records};
@@ -68,9 +68,9 @@ fn check_database(alloc: Global, payload: &[u8]) -> Result<(), ReadFault>
 fn write_payload(alloc: Global, bytes: &[u8]) -> Result<Vec<u8>, V2Fault>
     // On Ok, the payload is that of the text's records.
     ensures ok { IfOk result
-        (λ payload. payload_of_records (records_of bytes.now) ≡ Ok payload.items) }
+        (λ payload. untested_payload_of_records (records_of bytes.now) ≡ Ok payload.items) }
     // An error is the one that the definition gives for these records, or out of memory.
-    ensures err { IfErr result (λ fault. IsV2Fault fault (payload_of_records
+    ensures err { IfErr result (λ fault. IsV2Fault fault (untested_payload_of_records
         (records_of bytes.now))) }
 {
     let mut draft = Draft::new(alloc);

@@ -124,14 +124,14 @@ fn refusal_of(alloc: Global, words: &Words) -> Result<Option<Refusal>, AllocErro
 /// A refusal that has only numbers as fields, or no fields; None for another refusal.
 fn refusal_with_numbers(named: Named, words: &Words) -> Option<Refusal> {
     // The first field, as a number of 64 bits or as the position of an argument.
-    let number = long_at(words, 1);
-    let place = int_at(words, 1);
+    let number = u64_at(words, 1);
+    let place = u32_at(words, 1);
     let refusal = match named {
         Named::Usage => Refusal::Usage { place },
         Named::FileMissing => Refusal::FileMissing { place },
         Named::TextBad => Refusal::TextBad {
             place,
-            line: long_at(words, 2),
+            line: u64_at(words, 2),
         },
         Named::VersionBad => Refusal::VersionBad { place },
         Named::InfoBad => Refusal::InfoBad { place },
@@ -142,7 +142,7 @@ fn refusal_with_numbers(named: Named, words: &Words) -> Option<Refusal> {
         Named::TooMany => Refusal::TooMany { count: number },
         Named::ResultTooLarge => Refusal::ResultTooLarge {
             bytes: number,
-            values: long_at(words, 2),
+            values: u64_at(words, 2),
         },
         Named::NoDatabase => Refusal::NoDatabase,
         Named::Untrusted => Refusal::Untrusted,
@@ -170,8 +170,8 @@ fn refusal_with_cause(
         return Ok(None);
     };
     // The first field, as the place of an argument or as the number of a repository.
-    let place = int_at(words, 1);
-    let repository = long_at(words, 1);
+    let place = u32_at(words, 1);
+    let repository = u64_at(words, 1);
     Ok(Some(match named {
         Named::IntentBad => Refusal::IntentBad { cause },
         Named::DatabaseBad => Refusal::DatabaseBad { cause },
@@ -187,7 +187,8 @@ fn refusal_of_package(
     named: Named,
     words: &Words,
 ) -> Result<Option<Refusal>, AllocError> {
-    // The words after the version are a cause, or the three fields of `package-differs`.
+    // The words after the version are a cause. For `package-differs` they are the number of the
+    // field that differs, and the value of this field in the index and in the package file.
     let cause = cause_of(&words_behind(alloc, words, 3)?);
     let name = Text::of(alloc, word_at(words, 1))?;
     let version = Text::of(alloc, word_at(words, 2))?;
@@ -195,7 +196,7 @@ fn refusal_of_package(
         Named::PackageDiffers => Ok(Some(Refusal::PackageDiffers {
             name,
             version,
-            field: short_at(words, 3),
+            field: u16_at(words, 3),
             wanted: Text::of(alloc, word_at(words, 4))?,
             found: Text::of(alloc, word_at(words, 5))?,
         })),
@@ -216,7 +217,7 @@ fn refusal_of_script(
     words: &Words,
 ) -> Result<Option<Refusal>, AllocError> {
     let name = Text::of(alloc, word_at(words, 1))?;
-    let script = short_at(words, 2);
+    let script = u16_at(words, 2);
     Ok(Some(match named {
         Named::ScriptNeeded => Refusal::ScriptNeeded { name, script },
         _ => Refusal::TriggerNeeded { name },
@@ -292,9 +293,9 @@ const CAUSES: [(&[u8], NamedCause); 15] = [
 /// cause with this name, or a digest has a wrong length.
 fn cause_of(words: &Words) -> Option<Cause> {
     // The first field, as a number of 64, of 32 or of 16 bits.
-    let long = long_at(words, 1);
-    let int = int_at(words, 1);
-    let place = short_at(words, 1);
+    let long = u64_at(words, 1);
+    let int = u32_at(words, 1);
+    let place = u16_at(words, 1);
     let cause = match value_named(&CAUSES, word_at(words, 0))? {
         NamedCause::NotAdb => Cause::NotAdb,
         NamedCause::Compressed => Cause::Compressed,
@@ -309,16 +310,16 @@ fn cause_of(words: &Words) -> Option<Cause> {
         NamedCause::BadText => Cause::BadText { place },
         NamedCause::Repeated => Cause::Repeated {
             place,
-            first: int_at(words, 2),
-            second: int_at(words, 3),
+            first: u32_at(words, 2),
+            second: u32_at(words, 3),
         },
         NamedCause::DataOrder => Cause::DataOrder {
-            expected: (int, int_at(words, 2)),
-            found: (int_at(words, 3), int_at(words, 4)),
+            expected: (int, u32_at(words, 2)),
+            found: (u32_at(words, 3), u32_at(words, 4)),
         },
         NamedCause::DataSize => Cause::DataSize {
             wanted: long,
-            found: long_at(words, 2),
+            found: u64_at(words, 2),
         },
         NamedCause::HashDiffers => hashes_differ(word_at(words, 1), word_at(words, 2))?,
     };
@@ -352,18 +353,18 @@ fn digest_of(bytes: &[u8]) -> Option<Digest> {
 }
 
 /// The number that the word at an index, counted from 0, is; 0 if it is no number of 64 bits.
-fn long_at(words: &Words, i: usize) -> u64 {
+fn u64_at(words: &Words, i: usize) -> u64 {
     number_of(word_at(words, i))
         .and_then(|number| u64::try_from(number).ok())
         .unwrap_or(0)
 }
 
 /// The number that the word at an index is; 0 if it is no number of 32 bits.
-fn int_at(words: &Words, i: usize) -> u32 {
-    u32::try_from(long_at(words, i)).unwrap_or(0)
+fn u32_at(words: &Words, i: usize) -> u32 {
+    u32::try_from(u64_at(words, i)).unwrap_or(0)
 }
 
 /// The number that the word at an index is; 0 if it is no number of 16 bits.
-fn short_at(words: &Words, i: usize) -> u16 {
-    u16::try_from(long_at(words, i)).unwrap_or(0)
+fn u16_at(words: &Words, i: usize) -> u16 {
+    u16::try_from(u64_at(words, i)).unwrap_or(0)
 }

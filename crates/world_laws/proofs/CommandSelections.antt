@@ -16,7 +16,7 @@ use Rattle.command_core.specs.declared.operands.Operand.{Operand}
 use Rattle.dep_core.specs.Dependency.{Dependency}
 use Rattle.engine_core.specs.Changed.{InputsAndReplacement, selected_from_pool_by_choice, selected_from_reads_by_choice, selected_from_inputs_by_choice}
 use Rattle.engine_core.specs.Choice.{IsPreferredChoiceUnlessRefused}
-use Rattle.engine_core.specs.Selecting.{pool_of_inputs, pool_of_command, replacement_of_choice}
+use Rattle.engine_core.specs.Selecting.{pool_of_inputs_unless_too_many_candidates, pool_of_command, replacement_of_choice}
 use Rattle.engine_core.specs.Wishes.{names_to_reinstall, names_to_upgrade, operand_texts, unknown_operand_place, unless_unknown_operand}
 use Rattle.engine_core.specs.make_info.Reads.{Reads}
 use Rattle.engine_core.specs.package_changes.Placed.{candidates_at}
@@ -59,7 +59,7 @@ upgrades other operands name = (λ e. absurd (cc (e)), λ none. absurd none)
 -- ---- what a command chooses from
 
 module _ (command : CommandLine) (read : Reads) where
-  pool_of : (inputs : Inputs) (pool : SelectionProblem) → inputs_of command read ≡ Ok inputs → pool_of_inputs command inputs ≡ Ok pool → IsCommandPool command read pool
+  pool_of : (inputs : Inputs) (pool : SelectionProblem) → inputs_of command read ≡ Ok inputs → pool_of_inputs_unless_too_many_candidates command inputs ≡ Ok pool → IsCommandPool command read pool
   pool_of inputs pool found e =
       let upgraded = names_to_upgrade command.applet command.operands in
       let is = root_pool_is inputs upgraded pool e in
@@ -73,7 +73,7 @@ module _ (command : CommandLine) (read : Reads) where
       })
 
   pub pool_chosen : (pool : SelectionProblem) → pool_of_command command read ≡ Ok pool → IsCommandPool command read pool
-  pool_chosen pool e = let inputs = and_then_ok (inputs_of command read) (pool_of_inputs command) pool e in pool_of inputs.0 pool inputs.1 inputs.2
+  pool_chosen pool e = let inputs = and_then_ok (inputs_of command read) (pool_of_inputs_unless_too_many_candidates command) pool e in pool_of inputs.0 pool inputs.1 inputs.2
 
 -- ---- what it selects
 
@@ -87,7 +87,7 @@ module _ (command : CommandLine) (read : Reads) where
     pub candidates : pool.candidates ≡ candidates_of s.inputs
     pub world : pool.world ≡ s.inputs.root.new_world
 
-  taken_by : (inputs : Inputs) (pool : SelectionProblem) (place : Option ℕ) (chosen : Option (List ℕ)) (s : InputsAndReplacement) → pool_of_inputs command inputs ≡ Ok pool
+  taken_by : (inputs : Inputs) (pool : SelectionProblem) (place : Option ℕ) (chosen : Option (List ℕ)) (s : InputsAndReplacement) → pool_of_inputs_unless_too_many_candidates command inputs ≡ Ok pool
       → IsPreferredChoiceUnlessRefused (Ok pool) chosen → unless_unknown_operand place (selected_from_pool_by_choice command inputs pool chosen) ≡ Ok s → IsTaken s
   taken_by inputs pool (Some place) chosen s is choice e = absurd (cc (e))
   taken_by inputs pool None None s is choice e = absurd (cc (e))
@@ -107,8 +107,8 @@ module _ (command : CommandLine) (read : Reads) where
   taken : (chosen : Option (List ℕ)) (s : InputsAndReplacement) → IsPreferredChoiceUnlessRefused (pool_of_command command read) chosen → selected_from_reads_by_choice command read chosen ≡ Ok s → IsTaken s
   taken chosen s choice e =
       let inputs = and_then_ok (inputs_of command read) (selected_from_inputs_by_choice command chosen) s e in
-      let pool = and_then_ok (pool_of_inputs command inputs.0) (λ pool. unless_unknown_operand (unknown_operand_place command.applet inputs.0 command.operands) (selected_from_pool_by_choice command inputs.0 pool chosen)) s inputs.2 in
-      let is : pool_of_command command read ≡ Ok pool.0 = ap (λ (r : Result Inputs Refusal). and_then r (pool_of_inputs command)) inputs.1 ∙ pool.1 in
+      let pool = and_then_ok (pool_of_inputs_unless_too_many_candidates command inputs.0) (λ pool. unless_unknown_operand (unknown_operand_place command.applet inputs.0 command.operands) (selected_from_pool_by_choice command inputs.0 pool chosen)) s inputs.2 in
+      let is : pool_of_command command read ≡ Ok pool.0 = ap (λ (r : Result Inputs Refusal). and_then r (pool_of_inputs_unless_too_many_candidates command)) inputs.1 ∙ pool.1 in
       taken_by inputs.0 pool.0 (unknown_operand_place command.applet inputs.0 command.operands) chosen s pool.1 (subst (λ (r : Result SelectionProblem Refusal). IsPreferredChoiceUnlessRefused r chosen) is choice) pool.2
 
   pub satisfies : (chosen : Option (List ℕ)) (s : InputsAndReplacement) → IsPreferredChoiceUnlessRefused (pool_of_command command read) chosen → selected_from_reads_by_choice command read chosen ≡ Ok s

@@ -4,7 +4,7 @@ use Rattle.change_outcome.specs.db_core.Members.{is_after_members, member_name}
 use Rattle.adb_view.specs.Plain.{Plain}
 use Rattle.change_outcome.specs.db_core.Seen.{members_of, packages_of_old_database, packages_of}
 use Rattle.change_outcome.specs.db_core.declared.members.TheConstants.{MOST_MEMBERS}
-use Rattle.added_packages.specs.Arrivals.{HavePlacesIfKept, CanBeMembers, HasPlaceIfKept, member_of_read_package, members_of_read_packages}
+use Rattle.added_packages.specs.Arrivals.{HavePlacesIfKept, CanBeMembers, HasPlaceIfKept, member_of_read_package, members_by_packages_before_and_reads}
 use Rattle.added_packages.specs.declared.arrivals.MemberRead.{MemberRead}
 use Rattle.added_packages.proofs.Behind.{all_taken, next_behind, next_few, next_placed, one_more}
 use Rattle.added_packages.proofs.arrivals.members_of_change.Goals as goal
@@ -43,7 +43,7 @@ loop-read-preserved c =
           c.in_ok-push_read.ensures.added
           ∙ (ap (λ (b : List Plain). members_of c.loop-read.members ++ option_to_list (member_of_read_package b c.read-item.result)) same
           ∙ (ap (λ z. z ++ option_to_list (member_of_read_package before c.read-item.result)) c.loop-read.invariant.read
-          ∙ (ap (λ r. members_of_read_packages before (take c.loop-read.read-index c.deref-read-items.result.now) ++ option_to_list (member_of_read_package before r)) c.read-item.is
+          ∙ (ap (λ r. members_by_packages_before_and_reads before (take c.loop-read.read-index c.deref-read-items.result.now) ++ option_to_list (member_of_read_package before r)) c.read-item.is
           ∙ sym (one_more before c.deref-read-items.result.now c.loop-read.read-index c.read-item.result c.loop-read-test.true))));
       before = c.in_ok-push_read.ensures.before ∙ same;
     }
@@ -52,4 +52,4 @@ pub returns : goal.returns
 returns c =
     c.loop-read.invariant.read
     ∙ (all_taken (packages_of c.args.db.now) c.deref-read-items.result.now c.loop-read.read-index c.loop-read-test.false
-    ∙ ap (members_of_read_packages (packages_of c.args.db.now)) c.deref-read-items.ensures.value)
+    ∙ ap (members_by_packages_before_and_reads (packages_of c.args.db.now)) c.deref-read-items.ensures.value)

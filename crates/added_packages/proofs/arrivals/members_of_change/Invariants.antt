@@ -1,10 +1,10 @@
 use Rattle.std.proofs.Common.{◌≡◌, take}
 use Rattle.change_outcome.specs.db_core.Seen.{members_of, packages_of_old_database, packages_of}
-use Rattle.added_packages.specs.Arrivals.{members_of_read_packages}
+use Rattle.added_packages.specs.Arrivals.{members_by_packages_before_and_reads}
 use Rattle.added_packages.proofs.arrivals.members_of_change.Given as goal
 
 abbrev pub invariant-loop-read : goal.invariant-loop-read
 invariant-loop-read l = record {
-  read : members_of l.members ≡ members_of_read_packages (packages_of l.db) (take l.read-index l.read-items);
+  read : members_of l.members ≡ members_by_packages_before_and_reads (packages_of l.db) (take l.read-index l.read-items);
   before : packages_of_old_database l.members ≡ packages_of l.db;
 }
