@@ -27,7 +27,7 @@ use Rattle.command_core.specs.declared.values.ValueRule.{ValueRule}
 use Rattle.command_core.specs.Applets.{info_operand_rule, required_option_letter, operand_rule_if_needed_kind_flag_given, version_operand_rule}
 use Rattle.command_core.specs.Sound.{allowed_flags, may_have_flags, are_flags_allowed, has_at_most_one, is_count_within_limit}
 use Rattle.command_core.specs.Command.{CommandLine}
-use Rattle.command_core.specs.Flags.{has_flag, has_command_kind_flag, kinds, with_flag}
+use Rattle.command_core.specs.Flags.{has_flag, has_command_kind_flag, command_kind_flags, with_flag}
 use Rattle.command_core.specs.Operands.{at_least, exactly, place_of_first_refused_operand, is_operand_of_kind, operand_at, takes}
 use Rattle.command_core.specs.Values.{excludes, is_excluded_by_earlier_value, is_given, is_script_argument, is_value_of_kind, is_required_value_missing, option_value_from_place_letter_and_text, output_rule, script_type, script_types}
 use Rattle.words_core.specs.declared.reading.OptionState.{OptionState}
@@ -292,7 +292,7 @@ given_last place letter text (v ∷ vs) e = or_right (v.letter == letter) _ (giv
 -- flags of `version` without a kind of its own have none
 version_kinds : (flags : Flags) → may_have_flags Version flags ≡ true → flags.test ≡ false → flags.check ≡ false → has_command_kind_flag flags ≡ false
 version_kinds flags m t c =
-    let within = (and_parts (are_flags_allowed (allowed_flags Version) flags) (has_at_most_one kinds flags) m).0 in
+    let within = (and_parts (are_flags_allowed (allowed_flags Version) flags) (has_at_most_one command_kind_flags flags) m).0 in
     let no : (f : Flag) → has_flag f (allowed_flags Version) ≡ false → has_flag f flags ≡ false = λ f n. absent (has_flag f flags) (has_flag f (allowed_flags Version)) n (within_at (allowed_flags Version) flags f within) in
     let i : flags.installed ≡ false = no Installed refl in
     let o : flags.contents ≡ false = no Contents refl in
