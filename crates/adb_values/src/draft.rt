@@ -3,7 +3,7 @@
 //! "Canonical layout" ("Values are written depth first"); the limits below "A payload has at most".
 //! In which order calls are made is described in the README of this crate.
 
-ghost use Rattle.std.specs.Prelude.{◌≡◌, ℕ, ◌<◌, ◌≤◌, List, ◌∷◌, ◌++◌, [], length, take, true, false, IfOk, OnErr, OnOk, vec_capacity, vec_len};
+ghost use Rattle.std.specs.Prelude.{◌≡◌, ℕ, ◌<◌, ◌≤◌, List, ◌∷◌, ◌++◌, [], length, take, true, false, IfOk, IsOk, OnErr, OnOk, vec_capacity, vec_len};
 ghost use Rattle.adb_view.specs.Plain.{Plain, Plains, array_or_null, blob_or_null, int, null, trimmed_object_or_null};
 ghost use Rattle.adb_values.specs.Drafts.{empty_draft, draft_with_open_list, draft_with, draft_with_all, DraftState};
 ghost use Rattle.adb_values.specs.LastList.{last_open_list_start, last_word};
@@ -60,7 +60,10 @@ impl Draft {
     ///
     /// Out of memory.
     pub fn with_capacity(alloc: Global, bytes: usize) -> Result<Draft, AllocError>
-        ensures { IfOk result (λ draft. draft ≡ empty_draft) }
+        // On Ok, the draft has no value.
+        ensures empty { IfOk result (λ draft. draft ≡ empty_draft) }
+        // No memory is needed for no bytes.
+        ensures succeeds { bytes ≡ 0 → IsOk result }
     {
         let writer = Writer::with_capacity(alloc, bytes)?;
         Ok(Draft {
