@@ -18,7 +18,7 @@ use Rattle.path_claims.proofs.ClaimOrder.{claims_total}
 use Rattle.path_claims.proofs.Owned.{ties_path}
 use Rattle.path_claims.specs.Seen.{claim_seen}
 use Rattle.path_claims.specs.declared.claim.Claim.{Claim}
-use Rattle.path_claims.proofs.Places.{map_len, no_some, seen_at}
+use Rattle.path_claims.proofs.Places.{map_len, no_some, seen_at, value_or}
 use Rattle.path_claims.proofs.Runs.{front_below}
 use Rattle.path_claim_lists.specs.Once.{HasFirstClaimOfEachPath}
 use Rattle.path_claim_lists.proofs.Lists.{found_both, found_is, found_some, or_found, take_at, take_whole}
@@ -133,6 +133,29 @@ not_more cs fs (suc i) l s h = go (slice_get cs i) (slice_get cs (suc i)) refl r
                 let is : d.path ≡ q = (bytes_decides d.path c.path).0 same ∙ (bytes_decides c.path q).0 e in
                 by_found q (find (is_claim_of_path q) (take (suc i) cs)) (Some c) (found_some (is_claim_of_path q) (take (suc i) cs) i d (last_of cs i d ea) ((bytes_decides d.path q).1 is))
             by_path false e = nothing_more (find (is_claim_of_path q) (take (suc i) cs))
+
+-- of two neighbours in claims of distinct paths in byte order, the first one has the earlier path
+neighbours_rise : (cs : List PathClaim) (i : ℕ) (d c : PathClaim) → Names.Rises (paths cs) → slice_get cs i ≡ Some d → slice_get cs (suc i) ≡ Some c → Names.order d.path c.path ≡ Less
+neighbours_rise [] i d c up g k = absurd (no_some d g)
+neighbours_rise (x ∷ []) zero d c up g k = absurd (no_some c k)
+neighbours_rise (x ∷ y ∷ ys) zero d c up g k =
+    let a : x ≡ d = ap (value_or x) g in
+    let b : y ≡ c = ap (value_or y) k in
+    subst (λ z. Names.order z.path c.path ≡ Less) a (subst (λ z. Names.order x.path z.path ≡ Less) b (up.0 y.path (inl refl)))
+neighbours_rise (x ∷ xs) (suc i) d c up g k = neighbours_rise xs i d c up.1 g k
+
+-- claims one of which is not the first one of its path are not the first ones of each path
+pub repeats_a_path : (cs : List PathClaim) (i : ℕ) → is_first_of_path cs i ≡ false → HasFirstClaimOfEachPath cs cs → ⊥
+repeats_a_path cs zero s h = true≢false s
+repeats_a_path cs (suc i) s h = go (slice_get cs i) (slice_get cs (suc i)) refl refl
+  where
+    go : (a b : Option PathClaim) → slice_get cs i ≡ a → slice_get cs (suc i) ≡ b → ⊥
+    go None b ea eb = true≢false (sym (λ n. differ_in_path (ea n) (eb n)) ∙ s)
+    go (Some d) None ea eb = true≢false (sym (λ n. differ_in_path (ea n) (eb n)) ∙ s)
+    go (Some d) (Some c) ea eb =
+        let same : bytes_eq d.path c.path ≡ true = not-false (bytes_eq d.path c.path) (sym (λ n. differ_in_path (ea n) (eb n)) ∙ s) in
+        let is : d.path ≡ c.path = (bytes_decides d.path c.path).0 same in
+        Names.not_itself d.path (subst (λ p. Names.order d.path p ≡ Less) (sym is) (neighbours_rise cs i d c (Names.rises_from_pairs (paths cs) h.rising) ea eb))
 
 pub firsts_whole : (cs fs : List PathClaim) (i : ℕ) → length cs ≤ i → HasFirstClaimOfEachPath (take i cs) fs → HasFirstClaimOfEachPath cs fs
 firsts_whole cs fs i l h = subst (λ xs. HasFirstClaimOfEachPath xs fs) (take_whole cs i l) h

@@ -4,7 +4,7 @@
 //! which bytes are a name. These calls are general operations on sorted claims: their contracts are
 //! their whole specification.
 
-ghost use Rattle.std.specs.Prelude.{◌≡◌, ◌<◌, ◌≤◌, true, false, length, map, option_and_then, slice_get, IfSome, IfOk};
+ghost use Rattle.std.specs.Prelude.{◌≡◌, ◌<◌, ◌≤◌, true, false, length, map, option_and_then, slice_get, IfSome, IfOk, IsOk};
 ghost use Rattle.std.specs.List.{find};
 ghost use Rattle.std.specs.List.Sorted.{IsPartitionPoint, IsSorted};
 ghost use Rattle.base_core.specs.ByteOrder.{precedes};
@@ -134,9 +134,12 @@ pub fn one_of_each_path<'a>(
     // The claims are in byte order of their paths.
     requires { IsSorted claim_cmp (map claim_seen claims.items) }
     // On Ok, the result has the first claim of each path, in byte order of the paths.
-    ensures { IfOk result
+    ensures firsts { IfOk result
         (λ firsts. HasFirstClaimOfEachPath (map claim_seen claims.entry.items)
         (map claim_seen firsts.items)) }
+    // If each path has one claim, the call needs no memory, and succeeds.
+    ensures succeeds { HasFirstClaimOfEachPath (map claim_seen claims.entry.items)
+        (map claim_seen claims.entry.items) → IsOk result }
 {
     if has_one_claim_of_each_path(&claims) {
         return Ok(claims);
@@ -149,8 +152,11 @@ fn has_one_claim_of_each_path(claims: &[Claim<'_>]) -> bool
     // The claims are in byte order of their paths.
     requires { IsSorted claim_cmp (map claim_seen claims.now) }
     // If so, the claims are the first ones of their paths.
-    ensures { result ≡ true
+    ensures firsts { result ≡ true
         → HasFirstClaimOfEachPath (map claim_seen claims.now) (map claim_seen claims.now) }
+    // If not, the claims are not the first ones of their paths, since a path has two claims.
+    ensures exact { result ≡ false
+        → HasFirstClaimOfEachPath (map claim_seen claims.now) (map claim_seen claims.now) → ⊥ }
 {
     for i in 0..claims.len() {
         if !begins_path(claims, i) {

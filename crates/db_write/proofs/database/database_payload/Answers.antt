@@ -8,9 +8,9 @@ use Rattle.db_write.proofs.database.database_payload.Goals as goal
 pub returns-clause-written : goal.returns-clause-written
 returns-clause-written c =
     let v : Plain = database_value (members_of c.args.members.now) c.args.flags.now in
-    c.finish.ensures.written v (c.in_ok-write_database.ensures ∙ ap (λ (d : DraftState). draft_with v d) c.in_ok-draft.ensures)
+    c.finish.ensures.written v (c.in_ok-write_database.ensures ∙ ap (λ (d : DraftState). draft_with v d) c.in_ok-draft.ensures.empty)
 
 pub returns-clause-small : goal.returns-clause-small
 returns-clause-small c =
     let v : Plain = database_value (members_of c.args.members.now) c.args.flags.now in
-    c.finish.ensures.short v (c.in_ok-write_database.ensures ∙ ap (λ (d : DraftState). draft_with v d) c.in_ok-draft.ensures)
+    c.finish.ensures.short v (c.in_ok-write_database.ensures ∙ ap (λ (d : DraftState). draft_with v d) c.in_ok-draft.ensures.empty)

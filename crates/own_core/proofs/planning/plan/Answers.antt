@@ -43,7 +43,7 @@ plan_of_claims-requires-clause-claims g c =
       purge = c.args.purge;
     } in
     let claims : HasClaimsOfPackages change = has_claims change c.listed_paths_are_names.ensures c.listed_paths_are_names-2.ensures (map claim_seen c.in_ok-listed.listed.items) c.in_ok-listed.ensures
-    (subst (λ (xs : List Claim). HasFirstClaimOfEachPath (map claim_seen c.in_ok-listed.listed.items) (map claim_seen xs)) (sym c.deref-2.ensures.value) c.in_ok-before.ensures)
+    (subst (λ (xs : List Claim). HasFirstClaimOfEachPath (map claim_seen c.in_ok-listed.listed.items) (map claim_seen xs)) (sym c.deref-2.ensures.value) c.in_ok-before.ensures.firsts)
     (ap (map claim_seen) c.deref-3.ensures.value ∙ c.in_ok-found.ensures.claims) in
     claims
 
