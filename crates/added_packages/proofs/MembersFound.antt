@@ -16,7 +16,7 @@ use Rattle.dep_core.specs.Repositories.{Repository}
 use Rattle.change_outcome.specs.make_info.Reads.{Reads}
 use Rattle.change_outcome.specs.package_files.Runs.{HoldsOfSomeReadsOfTree}
 use Rattle.change_outcome.specs.package_changes.Changes.{change_of_name, is_candidate_named, names_before_and_selected}
-use Rattle.change_outcome.specs.package_changes.Placed.{PlacedName, ReplacementWithSelectionAsPlaces, candidates_at, candidate_at_new_place, package_at_old_place, placed_name_of, placed_names_of, replacement_of}
+use Rattle.change_outcome.specs.package_changes.Placed.{PlacedName, ReplacementWithSelectionAsPlaces, candidates_at, candidate_at_new_place, package_at_old_place, name_with_change_and_old_and_pool_place, names_with_change_and_old_and_pool_place, replacement_of}
 use Rattle.change_outcome.specs.candidate_core.Rank.{SelectionProblem}
 use Rattle.report_core.specs.declared.refusal.Refusal as Refusals
 use Rattle.added_packages.specs.Answered.{DenotesUnlessDisk}
@@ -28,34 +28,34 @@ use Rattle.added_packages.proofs.ReadMembers.{can_be}
 
 -- where the places of a name lead
 pub record PlacesLead : Type 0 where
-  pub name : (p : ReplacementWithSelectionAsPlaces) (name : List ℕ) → (placed_name_of p name).name ≡ name
-  pub change : (p : ReplacementWithSelectionAsPlaces) (name : List ℕ) → (placed_name_of p name).change ≡ change_of_name (replacement_of p) name
-  pub old : (p : ReplacementWithSelectionAsPlaces) (name : List ℕ) → package_at_old_place p.before (placed_name_of p name) ≡ find (is_package_named name) p.before
-  pub new : (p : ReplacementWithSelectionAsPlaces) (name : List ℕ) → candidate_at_new_place p.pool (placed_name_of p name) ≡ find (is_candidate_named name) (candidates_at p.pool p.trace)
+  pub name : (p : ReplacementWithSelectionAsPlaces) (name : List ℕ) → (name_with_change_and_old_and_pool_place p name).name ≡ name
+  pub change : (p : ReplacementWithSelectionAsPlaces) (name : List ℕ) → (name_with_change_and_old_and_pool_place p name).change ≡ change_of_name (replacement_of p) name
+  pub old : (p : ReplacementWithSelectionAsPlaces) (name : List ℕ) → package_at_old_place p.before (name_with_change_and_old_and_pool_place p name) ≡ find (is_package_named name) p.before
+  pub new : (p : ReplacementWithSelectionAsPlaces) (name : List ℕ) → candidate_at_new_place p.pool (name_with_change_and_old_and_pool_place p name) ≡ find (is_candidate_named name) (candidates_at p.pool p.trace)
 
 module _ (law : PlacesLead) (p : ReplacementWithSelectionAsPlaces) (repositories : List Repository) (no_scripts : Bool) where
-  one_name : (read : Reads) (n : ℕ) (name : List ℕ) → member_of_name_after (replacement_of p) read repositories no_scripts n name ≡ member_of_name_by_read p.before p.pool repositories no_scripts (placed_name_of p name) read n
+  one_name : (read : Reads) (n : ℕ) (name : List ℕ) → member_of_name_after (replacement_of p) read repositories no_scripts n name ≡ member_of_name_by_read p.before p.pool repositories no_scripts (name_with_change_and_old_and_pool_place p name) read n
   one_name read n name =
-      let e0 : name ≡ (placed_name_of p name).name = sym (law.name p name) in
-      let e1 : change_of_name (replacement_of p) name ≡ (placed_name_of p name).change = sym (law.change p name) in
-      let e2 : find (is_package_named name) p.before ≡ package_at_old_place p.before (placed_name_of p name) = sym (law.old p name) in
-      let e3 : find (is_candidate_named name) (candidates_at p.pool p.trace) ≡ candidate_at_new_place p.pool (placed_name_of p name) = sym (law.new p name) in
+      let e0 : name ≡ (name_with_change_and_old_and_pool_place p name).name = sym (law.name p name) in
+      let e1 : change_of_name (replacement_of p) name ≡ (name_with_change_and_old_and_pool_place p name).change = sym (law.change p name) in
+      let e2 : find (is_package_named name) p.before ≡ package_at_old_place p.before (name_with_change_and_old_and_pool_place p name) = sym (law.old p name) in
+      let e3 : find (is_candidate_named name) (candidates_at p.pool p.trace) ≡ candidate_at_new_place p.pool (name_with_change_and_old_and_pool_place p name) = sym (law.new p name) in
       λ i. member_of_name_by_change read repositories no_scripts n (e0 i) (e1 i) (e2 i) (e3 i)
 
-  each_name : (read : Reads) (n : ℕ) (names : List (List ℕ)) → members_of_names_after (replacement_of p) read repositories no_scripts n names ≡ names_read p.before p.pool repositories no_scripts read n (map (placed_name_of p) names)
+  each_name : (read : Reads) (n : ℕ) (names : List (List ℕ)) → members_of_names_after (replacement_of p) read repositories no_scripts n names ≡ names_read p.before p.pool repositories no_scripts read n (map (name_with_change_and_old_and_pool_place p) names)
   each_name read n [] = refl
   each_name read n (name ∷ names) =
-      let here : member_of_name_after (replacement_of p) read repositories no_scripts n name ≡ member_of_name_by_read p.before p.pool repositories no_scripts (placed_name_of p name) read n = one_name read n name in
-      let rest : members_of_names_after (replacement_of p) read repositories no_scripts (suc n) names ≡ names_read p.before p.pool repositories no_scripts read (suc n) (map (placed_name_of p) names) = each_name read (suc n) names in
+      let here : member_of_name_after (replacement_of p) read repositories no_scripts n name ≡ member_of_name_by_read p.before p.pool repositories no_scripts (name_with_change_and_old_and_pool_place p name) read n = one_name read n name in
+      let rest : members_of_names_after (replacement_of p) read repositories no_scripts (suc n) names ≡ names_read p.before p.pool repositories no_scripts read (suc n) (map (name_with_change_and_old_and_pool_place p) names) = each_name read (suc n) names in
       λ i. and_then (here i) (λ first. and_then (rest i) (λ others. Ok (cons_option first others)))
 
-  pub members_are : (read : Reads) (names : List PlacedName) → names ≡ placed_names_of p → members_after (replacement_of p) read repositories no_scripts ≡ names_read p.before p.pool repositories no_scripts read (first_index_read_number + length repositories) names
-  unfolding members_after placed_names_of
+  pub members_are : (read : Reads) (names : List PlacedName) → names ≡ names_with_change_and_old_and_pool_place p → members_after (replacement_of p) read repositories no_scripts ≡ names_read p.before p.pool repositories no_scripts read (first_index_read_number + length repositories) names
+  unfolding members_after names_with_change_and_old_and_pool_place
   members_are read names are =
       each_name read (first_index_read_number + length repositories) (names_before_and_selected (replacement_of p))
       ∙ ap (names_read p.before p.pool repositories no_scripts read (first_index_read_number + length repositories)) (sym are)
 
-  module _ {A : Type 0} (reads_of : A → List MemberRead) (h : List TreeState) (names : List PlacedName) (are : names ≡ placed_names_of p) where
+  module _ {A : Type 0} (reads_of : A → List MemberRead) (h : List TreeState) (names : List PlacedName) (are : names ≡ names_with_change_and_old_and_pool_place p) where
     abbrev pub IsExplained : Result A Refused → Type 0
     IsExplained r = HoldsOfSomeReadsOfTree h (λ read. DenotesUnlessDisk (λ a found. AreMembersFoundFromOldPackagesAndReads h p.before (reads_of a) found) r (members_after (replacement_of p) read repositories no_scripts))
 
@@ -103,7 +103,7 @@ module _ (law : PlacesLead) (p : ReplacementWithSelectionAsPlaces) (repositories
         }
 
 -- the packages that were read can be members
-pub can_be_members : PlacesLead → (p : ReplacementWithSelectionAsPlaces) (repositories : List Repository) (no_scripts : Bool) (h : List TreeState) (names : List PlacedName) → names ≡ placed_names_of p → (i : ℕ) (reads : List MemberRead) → length names ≤ i
+pub can_be_members : PlacesLead → (p : ReplacementWithSelectionAsPlaces) (repositories : List Repository) (no_scripts : Bool) (h : List TreeState) (names : List PlacedName) → names ≡ names_with_change_and_old_and_pool_place p → (i : ℕ) (reads : List MemberRead) → length names ≤ i
     → IsReadTo p.before p.pool repositories no_scripts h (first_index_read_number + length repositories) names i reads → length p.pool.candidates ≤ MOST_MEMBERS → CanBeMembers p.before reads
 can_be_members law p repositories no_scripts h names are i reads past so_far few =
     let all = read_all p.before p.pool repositories no_scripts h (first_index_read_number + length repositories) names i reads past so_far in

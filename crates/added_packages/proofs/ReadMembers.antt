@@ -11,7 +11,7 @@ use Rattle.change_outcome.specs.db_core.declared.members.TheConstants.{MOST_MEMB
 use Rattle.dep_core.specs.Repositories.{Repository}
 use Rattle.change_outcome.specs.make_info.Reads.{Reads}
 use Rattle.change_outcome.specs.package_changes.Placed.{ReplacementWithSelectionAsPlaces, replacement_of}
-use Rattle.added_packages.specs.Arrivals.{AreMembersFoundFromOldPackagesAndReads, HavePlacesIfKept, CanBeMembers, IsTestedPackageOfMember, IsMemberRead, IsPackageRead, HasPlaceIfKept, member_of_read_package, members_by_packages_before_and_reads, added_package_in_member_read}
+use Rattle.added_packages.specs.Arrivals.{AreMembersFoundFromOldPackagesAndReads, HavePlacesIfKept, CanBeMembers, IsTestedPackageWithContentsOfMember, IsMemberRead, IsPackageRead, HasPlaceIfKept, member_of_read_package, members_by_packages_before_and_reads, added_package_in_member_read}
 use Rattle.package_verifier.specs.Tested.{tested_id, tested_value}
 use Rattle.package_verifier.specs.declared.package.TestedPackage.{TestedPackage}
 use Rattle.added_packages.specs.declared.arrivals.MemberRead.{MemberRead}
@@ -65,7 +65,7 @@ module _ (h : List TreeState) (before : List Plain) where
   all_placed (r ∷ reads) [] are = absurd are
   all_placed (r ∷ reads) (m ∷ found) are = (one_placed r m are.0, all_placed reads found are.1)
 
-  pub file_found : (reads : List MemberRead) (found : List MemberFound) → AreMembersFoundFromOldPackagesAndReads h before reads found → (place : ℕ) (pkg : TestedPackage) → slice_get reads place ≡ Some (Comes pkg) → IsTestedPackageOfMember h found place pkg
+  pub file_found : (reads : List MemberRead) (found : List MemberFound) → AreMembersFoundFromOldPackagesAndReads h before reads found → (place : ℕ) (pkg : TestedPackage) → slice_get reads place ≡ Some (Comes pkg) → IsTestedPackageWithContentsOfMember h found place pkg
   file_found [] [] are place pkg here = absurd (cc)
   file_found [] (m ∷ found) are place pkg here = absurd are
   file_found (r ∷ reads) [] are place pkg here = absurd are
@@ -73,7 +73,7 @@ module _ (h : List TreeState) (before : List Plain) where
       let same : r ≡ Comes pkg = cc in
       go (subst (λ z. IsMemberRead h before z m) same are.0)
     where
-      go : (coming : AddedPackage) × IsPackageRead h pkg coming × (m ≡ added_member_found coming) → IsTestedPackageOfMember h (m ∷ found) 0 pkg
+      go : (coming : AddedPackage) × IsPackageRead h pkg coming × (m ≡ added_member_found coming) → IsTestedPackageWithContentsOfMember h (m ∷ found) 0 pkg
       go (coming, r, is) = record {
         file = r.file;
         located = r.located;
@@ -102,7 +102,7 @@ comes_here None pkg is = absurd (cc)
 comes_here (Some (Stays place)) pkg is = absurd (cc)
 comes_here (Some (Comes p)) pkg is = let same : p ≡ pkg = cc in ap (λ z. Some (Comes z)) same
 
-pub file_of_package : (h : List TreeState) (before : List Plain) (reads : List MemberRead) (found : List MemberFound) → AreMembersFoundFromOldPackagesAndReads h before reads found → (place : ℕ) (pkg : TestedPackage) → option_and_then added_package_in_member_read (slice_get reads place) ≡ Some pkg → IsTestedPackageOfMember h found place pkg
+pub file_of_package : (h : List TreeState) (before : List Plain) (reads : List MemberRead) (found : List MemberFound) → AreMembersFoundFromOldPackagesAndReads h before reads found → (place : ℕ) (pkg : TestedPackage) → option_and_then added_package_in_member_read (slice_get reads place) ≡ Some pkg → IsTestedPackageWithContentsOfMember h found place pkg
 file_of_package h before reads found are place pkg here = file_found h before reads found are place pkg (comes_here (slice_get reads place) pkg here)
 
 no_stay : (o : Option Plain) (m : MemberFound) → Some m ≡ option_map kept_member_found o → is_added m.member ≡ true → ⊥

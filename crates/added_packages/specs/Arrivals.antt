@@ -94,7 +94,8 @@ added_package_in_member_read (Comes pkg) = Some pkg
 
 -- The added package `pkg` is that of a file that passed its tests. The contents of this file are those found for the
 -- member at `place` (an index) of the found packages.
-pub record IsTestedPackageOfMember (history : List TreeState) (found : List MemberFound) (place : ℕ)
+pub record IsTestedPackageWithContentsOfMember (history : List TreeState) (found : List MemberFound)
+    (place : ℕ)
     (pkg : TestedPackage) : Type 0 where
   -- the bytes of the package's file
   pub file : List ℕ

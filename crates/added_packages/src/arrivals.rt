@@ -5,7 +5,7 @@
 //! names, the first with a bad file or a script that has to run.
 
 ghost use Rattle.added_packages.specs.Answered.{DenotesUnlessDisk};
-ghost use Rattle.added_packages.specs.Arrivals.{AreMembersFoundFromOldPackagesAndReads, CanBeMembers, arrivals_seen, HasPlaceIfKept, member_of_read_package, members_by_packages_before_and_reads, IsTestedPackageOfMember, added_package_in_member_read};
+ghost use Rattle.added_packages.specs.Arrivals.{AreMembersFoundFromOldPackagesAndReads, CanBeMembers, arrivals_seen, HasPlaceIfKept, member_of_read_package, members_by_packages_before_and_reads, IsTestedPackageWithContentsOfMember, added_package_in_member_read};
 ghost use Rattle.added_packages.specs.NameReads.{IsAnswerByRead, IsNameRead, IsReadOfKeptPackage, member_of_name_by_read};
 ghost use Rattle.base_core.specs.Read.{OnlyReads};
 ghost use Rattle.change_outcome.specs.change_inputs.Answers.{Agrees};
@@ -13,7 +13,7 @@ ghost use Rattle.change_outcome.specs.MembersAfter.{members_after, no_member_unl
 ghost use Rattle.change_outcome.specs.db_core.Seen.{packages_of_old_database, packages_of, members_of};
 ghost use Rattle.change_outcome.specs.db_core.declared.members.TheConstants.{MOST_MEMBERS};
 ghost use Rattle.change_outcome.specs.package_files.Runs.{HoldsOfSomeReadsOfTree};
-ghost use Rattle.change_outcome.specs.package_changes.Placed.{package_at_old_place, placed_names_of, replacement_of};
+ghost use Rattle.change_outcome.specs.package_changes.Placed.{package_at_old_place, names_with_change_and_old_and_pool_place, replacement_of};
 ghost use Rattle.change_outcome.specs.package_changes.Seen.{change_seen, placed_name_seen, placed_names_seen, placed_replacement_from_parts};
 ghost use Rattle.std.specs.Prelude.{◌≡◌, ◌≤◌, ◌==◌, ◌++◌, ℕ, List, None, length, IfOk, OnOk, option_copied, option_and_then, option_to_list, slice_get, ◌<◌, true, Some, ◌+◌, Bool, is_some};
 ghost use Rattle.change_outcome.specs.db_core.Members.{Member, is_after_members, member_name, is_added};
@@ -110,7 +110,8 @@ pub fn read_arrivals<T: Tree>(
     // made: the packages read are those that the definition `members_after` finds with some reads.
     ensures found { (trace : List ℕ) (again : List (List ℕ))
         → placed_names_seen names.now
-        ≡ placed_names_of (placed_replacement_from_parts db.now pool.now trace again)
+        ≡ names_with_change_and_old_and_pool_place
+        (placed_replacement_from_parts db.now pool.now trace again)
         → HoldsOfSomeReadsOfTree (T.history tree.old) (λ read. DenotesUnlessDisk (λ arrivals found.
         AreMembersFoundFromOldPackagesAndReads (T.history tree.old) (packages_of db.now)
         (arrivals_seen arrivals) found)
@@ -122,7 +123,8 @@ pub fn read_arrivals<T: Tree>(
     // are allowed: they are in byte order of names, and each kept one has a place in the database.
     ensures members { (trace : List ℕ) (again : List (List ℕ))
         → placed_names_seen names.now
-        ≡ placed_names_of (placed_replacement_from_parts db.now pool.now trace again)
+        ≡ names_with_change_and_old_and_pool_place
+        (placed_replacement_from_parts db.now pool.now trace again)
         → length pool.now.candidates ≤ MOST_MEMBERS
         → IfOk result (λ arrivals. CanBeMembers (packages_of db.now) (arrivals_seen arrivals)) }
     // The tree is only read, and `Disk` has a fault of the tree as its cause.
@@ -305,7 +307,7 @@ pub fn a_package_that_was_read_is_that_of_its_file()
         → AreMembersFoundFromOldPackagesAndReads history before reads found
         → (place : ℕ) (pkg : TestedPackage)
         → option_and_then added_package_in_member_read (slice_get reads place) ≡ Some pkg
-        → IsTestedPackageOfMember history found place pkg }
+        → IsTestedPackageWithContentsOfMember history found place pkg }
     // For each added member a package was read.
     ensures comes { (history : List TreeState) (before : List Plain) (reads : List MemberRead)
         (found : List MemberFound)

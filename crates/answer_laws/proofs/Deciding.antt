@@ -18,7 +18,7 @@ use Rattle.installed_info.specs.file_owners.Replaces.{package_version_text}
 use Rattle.change_outcome.specs.package_changes.Changes.{Replacement, change_between, change_of_name, is_candidate_named, candidate_version_text, change_by_is_same_and_is_again, version_change, version_text_cmp}
 use Rattle.report_core.specs.Reports.{Change, Downgrade, Reinstall, Replace, Upgrade}
 use Rattle.base_core.specs.Lists.{IsIn}
-use Rattle.answer_laws.specs.WhichChange.{AreOldAndRepositoryOneWithValidVersions, IsSameVersionAndId}
+use Rattle.answer_laws.specs.WhichChange.{AreOldAndRepositoryOneWithValidVersions, IsSameVersionAndIdByNonemptyPrefix}
 
 -- the change, by the test of the text, that of the id, whether the name is asked for again, and the order
 abbrev decided : List ℕ → List ℕ → List ℕ → Bool → Bool → Bool → Ordering → Option Change
@@ -138,26 +138,26 @@ downgrades r name pkg c both =
     (λ e. is.0 (sym t.change ∙ e), λ e. t.change ∙ is.1 e)
 
 -- the two tests say that the candidate is the package
-very : (pkg : Plain) (c : Candidate) → Both (bytes_eq (package_version_text pkg) (candidate_version_text c)) (is_same_id_by_nonempty_prefix (installed_id pkg) c.id) → IsSameVersionAndId pkg c
+very : (pkg : Plain) (c : Candidate) → Both (bytes_eq (package_version_text pkg) (candidate_version_text c)) (is_same_id_by_nonempty_prefix (installed_id pkg) c.id) → IsSameVersionAndIdByNonemptyPrefix pkg c
 very pkg c b = ((bytes_eq-Decides (package_version_text pkg) (candidate_version_text c)).0 b.0, b.1)
 
-tested : (pkg : Plain) (c : Candidate) → IsSameVersionAndId pkg c → Both (bytes_eq (package_version_text pkg) (candidate_version_text c)) (is_same_id_by_nonempty_prefix (installed_id pkg) c.id)
+tested : (pkg : Plain) (c : Candidate) → IsSameVersionAndIdByNonemptyPrefix pkg c → Both (bytes_eq (package_version_text pkg) (candidate_version_text c)) (is_same_id_by_nonempty_prefix (installed_id pkg) c.id)
 tested pkg c v = ((bytes_eq-Decides (package_version_text pkg) (candidate_version_text c)).1 v.0, v.1)
 
 pub replaces : Kind (λ r name pkg c. (change_of_name r name ≡ Some (Replace name (package_version_text pkg) (candidate_version_text c)))
-    ↔ ((version_cmp (package_version_text pkg) (candidate_version_text c) ≡ Equal) × (IsSameVersionAndId pkg c → ⊥)))
+    ↔ ((version_cmp (package_version_text pkg) (candidate_version_text c) ≡ Equal) × (IsSameVersionAndIdByNonemptyPrefix pkg c → ⊥)))
 replaces r name pkg c both =
     let t = tests r name pkg c both in
     let is = is_replace name (package_version_text pkg) (candidate_version_text c) (bytes_eq (package_version_text pkg) (candidate_version_text c)) (is_same_id_by_nonempty_prefix (installed_id pkg) c.id) (list_any (bytes_eq name) r.again) (version_cmp (package_version_text pkg) (candidate_version_text c)) in
     (λ e. let u = is.0 (sym t.change ∙ e) in (u.0, λ v. u.1 (tested pkg c v)), λ e. t.change ∙ is.1 (e.0, λ b. e.1 (very pkg c b)))
 
-pub reinstalls : Kind (λ r name pkg c. (change_of_name r name ≡ Some (Reinstall name (candidate_version_text c))) ↔ (IsSameVersionAndId pkg c × IsIn name r.again))
+pub reinstalls : Kind (λ r name pkg c. (change_of_name r name ≡ Some (Reinstall name (candidate_version_text c))) ↔ (IsSameVersionAndIdByNonemptyPrefix pkg c × IsIn name r.again))
 reinstalls r name pkg c both =
     let t = tests r name pkg c both in
     let is = is_reinstall name (package_version_text pkg) (candidate_version_text c) (bytes_eq (package_version_text pkg) (candidate_version_text c)) (is_same_id_by_nonempty_prefix (installed_id pkg) c.id) (list_any (bytes_eq name) r.again) (version_cmp (package_version_text pkg) (candidate_version_text c)) in
     (λ e. let u = is.0 (sym t.change ∙ e) in (very pkg c u.0, listed name r.again u.1), λ e. t.change ∙ is.1 (tested pkg c e.0, is_listed name r.again e.1))
 
-pub keeps : Kind (λ r name pkg c. (change_of_name r name ≡ None) ↔ (IsSameVersionAndId pkg c × (IsIn name r.again → ⊥)))
+pub keeps : Kind (λ r name pkg c. (change_of_name r name ≡ None) ↔ (IsSameVersionAndIdByNonemptyPrefix pkg c × (IsIn name r.again → ⊥)))
 keeps r name pkg c both =
     let t = tests r name pkg c both in
     let is = is_kept name (package_version_text pkg) (candidate_version_text c) (bytes_eq (package_version_text pkg) (candidate_version_text c)) (is_same_id_by_nonempty_prefix (installed_id pkg) c.id) (list_any (bytes_eq name) r.again) (version_cmp (package_version_text pkg) (candidate_version_text c)) in

@@ -7,12 +7,12 @@ use Rattle.base_core.proofs.Rising as rising
 use Rattle.base_core.specs.Listed.{AreSortedDistinctTexts}
 use Rattle.base_core.specs.Lists.{IsIn}
 use Rattle.change_outcome.proofs.change_files.InOrder.{filter_rises, order_rises}
-use Rattle.change_outcome.specs.Triggers.{due_trigger_line, due_trigger_lines_for_folders, folders_of_paths, has_due_trigger, is_trigger_due, trigger_lines, unless_trigger_due}
+use Rattle.change_outcome.specs.Triggers.{line_saying_trigger_is_due, due_trigger_lines_for_folders, folders_of_paths, has_due_trigger, is_trigger_due, trigger_lines, unless_trigger_due}
 use Rattle.change_outcome.specs.db_core.Members.{Member, member_name}
 use Rattle.change_outcome.specs.package_files.Folders.{folder_of}
 use Rattle.report_core.specs.Reports.{report_line, report_lines, trigger_due_for_folder_text}
 use Rattle.report_core.specs.declared.refusal.Refusal.TheVariants.{TriggerNeeded}
-use Rattle.answer_laws.specs.DueTriggers.{HasDueTriggerLines, IsTriggerDueFor, IsFirstPackageWithDueTrigger, HasTriggerWatchingFolder}
+use Rattle.answer_laws.specs.DueTriggers.{HasDueTriggerLines, IsTriggerDueFor, IsFirstPackageWithDueTrigger, HasTriggerScriptAndWatchesFolder}
 use Rattle.answer_laws.proofs.Tests.{any_passes, in_passing, passes_any, passing_in}
 use Rattle.answer_laws.proofs.Watched.{due_is, folders_are}
 
@@ -35,9 +35,9 @@ due_each paths m folder = (
 
 -- ---- the text
 
-lines_of_one : (m : Member) (folders : List (List ℕ)) → flat_map (due_trigger_line m.pkg) folders ≡ report_lines (map (trigger_due_for_folder_text (member_name m)) folders)
+lines_of_one : (m : Member) (folders : List (List ℕ)) → flat_map (line_saying_trigger_is_due m.pkg) folders ≡ report_lines (map (trigger_due_for_folder_text (member_name m)) folders)
 lines_of_one m [] = refl
-lines_of_one m (folder ∷ folders) = ap (λ (t : List ℕ). due_trigger_line m.pkg folder ++ t) (lines_of_one m folders)
+lines_of_one m (folder ∷ folders) = ap (λ (t : List ℕ). line_saying_trigger_is_due m.pkg folder ++ t) (lines_of_one m folders)
 
 abbrev due_texts : List (List ℕ) → Member → List (List ℕ)
 due_texts paths m = map (trigger_due_for_folder_text (member_name m)) (due_folders paths m)
@@ -78,8 +78,8 @@ none_due paths m e folder due =
 none_of : (paths : List (List ℕ)) (m n : Member) → n ≡ m → NoneDue paths m → NoneDue paths n
 none_of paths m n same none folder due = none folder (record { file = due.file; triggered = moved })
   where
-    moved : HasTriggerWatchingFolder m.pkg folder
-    moved = subst (λ (x : Member). HasTriggerWatchingFolder x.pkg folder) same due.triggered
+    moved : HasTriggerScriptAndWatchesFolder m.pkg folder
+    moved = subst (λ (x : Member). HasTriggerScriptAndWatchesFolder x.pkg folder) same due.triggered
 
 pub accepted : (paths : List (List ℕ)) (members : List Member) → (unless_trigger_due false paths members ≡ Ok true) ↔ ((m : Member) → IsIn m members → NoneDue paths m)
 accepted paths [] = (λ e m at. absurd at, λ f. refl)

@@ -12,7 +12,7 @@ use Rattle.base_core.specs.declared.cause.Digest.TheVariants.{Sha1, Sha256, Sha5
 use Rattle.adb_view.specs.Plain.{Plain}
 use Rattle.audit_core.specs.file_guard.AsListed.{are_sizes_hashes_targets_equal, file_hash, file_size, file_target, is_as_listed, is_as_listed_by_size_hash_target, link_file_bytes_of_target}
 use Rattle.audit_core.specs.file_guard.pkg_core.Contents.{fault_if_wanted_and_found_digests_differ, fault_if_digest_is_not_of_bytes}
-use Rattle.answer_laws.specs.EntryFields.{GiveSameSizeDigestAndTarget, HasDigestIfLengthIsKnown, IsTargetFieldOfSymlinkMarkedBytes, digest_field_of_entry, size_field_of_entry, target_field_of_entry}
+use Rattle.answer_laws.specs.EntryFields.{GiveSameSizeDigestAndTarget, HasDigestIfLengthIsKnown, MakesBytesAsTargetAfterSymlinkMark, digest_field_of_entry, size_field_of_entry, target_field_of_entry}
 
 -- ---- two entries
 
@@ -35,7 +35,7 @@ entries_agree a b = (
 
 -- ---- a link
 
-link_by : (size : ℕ) (hash target bytes : List ℕ) → target ≢ [] → (is_as_listed_by_size_hash_target size hash target bytes ≡ true) ↔ IsTargetFieldOfSymlinkMarkedBytes target bytes
+link_by : (size : ℕ) (hash target bytes : List ℕ) → target ≢ [] → (is_as_listed_by_size_hash_target size hash target bytes ≡ true) ↔ MakesBytesAsTargetAfterSymlinkMark target bytes
 unfolding is_as_listed_by_size_hash_target
 link_by size hash [] bytes some = absurd (some refl)
 link_by size hash (x ∷ target) bytes some = rw (ne_eqb (length (x ∷ target)) 0 (λ e. omega arith)) (bytes_eq-Decides bytes (link_file_bytes_of_target (x ∷ target)))
@@ -117,7 +117,7 @@ neither_by size hash target bytes none none_too = rw (none, none_too) (
 
 -- ---- of an entry
 
-pub link : (entry : Plain) (bytes : List ℕ) → target_field_of_entry entry ≢ [] → (is_as_listed entry bytes ≡ true) ↔ IsTargetFieldOfSymlinkMarkedBytes (target_field_of_entry entry) bytes
+pub link : (entry : Plain) (bytes : List ℕ) → target_field_of_entry entry ≢ [] → (is_as_listed entry bytes ≡ true) ↔ MakesBytesAsTargetAfterSymlinkMark (target_field_of_entry entry) bytes
 link entry bytes = link_by (file_size entry) (file_hash entry) (file_target entry) bytes
 
 pub hashed : (entry : Plain) (bytes : List ℕ) → target_field_of_entry entry ≡ [] → digest_field_of_entry entry ≢ [] → (is_as_listed entry bytes ≡ true) ↔ HasDigestIfLengthIsKnown (digest_field_of_entry entry) bytes

@@ -20,7 +20,7 @@ use Rattle.query_core.specs.Order.{printed_version, candidate_places_cmp, sorted
 use Rattle.query_core.specs.Policy.{has_own_name_and_version_text, has_own_name, is_of_repository, policy_report, lines_of_repositories_of_candidates, version_policy, sorted_distinct_versions_of_name}
 use Rattle.query_core.specs.Search.{is_search_candidate, search_report}
 use Rattle.report_core.specs.QueryReports.{policy_database_line, policy_heading, policy_repository_line, search_line, policy_version_heading}
-use Rattle.answer_laws.specs.QueryLines.{HasLinesOfSortedAskedCandidates, HasNameAndVersion, HasPolicyLinesOfVersionOrNoVersion, IsInListReportByInstalledFlag, IsSearchHitInRepositoryBySomePattern, IsVersionInRepository, IsVersionInstalled, line_at, repository_line_at}
+use Rattle.answer_laws.specs.QueryLines.{HasLinesOfSortedAskedCandidates, HasNameAndVersion, HasPolicyLinesOfOneVersionOrOfUnversioned, IsInListReportByInstalledFlag, IsSearchHitInRepositoryBySomePattern, IsVersionInRepository, IsVersionInstalled, line_at, repository_line_at}
 
 -- ---- the lines of places
 
@@ -242,7 +242,7 @@ rising those number place (r ∷ rs) e =
     rising_next place (places_of those (number + 1) (suc place) rs) (comes_before those number place rs e)
     (rising those (number + 1) (suc place) rs (omega (arith, e))) (list_any (is_of_repository number) those)
 
-pub places_told : (cs : List Candidate) (repositories : List Repository) (name : List ℕ) (version : Option (List ℕ)) → HasPolicyLinesOfVersionOrNoVersion cs repositories name version (version_policy cs repositories name version)
+pub places_told : (cs : List Candidate) (repositories : List Repository) (name : List ℕ) (version : Option (List ℕ)) → HasPolicyLinesOfOneVersionOrOfUnversioned cs repositories name version (version_policy cs repositories name version)
 places_told cs repositories name version =
     record {
       database = if list_any (λ (c : Candidate). c.installed) (filter (has_own_name_and_version_text name version) cs) then policy_database_line else [];

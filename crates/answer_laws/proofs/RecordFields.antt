@@ -23,7 +23,7 @@ use Rattle.change_outcome.specs.v2_lines.declared.field.InfoField.TheVariants as
 use Rattle.change_outcome.specs.v2_core.Database.{array_of_field_values, record_info_value, record_value, value_of_single_line_field, value_of_first_or_null, value_of_line, values_if_line_of_field}
 use Rattle.change_outcome.specs.v2_core.Reading.{record_with_text_line}
 use Rattle.change_outcome.specs.v2_core.Records.{InfoLine, ListedFolder, Record, has_line_of_field, info_line_from_parts, is_line_of_field, record_if_both_parts, with_info_values, with_info_line, with_path_line, with_record_line}
-use Rattle.answer_laws.specs.TextLetters.{LinesGiveFieldValues, HasFieldValuesOfLines, is_list_letter, letter_value_in_package, record_with_lines}
+use Rattle.answer_laws.specs.TextLetters.{LinesGiveFieldValues, HasFieldValuesOfLinesWithItsLetter, is_list_letter, letter_value_in_package, record_with_lines}
 use Rattle.std.proofs.lemmas.Bool.{eq-eqb}
 use Rattle.adb_view.specs.Plain.{Plains}
 use Rattle.adb_view.specs.declared.tables.Which.TheVariants.{Package, PkgInfo}
@@ -281,7 +281,7 @@ unfolding Tells
 nothing_told f = refl
 
 module _ (spelled : (t : List ℕ) (d : Dependency) → dependency_of t ≡ Some d → SpellsDependency t d) (read : (t : List ℕ) (d : Dependency) → SpellsDependency t d → dependency_of t ≡ Some d) where
-  pub letters_tell : (lines : List (List ℕ)) (r : Record) (f : InfoField) → record_with_lines empty_record lines ≡ Some r → HasFieldValuesOfLines f lines (record_value r)
+  pub letters_tell : (lines : List (List ℕ)) (r : Record) (f : InfoField) → record_with_lines empty_record lines ≡ Some r → HasFieldValuesOfLinesWithItsLetter f lines (record_value r)
   letters_tell lines r f e = record {
     said = flat_map (given f) lines;
     say = say_lines spelled read f lines empty_record r e;

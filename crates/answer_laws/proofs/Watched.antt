@@ -17,7 +17,7 @@ use Rattle.change_outcome.specs.package_files.Folders.{folder_of}
 use Rattle.report_core.specs.Numbers.{TRIGGER_SCRIPT}
 use Rattle.change_outcome.specs.star_patterns.Fills.{MatchesByFillingStars}
 use Rattle.change_outcome.specs.star_patterns.Patterns.{is_whole_text_matched}
-use Rattle.answer_laws.specs.DueTriggers.{HasFileDirectlyInFolder, MatchesFolderByParts, HasTriggerWatchingFolder}
+use Rattle.answer_laws.specs.DueTriggers.{HasFileDirectlyInFolder, MatchesFolderByParts, HasTriggerScriptAndWatchesFolder}
 use Rattle.answer_laws.proofs.Members.{listed, risen}
 use Rattle.answer_laws.proofs.Tests.{any_passes, passes_any, text_in, text_of}
 
@@ -77,7 +77,7 @@ pub matched_root : (pattern : List ℕ) → (is_folder_matched_by_pattern [] pat
 unfolding is_folder_matched_by_pattern
 matched_root pattern = ((bytes_eq-Decides pattern (codes "/")).0, (bytes_eq-Decides pattern (codes "/")).1)
 
-pub due_is : (pkg : Plain) (folder : List ℕ) → (is_trigger_due pkg folder ≡ true) ↔ HasTriggerWatchingFolder pkg folder
+pub due_is : (pkg : Plain) (folder : List ℕ) → (is_trigger_due pkg folder ≡ true) ↔ HasTriggerScriptAndWatchesFolder pkg folder
 due_is pkg folder = (
   λ e.
       let t = and_parts (has_script_with_number pkg TRIGGER_SCRIPT) (watches_folder pkg folder) e in

@@ -26,7 +26,7 @@ pub record MatchesFolderByParts (pattern folder : List ℕ) : Type 0 where
       → slice_get (path_parts_of folder) i ≡ Some part → MatchesByFillingStars p part
 
 -- the package has a trigger script, and one of its trigger patterns matches the folder
-pub record HasTriggerWatchingFolder (pkg : Plain) (folder : List ℕ) : Type 0 where
+pub record HasTriggerScriptAndWatchesFolder (pkg : Plain) (folder : List ℕ) : Type 0 where
   -- the package has a trigger script
   pub script : has_script_with_number pkg TRIGGER_SCRIPT ≡ true
   -- a pattern of the package's trigger
@@ -51,7 +51,7 @@ pub record IsTriggerDueFor (paths : List (List ℕ)) (m : Member) (folder : List
   -- one of these paths is directly in the folder
   pub file : HasFileDirectlyInFolder paths folder
   -- the package has a trigger script and watches the folder
-  pub triggered : HasTriggerWatchingFolder m.pkg folder
+  pub triggered : HasTriggerScriptAndWatchesFolder m.pkg folder
 
 -- ---- the lines
 

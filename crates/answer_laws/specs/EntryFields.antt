@@ -33,8 +33,8 @@ pub record GiveSameSizeDigestAndTarget (a b : Plain) : Type 0 where
 
 -- `bytes` are those of a file that represents a link: `!<symlink>`, followed by the field `target` without its first
 -- two bytes, which say that the file is a link
-abbrev pub IsTargetFieldOfSymlinkMarkedBytes : List ℕ → List ℕ → Type 0
-IsTargetFieldOfSymlinkMarkedBytes target bytes = bytes ≡ codes "!<symlink>" ++ drop 2 target
+abbrev pub MakesBytesAsTargetAfterSymlinkMark : List ℕ → List ℕ → Type 0
+MakesBytesAsTargetAfterSymlinkMark target bytes = bytes ≡ codes "!<symlink>" ++ drop 2 target
 
 -- The bytes have this digest. The length of the digest selects the hash function (FIPS 180-4). A digest of another
 -- length than these three is not compared with the bytes.

@@ -87,7 +87,8 @@ repository_line_at repositories place =
 
 -- the text of one version of the package `name` in the report of `policy`: the heading of the version, the line of the
 -- database if this version is installed, and a line for each repository that has it, in the order of the list
-pub record HasPolicyLinesOfVersionOrNoVersion (candidates : List Candidate) (repositories : List Repository)
+pub record HasPolicyLinesOfOneVersionOrOfUnversioned (candidates : List Candidate)
+    (repositories : List Repository)
     (name : List ℕ) (version : Option (List ℕ)) (text : List ℕ) : Type 0 where
   -- the line of the database, or no bytes
   pub database : List ℕ

@@ -151,7 +151,8 @@ record_with_lines r (line ∷ lines) =
 
 -- the field `f` of the package has the values that the lines with its letter give: all of them if the field is a list,
 -- otherwise the first
-pub record HasFieldValuesOfLines (f : InfoField) (lines : List (List ℕ)) (pkg : Plain) : Type 0 where
+pub record HasFieldValuesOfLinesWithItsLetter (f : InfoField) (lines : List (List ℕ))
+    (pkg : Plain) : Type 0 where
   -- the values that the lines of the field's letter give
   pub said : List TextNumberOrDependency
   -- the lines give exactly these values, in this order

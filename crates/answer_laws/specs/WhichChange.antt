@@ -31,7 +31,8 @@ pub record AreOldAndRepositoryOneWithValidVersions (r : Replacement) (name : Lis
 
 -- a package of this name is installed before the change, and the selected candidate `c` of this name is from no
 -- repository: it is this installed package
-pub record IsInstalledPackageSelected (r : Replacement) (name : List ℕ) (c : Candidate) : Type 0 where
+pub record IsInstalledPackageOfNoRepositorySelected (r : Replacement) (name : List ℕ)
+    (c : Candidate) : Type 0 where
   -- the package of this name before the change
   pub installed : Plain
   -- this package is the first one of this name before the change
@@ -42,8 +43,8 @@ pub record IsInstalledPackageSelected (r : Replacement) (name : List ℕ) (c : C
   pub repository : c.repository ≡ None
 
 -- the candidate has the same version text and the same id as the package; an id may be a prefix of the other
-abbrev pub IsSameVersionAndId : Plain → Candidate → Type 0
-IsSameVersionAndId pkg c =
+abbrev pub IsSameVersionAndIdByNonemptyPrefix : Plain → Candidate → Type 0
+IsSameVersionAndIdByNonemptyPrefix pkg c =
     (package_version_text pkg ≡ candidate_version_text c)
     × (is_same_id_by_nonempty_prefix (installed_id pkg) c.id ≡ true)
 

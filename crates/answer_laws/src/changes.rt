@@ -6,7 +6,7 @@ ghost use Rattle.std.specs.Prelude.{◌≡◌, ◌↔◌, ℕ, List, Some, None,
 ghost use Rattle.std.specs.List.{find};
 ghost use Rattle.std.specs.declared.cmp.Ordering.TheVariants.{Less, Equal, Greater};
 ghost use Rattle.adb_view.specs.Plain.{Plain};
-ghost use Rattle.answer_laws.specs.WhichChange.{AreOldAndRepositoryOneWithValidVersions, HasInstallChange, HasNumberedChangeLines, HasPurgeChange, IsSelected, IsInstalledPackageSelected, IsSameVersionAndId, WasInstalled, changed_name};
+ghost use Rattle.answer_laws.specs.WhichChange.{AreOldAndRepositoryOneWithValidVersions, HasInstallChange, HasNumberedChangeLines, HasPurgeChange, IsSelected, IsInstalledPackageOfNoRepositorySelected, IsSameVersionAndIdByNonemptyPrefix, WasInstalled, changed_name};
 ghost use Rattle.base_core.specs.Listed.{AreSortedDistinctTexts};
 ghost use Rattle.base_core.specs.Lists.{IsIn};
 ghost use Rattle.installed_info.specs.candidate_core.Candidates.{Candidate};
@@ -39,17 +39,17 @@ pub fn the_order_of_versions_decides_the_change()
         → (change_of_name r name
         ≡ Some (Replace name (package_version_text pkg) (candidate_version_text c)))
         ↔ ((version_cmp (package_version_text pkg) (candidate_version_text c) ≡ Equal)
-        × (IsSameVersionAndId pkg c → ⊥)) }
+        × (IsSameVersionAndIdByNonemptyPrefix pkg c → ⊥)) }
     // A reinstallation: the same version and id, and the name is in `r.again`.
     ensures reinstall { (r : Replacement) (name : List ℕ) (pkg : Plain) (c : Candidate)
         → AreOldAndRepositoryOneWithValidVersions r name pkg c
         → (change_of_name r name ≡ Some (Reinstall name (candidate_version_text c)))
-        ↔ (IsSameVersionAndId pkg c × IsIn name r.again) }
+        ↔ (IsSameVersionAndIdByNonemptyPrefix pkg c × IsIn name r.again) }
     // No change: the same version and id, and the name is not in `r.again`.
     ensures kept { (r : Replacement) (name : List ℕ) (pkg : Plain) (c : Candidate)
         → AreOldAndRepositoryOneWithValidVersions r name pkg c
         → (change_of_name r name ≡ None)
-        ↔ (IsSameVersionAndId pkg c × (IsIn name r.again → ⊥)) }
+        ↔ (IsSameVersionAndIdByNonemptyPrefix pkg c × (IsIn name r.again → ⊥)) }
 {}
 
 /// If the selected candidate of a name is the installed package itself, which is from no index, the
@@ -57,12 +57,12 @@ pub fn the_order_of_versions_decides_the_change()
 pub fn a_package_of_no_index_is_kept()
     // The package is reinstalled exactly if its name is in `r.again`.
     ensures reinstall { (r : Replacement) (name : List ℕ) (c : Candidate)
-        → IsInstalledPackageSelected r name c
+        → IsInstalledPackageOfNoRepositorySelected r name c
         → (change_of_name r name ≡ Some (Reinstall name (candidate_version_text c)))
         ↔ IsIn name r.again }
     // The package has no change exactly if its name is not in `r.again`.
     ensures kept { (r : Replacement) (name : List ℕ) (c : Candidate)
-        → IsInstalledPackageSelected r name c
+        → IsInstalledPackageOfNoRepositorySelected r name c
         → (change_of_name r name ≡ None) ↔ (IsIn name r.again → ⊥) }
 {}
 

@@ -3,7 +3,7 @@
 
 ghost use Rattle.std.specs.Prelude.{◌≡◌, ◌≢◌, ◌↔◌, ℕ, List, [], ◌++◌, codes, Option, Some, true, false};
 ghost use Rattle.adb_view.specs.Plain.{Plain};
-ghost use Rattle.answer_laws.specs.EntryFields.{GiveSameSizeDigestAndTarget, HasDigestIfLengthIsKnown, IsTargetFieldOfSymlinkMarkedBytes, digest_field_of_entry, size_field_of_entry, target_field_of_entry};
+ghost use Rattle.answer_laws.specs.EntryFields.{GiveSameSizeDigestAndTarget, HasDigestIfLengthIsKnown, MakesBytesAsTargetAfterSymlinkMark, digest_field_of_entry, size_field_of_entry, target_field_of_entry};
 ghost use Rattle.audit_core.specs.file_guard.AsListed.{are_sizes_hashes_targets_equal, is_as_listed};
 ghost use Rattle.change_outcome.specs.change_files.Fate.{is_protected_path};
 ghost use Rattle.change_outcome.specs.change_files.FilesAfter.{is_present_and_modified_from_entry};
@@ -21,7 +21,7 @@ pub fn a_file_is_as_listed_exactly_if_it_has_the_link_or_the_digest_of_its_entry
     // The entry has a link target.
     ensures link { (entry : Plain) (bytes : List ℕ) → target_field_of_entry entry ≢ []
         → (is_as_listed entry bytes ≡ true)
-        ↔ IsTargetFieldOfSymlinkMarkedBytes (target_field_of_entry entry) bytes }
+        ↔ MakesBytesAsTargetAfterSymlinkMark (target_field_of_entry entry) bytes }
     // The entry has no link target, but a digest.
     ensures digest { (entry : Plain) (bytes : List ℕ) → target_field_of_entry entry ≡ []
         → digest_field_of_entry entry ≢ []

@@ -4,7 +4,7 @@
 ghost use Rattle.std.specs.Prelude.{◌≡◌, ◌↔◌, ℕ, List, Some, codes, map};
 ghost use Rattle.adb_view.specs.Plain.{null};
 ghost use Rattle.adb_view.specs.declared.tables.Which.TheVariants.{File, Idb, Package, PkgInfo};
-ghost use Rattle.answer_laws.specs.TextLetters.{BeginsWithUnlistedLetterAndColon, HasFieldValuesOfLines, record_with_lines};
+ghost use Rattle.answer_laws.specs.TextLetters.{BeginsWithUnlistedLetterAndColon, HasFieldValuesOfLinesWithItsLetter, record_with_lines};
 ghost use Rattle.make_laws.specs.NamedFields.{entries_of_field_named, field_named};
 ghost use Rattle.change_outcome.specs.v2_core.Database.{listed_file_value, record_value, database_value_of_records};
 ghost use Rattle.change_outcome.specs.v2_core.Records.{ListedFile, Record, empty_record};
@@ -18,7 +18,7 @@ use dep_core::{read_texts_are_spelled, spelled_texts_are_read};
 pub fn each_letter_gives_its_field()
     ensures { (lines : List (List ℕ)) (r : Record) (f : InfoField)
         → record_with_lines empty_record lines ≡ Some r
-        → HasFieldValuesOfLines f lines (record_value r) }
+        → HasFieldValuesOfLinesWithItsLetter f lines (record_value r) }
 {
     // Laws that the proof needs; they have no effect at run time.
     read_texts_are_spelled();

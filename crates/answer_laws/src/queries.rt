@@ -3,7 +3,7 @@
 
 ghost use Rattle.std.specs.Prelude.{ℕ, ◌≡◌, ◌++◌, Bool, List, Option};
 ghost use Rattle.std.specs.List.{flat_map};
-ghost use Rattle.answer_laws.specs.QueryLines.{HasLinesOfSortedAskedCandidates, HasPolicyLinesOfVersionOrNoVersion, IsInListReportByInstalledFlag, IsSearchHitInRepositoryBySomePattern};
+ghost use Rattle.answer_laws.specs.QueryLines.{HasLinesOfSortedAskedCandidates, HasPolicyLinesOfOneVersionOrOfUnversioned, IsInListReportByInstalledFlag, IsSearchHitInRepositoryBySomePattern};
 ghost use Rattle.command_core.specs.declared.operands.Operand.{Operand};
 ghost use Rattle.dep_core.specs.Repositories.{Repository};
 ghost use Rattle.installed_info.specs.candidate_core.Candidates.{Candidate};
@@ -57,6 +57,6 @@ pub fn policy_prints_where_each_version_is()
     // The lines of one version: its heading, the database, and the repositories that have it.
     ensures places { (candidates : List Candidate) (repositories : List Repository)
         (name : List ℕ) (version : Option (List ℕ))
-        → HasPolicyLinesOfVersionOrNoVersion candidates repositories name version
+        → HasPolicyLinesOfOneVersionOrOfUnversioned candidates repositories name version
         (version_policy candidates repositories name version) }
 {}

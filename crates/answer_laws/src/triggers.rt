@@ -3,7 +3,7 @@
 
 ghost use Rattle.std.specs.Prelude.{◌≡◌, ◌⊎◌, ◌↔◌, ℕ, List, [], true, false, Ok, Err, codes};
 ghost use Rattle.adb_view.specs.Plain.{Plain};
-ghost use Rattle.answer_laws.specs.DueTriggers.{HasFileDirectlyInFolder, HasDueTriggerLines, IsTriggerDueFor, MatchesFolderByParts, IsFirstPackageWithDueTrigger, HasTriggerWatchingFolder};
+ghost use Rattle.answer_laws.specs.DueTriggers.{HasFileDirectlyInFolder, HasDueTriggerLines, IsTriggerDueFor, MatchesFolderByParts, IsFirstPackageWithDueTrigger, HasTriggerScriptAndWatchesFolder};
 ghost use Rattle.base_core.specs.Files.{Files};
 ghost use Rattle.base_core.specs.Listed.{AreSortedDistinctTexts};
 ghost use Rattle.base_core.specs.Lists.{IsIn};
@@ -40,7 +40,7 @@ pub fn a_pattern_matches_a_folder_part_by_part()
 pub fn a_trigger_is_due_for_a_changed_folder()
     // The trigger of a package is due for a folder exactly if it watches this folder.
     ensures due { (pkg : Plain) (folder : List ℕ)
-        → (is_trigger_due pkg folder ≡ true) ↔ HasTriggerWatchingFolder pkg folder }
+        → (is_trigger_due pkg folder ≡ true) ↔ HasTriggerScriptAndWatchesFolder pkg folder }
     // The folders of changed files (`paths`) are those that directly contain one of them.
     ensures folders { (paths : List (List ℕ)) (folder : List ℕ)
         → IsIn folder (folders_of_paths paths) ↔ HasFileDirectlyInFolder paths folder }

@@ -22,7 +22,7 @@ use Rattle.journal_core.proofs.Lasting.{some_none}
 use Rattle.outcome.specs.Effect.{Effect, does_recover}
 use Rattle.outcome.specs.Outcome.{Outcome}
 use Rattle.outcome.specs.Work.{recovery_fault, files_recovered_if_needed}
-use Rattle.apk_front.specs.Moments.{MomentsOfMakingOrChangeLeadToFiles, AreStatesAsRecoveredOrOfCommittingRun, AreStatesOldOrLeadToOutcome, RecoversAndFindsValidIntent, HasNothingToRecover, IsDurableAndLeavesFiles, IsStateDuringRecoveryOrNext, IsStateDuringRun, IsStateDuringRecovery, MustOutcomeBeDurable, OutcomeCommitsOrCrashesLeaveFilesAsRead, NamesAreDurableWithoutIntentExcept, ignored_except_output}
+use Rattle.apk_front.specs.Moments.{MomentsOfMakingOrChangeLeadToFiles, AreStatesAsRecoveredOrOfCommittingRun, AreStatesOldOrLeadToOutcome, RecoversAndFindsValidIntent, HasNothingToRecover, IsDurableAndLeavesFiles, IsStateDuringRecoveryOrNext, IsStateDuringRunToNewFilesFromOld, IsStateDuringRecovery, CommitsRecoversIntentOrCrashesLeaveAsRead, OutcomeCommitsOrCrashesLeaveFilesAsRead, NamesAreDurableExceptOutputIfNoIntent, ignored_except_output_and_scratch}
 use Rattle.apk_front.specs.Runs.{AreFilesReadWithoutRecovery, IsRunAfterRecovery, IsRunWithRecovery, IsOutOfMemoryOrWithoutCommit}
 use Rattle.apk_front.proofs.Runs.{History, Judged, Leaves, err_ok, on_ok, settled_before, since_weaker}
 
@@ -107,7 +107,7 @@ safe_after laws A B makes ignored v u old mid now into is_unchanged first (inr (
 settled_same : (ignored : Ignored) (v u : TreeState) → EachCrashLeavesStateOf ignored (files_of v) u → state_of ignored (files_of u) ≡ state_of ignored (files_of v) → EachCrashLeavesStateOf ignored (files_of u) u
 settled_same ignored v u settled reads = λ image is. settled image is ∙ sym reads
 
-settles_after : AreLaws → (effect : Effect) (ignored : Ignored) (v u : TreeState) (o : Outcome) → StateIsUnchanged ignored v u → (IsSome (intent_of (files_of v)) → EachCrashLeavesStateOf ignored (files_of v) u) → MustOutcomeBeDurable effect ignored v o → OutcomeCommitsOrCrashesLeaveFilesAsRead ignored u o
+settles_after : AreLaws → (effect : Effect) (ignored : Ignored) (v u : TreeState) (o : Outcome) → StateIsUnchanged ignored v u → (IsSome (intent_of (files_of v)) → EachCrashLeavesStateOf ignored (files_of v) u) → CommitsRecoversIntentOrCrashesLeaveAsRead effect ignored v o → OutcomeCommitsOrCrashesLeaveFilesAsRead ignored u o
 settles_after laws effect ignored v u o is_unchanged found (inl (inl commits)) = inl commits
 settles_after laws effect ignored v u o is_unchanged found (inl (inr before)) = inr (settled_same ignored v u (laws.lasts ignored (files_of v) v u before is_unchanged.quiet) is_unchanged.reads)
 settles_after laws effect ignored v u o is_unchanged found (inr (recovers, some)) = inr (settled_same ignored v u (found some) is_unchanged.reads)
@@ -181,14 +181,14 @@ reads_after A B effect output v u old mid now recovers work into first (inr (o, 
       o,
       into o one,
       commits,
-      since_both (IsStateDuringRecovery v) (IsStateDuringRun effect output o.files (files_of u)) (IsStateDuringRecoveryOrNext effect (IsStateDuringRun effect output o.files (files_recovered_if_needed effect (files_of v))) v) old mid now
+      since_both (IsStateDuringRecovery v) (IsStateDuringRunToNewFilesFromOld effect output o.files (files_of u)) (IsStateDuringRecoveryOrNext effect (IsStateDuringRunToNewFilesFromOld effect output o.files (files_recovered_if_needed effect (files_of v))) v) old mid now
           (λ w r. inl (recovers, r))
-          (λ w is. inr (subst (λ (f : Files). IsStateDuringRun effect output o.files f w) work is)) first at_work,
+          (λ w is. inr (subst (λ (f : Files). IsStateDuringRunToNewFilesFromOld effect output o.files f w) work is)) first at_work,
     )
 
 -- ---- the names
 
-unread_last : (output : Option (List ℕ)) (w : TreeState) → NamesOutsideJournalAreDurableIfNoIntent w → NamesAreDurableWithoutIntentExcept output w
+unread_last : (output : Option (List ℕ)) (w : TreeState) → NamesOutsideJournalAreDurableIfNoIntent w → NamesAreDurableExceptOutputIfNoIntent output w
 unread_last output w last none map among q off no_intent unstaged = last none map among q no_intent unstaged
 
 newest_last : (v u : TreeState) (rest more added : History) → IsSome (v.names intent_name) → u ∷ more ≡ added ++ v ∷ rest → All NamesOutsideJournalAreDurableIfNoIntent added → u.names intent_name ≡ None → NamesOutsideJournalAreDurable u
@@ -197,12 +197,12 @@ newest_last v u rest more (m ∷ added) some is each none =
     let same : u ≡ m = ap (first_or v) is in
     subst NamesOutsideJournalAreDurable (sym same) (All-head NamesOutsideJournalAreDurableIfNoIntent m added each (subst (λ (w : TreeState). w.names intent_name ≡ None) same none))
 
-last_after : (output : Option (List ℕ)) (v u : TreeState) (rest more now : History) → IsRecovery v (v ∷ rest) (u ∷ more) → u.names intent_name ≡ None → (NamesOutsideJournalAreDurable u → Since (NamesAreDurableWithoutIntentExcept output) (u ∷ more) now)
-    → IsSome (v.names intent_name) → Since (NamesAreDurableWithoutIntentExcept output) (v ∷ rest) now
+last_after : (output : Option (List ℕ)) (v u : TreeState) (rest more now : History) → IsRecovery v (v ∷ rest) (u ∷ more) → u.names intent_name ≡ None → (NamesOutsideJournalAreDurable u → Since (NamesAreDurableExceptOutputIfNoIntent output) (u ∷ more) now)
+    → IsSome (v.names intent_name) → Since (NamesAreDurableExceptOutputIfNoIntent output) (v ∷ rest) now
 last_after output v u rest more now recovery none then some =
     let first = recovery.last some in
     let here = newest_last v u rest more first.added some first.is first.each none in
-    since_both NamesOutsideJournalAreDurableIfNoIntent (NamesAreDurableWithoutIntentExcept output) (NamesAreDurableWithoutIntentExcept output) (v ∷ rest) (u ∷ more) now (unread_last output) (λ w last. last) first (then here)
+    since_both NamesOutsideJournalAreDurableIfNoIntent (NamesAreDurableExceptOutputIfNoIntent output) (NamesAreDurableExceptOutputIfNoIntent output) (v ∷ rest) (u ∷ more) now (unread_last output) (λ w last. last) first (then here)
 
 -- ---- the recovery ended well
 
@@ -240,12 +240,12 @@ whole_failed laws IsOne effect output judged e v rest now recovers failed recove
   moments = λ ignored is_durable hides. inl (recovery.calm ignored is_durable);
   is_durable = λ ignored is_durable hides. newest_durable laws ignored v rest now is_durable (recovery.calm ignored is_durable);
   settled = λ ignored o is_durable hides one lasts. err_ok (HoldsNow now (EachCrashLeavesStateOf ignored o.files)) judged e failed;
-  durable_state = λ ignored o is_durable hides one commits. err_ok (HoldsNow now (IsDurableAndLeavesFiles (ignored_except_output output ignored) o.files)) judged e failed;
+  durable_state = λ ignored o is_durable hides one commits. err_ok (HoldsNow now (IsDurableAndLeavesFiles (ignored_except_output_and_scratch output ignored) o.files)) judged e failed;
   left = λ without ignored is_durable. recovery.calm ignored is_durable;
   idle = λ without nothing. nothing_done effect v (now ≡ v ∷ rest) recovers recovery.idle nothing;
   bad = bad;
   reads = inl (since_weaker (IsStateDuringRecovery v) (IsStateDuringRecoveryOrNext effect (λ w. files_of w ≡ files_recovered_if_needed effect (files_of v)) v) (v ∷ rest) now (λ w r. inl (recovers, r)) (recovering v (v ∷ rest) now recovery));
-  last = λ some. since_weaker NamesOutsideJournalAreDurableIfNoIntent (NamesAreDurableWithoutIntentExcept output) (v ∷ rest) now (unread_last output) (recovery.last some);
+  last = λ some. since_weaker NamesOutsideJournalAreDurableIfNoIntent (NamesAreDurableExceptOutputIfNoIntent output) (v ∷ rest) now (unread_last output) (recovery.last some);
   leaves = λ o one. err_ok (HoldsNow now (λ w. files_of w ≡ o.files)) judged e failed;
 }
 
@@ -253,7 +253,7 @@ whole_failed laws IsOne effect output judged e v rest now recovers failed recove
 abbrev pub LeavesAll : Effect → TreeState → Outcome → Type 0
 LeavesAll effect v o = Leaves (files_of v) o × (RecoversAndFindsValidIntent effect v → ⊥)
 
-settled_left : (effect : Effect) (ignored : Ignored) (v : TreeState) (o : Outcome) → LeavesAll effect v o → MustOutcomeBeDurable effect ignored v o → EachCrashLeavesStateOf ignored (files_of v) v
+settled_left : (effect : Effect) (ignored : Ignored) (v : TreeState) (o : Outcome) → LeavesAll effect v o → CommitsRecoversIntentOrCrashesLeaveAsRead effect ignored v o → EachCrashLeavesStateOf ignored (files_of v) v
 settled_left effect ignored v o (leaves, never) (inl settles) = settled_before ignored v o leaves.1 settles
 settled_left effect ignored v o (leaves, never) (inr can) = absurd (never can)
 
@@ -272,6 +272,6 @@ whole_idle IsOne effect output judged v rest now same all = record {
   idle = λ without nothing. same;
   bad = λ some. same;
   reads = inl (none_since (IsStateDuringRecoveryOrNext effect (λ w. files_of w ≡ files_recovered_if_needed effect (files_of v)) v) (v ∷ rest) now same);
-  last = λ some. none_since (NamesAreDurableWithoutIntentExcept output) (v ∷ rest) now same;
+  last = λ some. none_since (NamesAreDurableExceptOutputIfNoIntent output) (v ∷ rest) now same;
   leaves = λ o one. on_ok judged (λ left. subst (λ (h : History). HoldsNow h (λ w. files_of w ≡ o.files)) (sym same) (sym left.0.0)) (all o one);
 }

@@ -21,8 +21,8 @@ use Rattle.command_core.specs.declared.values.TheConstants.{FILES}
 use Rattle.make_core.specs.make_index.Files.{EachOperandReadFindsNoFileOrFileBytes}
 use Rattle.make_core.specs.make_info.Reads.{Reads}
 use Rattle.outcome.specs.Make.{mkndx, mkpkg}
-use Rattle.outcome.specs.Commands.{IsPossibleOutcomeWithoutDemo, IsPossibleOutcomeAfterRecovery, IsOutcomeWithoutDemo, IsOutcomeOverRecoveredFiles, reads_in, outcome_from_arguments_alone, effect_outcome, reading_outcome}
-use Rattle.outcome.specs.Given.{Given, IsChoiceForCommand, IsFirstClashForEffect, IsListingChoiceAndClashFor, AreNamesListedForApplet, IsPossibleListingChoiceAndClash, ArePossibleNamesListedForApplet, IsPossibleFirstClashForEffect, no_listing_choice_or_clash}
+use Rattle.outcome.specs.Commands.{IsPossibleOutcomeWithoutDemo, IsPossibleOutcomeAfterRecovery, IsOutcomeWithoutDemo, IsOutcomeOverRecoveredFiles, reads_in, outcome_from_arguments_alone, effect_outcome, outcome_of_only_reading_files}
+use Rattle.outcome.specs.Given.{Given, IsPreferredChoiceForChangeElseNone, IsFirstClashForChangeElseNone, IsListingChoiceAndClashFor, AreNamesListedForApplet, IsPossibleListingChoiceAndClash, ArePossibleNamesListedForApplet, IsPossibleFirstClashForChangeElseNone, no_listing_choice_or_clash}
 use Rattle.outcome.specs.Effect.{Effect, Computes, OnlyReadsFiles, AsksRoot, Makes, Changes, does_neither_recover_nor_write, does_recover, ignores_files, effect_of_arguments, effect_of, output, output_name_of_arguments, output_name_for_effect, do_arguments_neither_recover_nor_write, depends_only_on_arguments}
 use Rattle.outcome.specs.Words.{IsPossibleOutcome, IsOutcome}
 use Rattle.outcome.specs.Work.{recovery_fault}
@@ -41,7 +41,7 @@ use Rattle.command_core.specs.declared.operands.Operand.{Operand}
 use Rattle.outcome.proofs.Looking.{look_leaves}
 use Rattle.apk_front.specs.Answers.{answer_for_refusal}
 use Rattle.apk_front.specs.Effects.{root_access_if_read_only}
-use Rattle.apk_front.specs.Moments.{IsOkRefusedOrOutputFault, AreStatesAsRecoveredOrOfCommittingRun, AreStatesOldOrLeadToOutcome, IsRefusedOutOfMemoryOrCommitsNothing, HasNothingToRecover, ArePathsToWriteFree, IgnoresOutputScratchNameButNotIntent, IsDurableAndLeavesFiles, IsRefusedOrOutOfMemory, LeavesDurableStateAndOutputIfCommitted, LeavesDurableFilesOnceAnsweredOrRefused, AreRunPathsOfCommandLineFree, AreRecoveryAndOutcomePathsFree, LeavesDurableFilesIfRequired, MustOutcomeBeDurable, NamesAreDurableWithoutIntentExcept, ignored_except_output}
+use Rattle.apk_front.specs.Moments.{IsOkRefusedOrOutputFault, AreStatesAsRecoveredOrOfCommittingRun, AreStatesOldOrLeadToOutcome, IsRefusedOutOfMemoryOrCommitsNothing, HasNothingToRecover, ArePathsToWriteFree, IgnoresOutputScratchNameButNotIntent, IsDurableAndLeavesFiles, IsRefusedOrOutOfMemory, LeavesDurableStateAndOutputIfCommitted, LeavesDurableFilesIfRequiredOnceAnswered, AreRunPathsOfCommandLineFree, AreRecoveryAndOutcomePathsFree, LeavesDurableFilesIfRequired, CommitsRecoversIntentOrCrashesLeaveAsRead, NamesAreDurableExceptOutputIfNoIntent, ignored_except_output_and_scratch}
 use Rattle.apk_front.specs.RunContracts.{IsRunByArguments}
 use Rattle.apk_front.specs.Runs.{IfNothingStaged, IsRunAfterRecovery, IsRunWithRecovery, IsOutOfMemoryOrWithoutCommit}
 use Rattle.apk_front.specs.Containers.{IsIndexOutcome, IsPackageOutcome}
@@ -92,7 +92,7 @@ abbrev listed : List (List ℕ) → Given
 listed names = record { names = names; chosen = None; clash = None }
 
 made_given : (applet : Applet) (command : CommandLine) (files : Files) (names : List (List ℕ)) → effect_of applet ≡ Makes → AreNamesListedForApplet applet command files names
-    → AreNamesListedForApplet applet command files names × IsChoiceForCommand (effect_of applet) command (reads_in files) None × IsFirstClashForEffect (effect_of applet) command (reads_in files) files None None
+    → AreNamesListedForApplet applet command files names × IsPreferredChoiceForChangeElseNone (effect_of applet) command (reads_in files) None × IsFirstClashForChangeElseNone (effect_of applet) command (reads_in files) files None None
 made_given Mkpkg command files names makes are = (are, refl, refl)
 made_given Mkndx command files names makes are = (are, refl, refl)
 made_given other command files names makes are = cc
@@ -101,7 +101,7 @@ given_of_names : (command : CommandLine) (files : Files) (names : List (List ℕ
 given_of_names command files names makes are = let (list, choice, clash) = made_given command.applet command files names makes are in record { names = list; chosen = choice; clash = clash }
 
 made_by_some : (applet : Applet) (command : CommandLine) (read : Reads) (files : Files) (names : List (List ℕ)) → effect_of applet ≡ Makes → ArePossibleNamesListedForApplet applet command names
-    → ArePossibleNamesListedForApplet applet command names × IsChoiceForCommand (effect_of applet) command read None × IsPossibleFirstClashForEffect (effect_of applet) command read files None None
+    → ArePossibleNamesListedForApplet applet command names × IsPreferredChoiceForChangeElseNone (effect_of applet) command read None × IsPossibleFirstClashForChangeElseNone (effect_of applet) command read files None None
 made_by_some Mkpkg command read files names makes are = (are, refl, refl)
 made_by_some Mkndx command read files names makes are = (are, refl, refl)
 made_by_some other command read files names makes are = absurd (cc)
@@ -252,7 +252,7 @@ reads_by words judged [] now run = tt
 reads_by words judged (v ∷ rest) now run = run.reads
 
 pub last_by : (words : List (List ℕ)) (judged : Judged) (old now : History) → Runs words judged old now
-    → IfObservable old (λ v. IsSome (v.names intent_name) → Since (NamesAreDurableWithoutIntentExcept (output words)) old now)
+    → IfObservable old (λ v. IsSome (v.names intent_name) → Since (NamesAreDurableExceptOutputIfNoIntent (output words)) old now)
 last_by words judged [] now run = tt
 last_by words judged (v ∷ rest) now run = run.last
 
@@ -277,7 +277,7 @@ the_refusal None r same = cc
 the_refusal (Some x) r same = cc
 
 lasting_shown : (IsOne : Outcome → Type 0) (effect : Effect) (ignored : List ℕ → Bool) (v : TreeState) (now : History) (verdict : Verdict) (o : Outcome) (answer : Answer) (out err : SinkBeforeAndAfter) → IsOne o → Reports verdict o
-    → LeavesDurableFilesIfRequired effect ignored v now o → IsPrinted (as_outcome o.files verdict) answer out err → LeavesDurableFilesOnceAnsweredOrRefused IsOne effect ignored v now answer
+    → LeavesDurableFilesIfRequired effect ignored v now o → IsPrinted (as_outcome o.files verdict) answer out err → LeavesDurableFilesIfRequiredOnceAnswered IsOne effect ignored v now answer
 lasting_shown IsOne effect ignored v now verdict o Done out err one reports lasts printed =
     (o, one, sym (ap (λ (x : Outcome). x.refusal) reports) ∙ no_refusal verdict.refusal printed.same, lasts)
 lasting_shown IsOne effect ignored v now verdict o (Refused r) out err one reports lasts printed =
@@ -287,13 +287,13 @@ lasting_shown IsOne effect ignored v now verdict o TreeFailed out err one report
 lasting_shown IsOne effect ignored v now verdict o Memory out err one reports lasts printed = tt
 
 lasting_judged : (IsOne : Outcome → Type 0) (effect : Effect) (ignored : List ℕ → Bool) (v : TreeState) (now : History) (judged : Judged) (answer : Answer) (out err : SinkBeforeAndAfter) → IfOk judged (ReportsOneOfOutcomes IsOne) → IsVerdictPrinted judged answer out err
-    → ((o : Outcome) → IsOne o → MustOutcomeBeDurable effect ignored v o → OnOk judged (HoldsNow now (EachCrashLeavesStateOf ignored o.files))) → LeavesDurableFilesOnceAnsweredOrRefused IsOne effect ignored v now answer
+    → ((o : Outcome) → IsOne o → CommitsRecoversIntentOrCrashesLeaveAsRead effect ignored v o → OnOk judged (HoldsNow now (EachCrashLeavesStateOf ignored o.files))) → LeavesDurableFilesIfRequiredOnceAnswered IsOne effect ignored v now answer
 lasting_judged IsOne effect ignored v now (Ok verdict) answer out err (o, one, reports) is_shown settled = lasting_shown IsOne effect ignored v now verdict o answer out err one reports (settled o one) (is_shown o.files)
-lasting_judged IsOne effect ignored v now (Err Disk) answer out err found is_shown settled = subst (LeavesDurableFilesOnceAnsweredOrRefused IsOne effect ignored v now) (sym is_shown.0) tt
-lasting_judged IsOne effect ignored v now (Err NoMemory) answer out err found is_shown settled = subst (LeavesDurableFilesOnceAnsweredOrRefused IsOne effect ignored v now) (sym is_shown.0) tt
+lasting_judged IsOne effect ignored v now (Err Disk) answer out err found is_shown settled = subst (LeavesDurableFilesIfRequiredOnceAnswered IsOne effect ignored v now) (sym is_shown.0) tt
+lasting_judged IsOne effect ignored v now (Err NoMemory) answer out err found is_shown settled = subst (LeavesDurableFilesIfRequiredOnceAnswered IsOne effect ignored v now) (sym is_shown.0) tt
 
 pub settled_by : (words : List (List ℕ)) (judged : Judged) (answer : Answer) (out err : SinkBeforeAndAfter) (old now : History) → IsVerdictPrinted judged answer out err → IfOk judged (λ verdict. IfObservable old (λ v. ReportsOneOfOutcomes (IsOutcome (command_of words) (files_of v)) verdict)) → Runs words judged old now
-    → IfObservable old (λ v. (ignored : List ℕ → Bool) → IsDurable (StateDependsOn ignored) v → IgnoresOutputScratchNameButNotIntent (output words) ignored → LeavesDurableFilesOnceAnsweredOrRefused (IsOutcome (command_of words) (files_of v)) (effect_of_arguments (command_of words)) ignored v now answer)
+    → IfObservable old (λ v. (ignored : List ℕ → Bool) → IsDurable (StateDependsOn ignored) v → IgnoresOutputScratchNameButNotIntent (output words) ignored → LeavesDurableFilesIfRequiredOnceAnswered (IsOutcome (command_of words) (files_of v)) (effect_of_arguments (command_of words)) ignored v now answer)
 settled_by words judged answer out err [] now is_shown found run = tt
 settled_by words judged answer out err (v ∷ rest) now is_shown found run = λ ignored is_durable hides.
     lasting_judged (IsOutcome (command_of words) (files_of v)) (effect_of_arguments (command_of words)) ignored v now judged answer out err (found_at v rest judged (λ verdict w. ReportsOneOfOutcomes (IsOutcome (command_of words) (files_of w)) verdict) found) is_shown
@@ -347,7 +347,7 @@ bad_by words judged (v ∷ rest) now run = run.bad
 -- ---- the output counts again
 
 rest_of : (IsOne : Outcome → Type 0) (output : Option (List ℕ)) (ignored : List ℕ → Bool) (now : History) (judged : Judged) (answer : Answer) (out err : SinkBeforeAndAfter) → IfOk judged (ReportsOneOfOutcomes IsOne) → IsVerdictPrinted judged answer out err → IsOkRefusedOrOutputFault answer
-    → ((o : Outcome) → IsOne o → o.commits ≡ true → OnOk judged (HoldsNow now (IsDurableAndLeavesFiles (ignored_except_output output ignored) o.files))) → LeavesDurableStateAndOutputIfCommitted IsOne output ignored now
+    → ((o : Outcome) → IsOne o → o.commits ≡ true → OnOk judged (HoldsNow now (IsDurableAndLeavesFiles (ignored_except_output_and_scratch output ignored) o.files))) → LeavesDurableStateAndOutputIfCommitted IsOne output ignored now
 rest_of IsOne output ignored now (Ok verdict) answer out err (o, one, reports) is_shown answers rests = (o, one, λ commits. rests o one commits)
 rest_of IsOne output ignored now (Err Disk) answer out err found is_shown answers rests = absurd (subst IsOkRefusedOrOutputFault is_shown.0 answers)
 rest_of IsOne output ignored now (Err NoMemory) answer out err found is_shown answers rests = absurd (subst IsOkRefusedOrOutputFault is_shown.0 answers)
@@ -438,7 +438,7 @@ computes_nothing Help command files (verify, version, help, program, dump, gener
 computes_nothing ProgramVersion command files (verify, version, help, program, dump, generate) = absurd (program refl)
 computes_nothing other command files none = refl
 
-reads_nothing : (applet : Applet) (command : CommandLine) (read : Reads) (files : Files) → IsNoneOfThese applet → reading_outcome applet command read files ≡ just_report files []
+reads_nothing : (applet : Applet) (command : CommandLine) (read : Reads) (files : Files) → IsNoneOfThese applet → outcome_of_only_reading_files applet command read files ≡ just_report files []
 reads_nothing Verify command read files (verify, version, help, program, dump, generate) = absurd (verify refl)
 reads_nothing Adbdump command read files (verify, version, help, program, dump, generate) = absurd (dump refl)
 reads_nothing Adbgen command read files (verify, version, help, program, dump, generate) = absurd (generate refl)

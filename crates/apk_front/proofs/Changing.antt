@@ -17,9 +17,9 @@ use Rattle.engine_core.specs.change_outcome.ChangeOutcome.{ChangeDone}
 use Rattle.command_core.specs.Command.{CommandLine}
 use Rattle.command_core.specs.declared.command.Applet.{Applet}
 use Rattle.command_core.specs.declared.command.Applet.TheVariants.{Add, Del, Fix, Upgrade}
-use Rattle.engine_core.specs.ChangeRun.{IsEndOfRunOfWantedChange, DoesCommit, IsChangeRun, IsRunThatCommitsChangeUnlessTreeFails, IsPackageFileChangedSinceTested, IsUnchangedOrCommit, report_as_is, report_of_result}
+use Rattle.engine_core.specs.ChangeRun.{IsEndOfRunOfWantedChange, DoesCommit, IsChangeRun, IsRunThatCommitsChangeUnlessTreeFails, IsRefusedForUnobservedChangeOfTestedPackage, IsUnchangedOrCommit, report_as_is, report_of_result}
 use Rattle.engine_core.specs.Changed.{IsFirstClashOfCommand, IsFirstClashOfCommandAmong, change_of_command, packages_found_after_change, selected_from_reads_by_choice}
-use Rattle.engine_core.specs.Choice.{IsPreferredChoiceUnlessRefused}
+use Rattle.engine_core.specs.Choice.{IsPreferredChoiceOrNoneIfRefused}
 use Rattle.engine_core.specs.Runs.{IsRunCounted}
 use Rattle.engine_core.specs.Selecting.{pool_of_command}
 use Rattle.journal_core.specs.Kept.{ReadsOldOrNewBytesOutsideJournal}
@@ -33,9 +33,9 @@ use Rattle.outcome.proofs.Applets.{change_is}
 use Rattle.outcome.specs.Changing.{change_outcome}
 use Rattle.outcome.specs.Commands.{IsPossibleOutcomeAfterRecovery, IsOutcomeOverRecoveredFiles, effect_outcome, reads_in}
 use Rattle.outcome.specs.Effect.{Effect, Changes, effect_of, output_name_for_effect}
-use Rattle.outcome.specs.Given.{Given, IsChoiceForCommand, IsFirstClashForEffect, IsListingChoiceAndClashFor, AreNamesListedForApplet, IsPossibleListingChoiceAndClash, ArePossibleNamesListedForApplet, IsPossibleFirstClashForEffect}
+use Rattle.outcome.specs.Given.{Given, IsPreferredChoiceForChangeElseNone, IsFirstClashForChangeElseNone, IsListingChoiceAndClashFor, AreNamesListedForApplet, IsPossibleListingChoiceAndClash, ArePossibleNamesListedForApplet, IsPossibleFirstClashForChangeElseNone}
 use Rattle.outcome.specs.Outcome.{Outcome, just_refusal, just_report}
-use Rattle.apk_front.specs.Moments.{IsDurableAndLeavesFiles, IsStateDuringRun, NamesAreDurableWithoutIntentExcept}
+use Rattle.apk_front.specs.Moments.{IsDurableAndLeavesFiles, IsStateDuringRunToNewFilesFromOld, NamesAreDurableExceptOutputIfNoIntent}
 use Rattle.apk_front.specs.Runs.{HasNothingStaged, IfNothingStaged, IsRunAfterRecovery}
 use Rattle.apk_front.specs.Told.{IsVerdictOnChange}
 use Rattle.apk_front.specs.Verdicts.{Reports, ReportsOneOfOutcomes, as_outcome}
@@ -58,29 +58,29 @@ HaveIdle = (command : CommandLine) (files : Files) (o : Outcome) → IsOutcomeOv
 abbrev given_by : Option (List ℕ) → Option NamePair → Given
 given_by chosen clash = record { names = []; chosen = chosen; clash = clash }
 
-parts_given : (applet : Applet) (command : CommandLine) (read : Reads) (files : Files) (chosen : Option (List ℕ)) (clash : Option NamePair) → effect_of applet ≡ Changes → IsPreferredChoiceUnlessRefused (pool_of_command command read) chosen → IsFirstClashOfCommand command read files chosen clash
-    → AreNamesListedForApplet applet command files [] × IsChoiceForCommand (effect_of applet) command read chosen × IsFirstClashForEffect (effect_of applet) command read files chosen clash
+parts_given : (applet : Applet) (command : CommandLine) (read : Reads) (files : Files) (chosen : Option (List ℕ)) (clash : Option NamePair) → effect_of applet ≡ Changes → IsPreferredChoiceOrNoneIfRefused (pool_of_command command read) chosen → IsFirstClashOfCommand command read files chosen clash
+    → AreNamesListedForApplet applet command files [] × IsPreferredChoiceForChangeElseNone (effect_of applet) command read chosen × IsFirstClashForChangeElseNone (effect_of applet) command read files chosen clash
 parts_given Add command read files chosen clash changes choice first = (refl, choice, first)
 parts_given Del command read files chosen clash changes choice first = (refl, choice, first)
 parts_given Upgrade command read files chosen clash changes choice first = (refl, choice, first)
 parts_given Fix command read files chosen clash changes choice first = (refl, choice, first)
 parts_given other command read files chosen clash changes choice first = cc
 
-are_given : (command : CommandLine) (read : Reads) (files : Files) (chosen : Option (List ℕ)) (clash : Option NamePair) → effect_of command.applet ≡ Changes → IsPreferredChoiceUnlessRefused (pool_of_command command read) chosen → IsFirstClashOfCommand command read files chosen clash
+are_given : (command : CommandLine) (read : Reads) (files : Files) (chosen : Option (List ℕ)) (clash : Option NamePair) → effect_of command.applet ≡ Changes → IsPreferredChoiceOrNoneIfRefused (pool_of_command command read) chosen → IsFirstClashOfCommand command read files chosen clash
     → IsListingChoiceAndClashFor command read files (given_by chosen clash)
 are_given command read files chosen clash changes choice first =
     let (list, chosen_so, clash_so) = parts_given command.applet command read files chosen clash changes choice first in
     record { names = list; chosen = chosen_so; clash = clash_so }
 
-parts_by_some : (applet : Applet) (command : CommandLine) (read : Reads) (files present_files : Files) (chosen : Option (List ℕ)) (clash : Option NamePair) → effect_of applet ≡ Changes → IsPreferredChoiceUnlessRefused (pool_of_command command read) chosen
-    → IsFirstClashOfCommandAmong command read files present_files chosen clash → ArePossibleNamesListedForApplet applet command [] × IsChoiceForCommand (effect_of applet) command read chosen × IsPossibleFirstClashForEffect (effect_of applet) command read files chosen clash
+parts_by_some : (applet : Applet) (command : CommandLine) (read : Reads) (files present_files : Files) (chosen : Option (List ℕ)) (clash : Option NamePair) → effect_of applet ≡ Changes → IsPreferredChoiceOrNoneIfRefused (pool_of_command command read) chosen
+    → IsFirstClashOfCommandAmong command read files present_files chosen clash → ArePossibleNamesListedForApplet applet command [] × IsPreferredChoiceForChangeElseNone (effect_of applet) command read chosen × IsPossibleFirstClashForChangeElseNone (effect_of applet) command read files chosen clash
 parts_by_some Add command read files present_files chosen clash changes choice first = (refl, choice, (present_files, first))
 parts_by_some Del command read files present_files chosen clash changes choice first = (refl, choice, (present_files, first))
 parts_by_some Upgrade command read files present_files chosen clash changes choice first = (refl, choice, (present_files, first))
 parts_by_some Fix command read files present_files chosen clash changes choice first = (refl, choice, (present_files, first))
 parts_by_some other command read files present_files chosen clash changes choice first = absurd (cc)
 
-may_be_given : (command : CommandLine) (read : Reads) (files present_files : Files) (chosen : Option (List ℕ)) (clash : Option NamePair) → effect_of command.applet ≡ Changes → IsPreferredChoiceUnlessRefused (pool_of_command command read) chosen
+may_be_given : (command : CommandLine) (read : Reads) (files present_files : Files) (chosen : Option (List ℕ)) (clash : Option NamePair) → effect_of command.applet ≡ Changes → IsPreferredChoiceOrNoneIfRefused (pool_of_command command read) chosen
     → IsFirstClashOfCommandAmong command read files present_files chosen clash → IsPossibleListingChoiceAndClash command read files (given_by chosen clash)
 may_be_given command read files present_files chosen clash changes choice first =
     let (list, chosen_so, clash_so) = parts_by_some command.applet command read files present_files chosen clash changes choice first in
@@ -143,7 +143,7 @@ module _ (command : CommandLine) (changes : effect_of command.applet ≡ Changes
   abbrev wanted : Wanted
   wanted = change_of_command command run.read run.files run.chosen run.clash
 
-  found_so : (verdict : Verdict) → IsVerdictOnChange answer (Ok verdict) → AgreesUnlessDiskOrMemory report_as_is answer (report_of_result wanted) ⊎ IsPackageFileChangedSinceTested (packages_found_after_change command run.read (selected_from_reads_by_choice command run.read run.chosen)) wanted old answer → ReportsOneOfOutcomes (IsPossibleOutcomeAfterRecovery command) verdict
+  found_so : (verdict : Verdict) → IsVerdictOnChange answer (Ok verdict) → AgreesUnlessDiskOrMemory report_as_is answer (report_of_result wanted) ⊎ IsRefusedForUnobservedChangeOfTestedPackage (packages_found_after_change command run.read (selected_from_reads_by_choice command run.read run.chosen)) wanted old answer → ReportsOneOfOutcomes (IsPossibleOutcomeAfterRecovery command) verdict
   found_so verdict told (inl agrees) = (
     change_outcome run.files wanted,
     (found, run.read, run.files, may_be_given command run.read run.files run.present_files run.chosen run.clash changes run.choice run.is_clash, inl (applet_is command.applet command run.read run.files run.chosen run.clash changes)),
@@ -182,7 +182,7 @@ pub record IsRunAt (command : CommandLine) (v : TreeState) (old now : History) (
 
 abbrev RunFacts : CommandLine → History → History → Counts → Counts → Answered → Option (List ℕ) → Option NamePair → Reads → Files → Files → Type 0
 RunFacts command old now a b answer chosen clash read files present_files =
-    IsPreferredChoiceUnlessRefused (pool_of_command command read) chosen × IsFirstClashOfCommandAmong command read files present_files chosen clash
+    IsPreferredChoiceOrNoneIfRefused (pool_of_command command read) chosen × IsFirstClashOfCommandAmong command read files present_files chosen clash
     × IsEndOfRunOfWantedChange (packages_found_after_change command read (selected_from_reads_by_choice command read chosen)) (change_of_command command read files chosen clash) old now a b answer
 
 run_at : (command : CommandLine) → effect_of command.applet ≡ Changes → (v : TreeState) (rest now : History) (a b : Counts) (answer : Answered) → IsChangeRun command (v ∷ rest) now a b answer → IsRunAt command v (v ∷ rest) now a b answer
@@ -276,7 +276,7 @@ module _ (command : CommandLine) (changes : effect_of command.applet ≡ Changes
         by_added [] is each = subst (λ (h : History). HoldsNow h (IsDurable (StateDependsOn ignored))) (sym is) is_durable
         by_added (m ∷ added) is each = subst (λ (h : History). HoldsNow h (IsDurable (StateDependsOn ignored))) (sym is) each.0.is_durable
 
-    at_work : (w : TreeState) → IsStateDuringChangeToNewFromOld commit.done.files (files_of v) w → IsStateDuringRun Changes None outcome.files (files_of v) w
+    at_work : (w : TreeState) → IsStateDuringChangeToNewFromOld commit.done.files (files_of v) w → IsStateDuringRunToNewFilesFromOld Changes None outcome.files (files_of v) w
     at_work w (inl waiting) = inl waiting
     at_work w (inr (inl by_intent)) = inr (inl (record { changes = refl; intent = by_intent.intent; leads = by_intent.leads ∙ sym files_are; bytes = subst (λ (f : Files). ReadsOldOrNewBytesOutsideJournal (files_of v) f w) (sym files_are) by_intent.bytes }))
     at_work w (inr (inr is)) = inr (inr (is ∙ sym files_are))
@@ -292,8 +292,8 @@ module _ (command : CommandLine) (changes : effect_of command.applet ≡ Changes
       settled = λ ignored o is_durable hides one lasts. on_ok judged (λ done. subst (λ (f : Files). HoldsNow now (EachCrashLeavesStateOf ignored f)) (files_of_one o one) (done.settled ignored is_durable)) done_so;
       durable_state = λ ignored o is_durable hides one commits.
           on_ok judged (λ done. subst (λ (f : Files). HoldsNow now (IsDurableAndLeavesFiles ignored f)) (files_of_one o one) (rests ignored now commit.done.files (left_durable ignored is_durable) (done.settled ignored is_durable))) done_so;
-      reads = inr (outcome, is_one, commits_are, since_weaker (IsStateDuringChangeToNewFromOld commit.done.files (files_of v)) (IsStateDuringRun Changes None outcome.files (files_of v)) (v ∷ rest) now at_work commit.run.reads);
-      last = λ last. since_weaker NamesOutsideJournalAreDurableIfNoIntent (NamesAreDurableWithoutIntentExcept None) (v ∷ rest) now (λ w lasts none map among q off no_intent unstaged. lasts none map among q no_intent unstaged) (commit.run.last last);
+      reads = inr (outcome, is_one, commits_are, since_weaker (IsStateDuringChangeToNewFromOld commit.done.files (files_of v)) (IsStateDuringRunToNewFilesFromOld Changes None outcome.files (files_of v)) (v ∷ rest) now at_work commit.run.reads);
+      last = λ last. since_weaker NamesOutsideJournalAreDurableIfNoIntent (NamesAreDurableExceptOutputIfNoIntent None) (v ∷ rest) now (λ w lasts none map among q off no_intent unstaged. lasts none map among q no_intent unstaged) (commit.run.last last);
       leaves = λ o one. on_ok judged (λ done. reads_now now o one done.reads) done_so;
       idle = λ o one idle. absurd (false≢true (sym idle ∙ (sym (ap (λ (x : Outcome). x.commits) (the_one o one)) ∙ commits_are)));
     }

@@ -15,10 +15,10 @@ use Rattle.outcome.specs.demo_lines.Lines.{add_words, demo_repositories, mkndx_w
 use Rattle.outcome.specs.demo_lines.Report.{demo_line_of_count_and_add_report}
 use Rattle.outcome.proofs.demo_lines.Lengths.{plus_one}
 use Rattle.outcome.specs.Commands.{IsPossibleOutcomeWithoutDemo, IsOutcomeWithoutDemo, reads_in}
-use Rattle.outcome.specs.Demo.{IsDemoOutcomeAfterIndexing, IsDemoOutcomeAfterInstalling, IsDemoOutcomeAfterPackaging, IsDemoOutcome, IsOutcomeOfNextRunOrEarlierRefusal, IsOutcomeOfNextRunOrBeforeIfRefused, outcome_before_first_demo_run, with_demo_file}
+use Rattle.outcome.specs.Demo.{IsDemoOutcomeAfterIndexingByPackageCount, IsDemoOutcomeAfterInstallingByPackageCount, IsDemoOutcomeAfterPackagingByPackageCount, IsDemoOutcomeByPackageCount, IsOutcomeOfNextRunAloneOrEarlierRefusal, IsOutcomeOfNextRunAloneOrBeforeIfRefused, outcome_before_demo_with_repositories_file, with_file_packed_in_demo_package}
 use Rattle.outcome.specs.Effect.{does_recover, ignores_files, effect_of, output_name_for_effect}
 use Rattle.outcome.specs.Outcome.{Outcome, just_refusal, just_report, just_report_unless_refusal}
-use Rattle.outcome.specs.Words.{IsPossibleOutcome, IsPossibleOutcomeOfApplet, IsOutcome, IsOutcomeOfApplet}
+use Rattle.outcome.specs.Words.{IsPossibleOutcome, IsPossibleOutcomeOfAppletIncludingRecovery, IsOutcome, IsOutcomeOfAppletIncludingRecovery}
 use Rattle.report_core.specs.declared.refusal.Refusal.{Refusal}
 use Rattle.report_core.specs.declared.refusal.Refusal.TheVariants.{Usage}
 use Rattle.root_names.specs.RootNames.{repositories_name}
@@ -41,12 +41,12 @@ use Rattle.apk_front.proofs.Runs.{History, Judged, Leaves, ok_always}
 
 -- what holds of its outcomes
 but_demo : (P : (Files → Outcome → Type 0) → Type 0) (applet : Applet) (command : CommandLine) → (applet ≡ Demo → ⊥)
-    → P (λ files o. IsOutcomeWithoutDemo (Ok command) files o) → P (λ files o. IsOutcomeOfApplet applet command files o)
+    → P (λ files o. IsOutcomeWithoutDemo (Ok command) files o) → P (λ files o. IsOutcomeOfAppletIncludingRecovery applet command files o)
 but_demo P Demo command never h = absurd (never refl)
 but_demo P other command never h = h
 
 found_but_demo : (P : (Outcome → Type 0) → Type 0) (applet : Applet) (command : CommandLine) → (applet ≡ Demo → ⊥)
-    → P (λ o. IsPossibleOutcomeWithoutDemo command o) → P (λ o. IsPossibleOutcomeOfApplet applet command o)
+    → P (λ o. IsPossibleOutcomeWithoutDemo command o) → P (λ o. IsPossibleOutcomeOfAppletIncludingRecovery applet command o)
 found_but_demo P Demo command never h = absurd (never refl)
 found_but_demo P other command never h = h
 
@@ -93,11 +93,11 @@ other_proper command applet old P same never proper =
 
 -- what its function says
 abbrev pub IsDemoJudged : List Operand → Judged → Type 0
-IsDemoJudged operands judged = MatchResult judged (λ verdict. (files : Files) → IsDemoOutcome (demo_count operands) files (as_outcome files verdict)) (λ fault. fault ≡ NoMemory)
+IsDemoJudged operands judged = MatchResult judged (λ verdict. (files : Files) → IsDemoOutcomeByPackageCount (demo_count operands) files (as_outcome files verdict)) (λ fault. fault ≡ NoMemory)
 
-demo_by : (command : CommandLine) (applet : Applet) (operands : List Operand) (files : Files) (o : Outcome) → applet ≡ command.applet → applet ≡ Demo → operands ≡ command.operands → IsDemoOutcome (demo_count operands) files o → IsOutcome (Ok command) files o
+demo_by : (command : CommandLine) (applet : Applet) (operands : List Operand) (files : Files) (o : Outcome) → applet ≡ command.applet → applet ≡ Demo → operands ≡ command.operands → IsDemoOutcomeByPackageCount (demo_count operands) files o → IsOutcome (Ok command) files o
 demo_by command applet operands files o same is of one =
-    subst (λ (a : Applet). IsOutcomeOfApplet a command files o) (sym is ∙ same) (subst (λ (os : List Operand). IsDemoOutcome (demo_count os) files o) of one)
+    subst (λ (a : Applet). IsOutcomeOfAppletIncludingRecovery a command files o) (sym is ∙ same) (subst (λ (os : List Operand). IsDemoOutcomeByPackageCount (demo_count os) files o) of one)
 
 pub demo_by_words : (command : CommandLine) (applet : Applet) (operands : List Operand) (judged : Judged) → applet ≡ command.applet → applet ≡ Demo → operands ≡ command.operands → IsDemoJudged operands judged
     → MatchResult judged (λ verdict. (files : Files) → IsOutcome (Ok command) files (as_outcome files verdict)) (λ fault. fault ≡ NoMemory)
@@ -116,8 +116,8 @@ pub demo_by_reads : (command : CommandLine) (applet : Applet) (operands : List O
 demo_by_reads command applet operands (Err fault) same is of one = tt
 demo_by_reads command applet operands (Ok verdict) same is of one = (
   as_outcome no_names verdict,
-  subst (λ (a : Applet). IsPossibleOutcomeOfApplet a command (as_outcome no_names verdict)) (sym is ∙ same)
-      (subst (λ (os : List Operand). IsDemoOutcome (demo_count os) no_names (as_outcome no_names verdict)) of (one no_names)),
+  subst (λ (a : Applet). IsPossibleOutcomeOfAppletIncludingRecovery a command (as_outcome no_names verdict)) (sym is ∙ same)
+      (subst (λ (os : List Operand). IsDemoOutcomeByPackageCount (demo_count os) no_names (as_outcome no_names verdict)) of (one no_names)),
   refl,
 )
 
@@ -125,7 +125,7 @@ unless_leaves : (files : Files) (refusal : Option Refusal) (report : List ℕ) �
 unless_leaves files None report = (refl, refl)
 unless_leaves files (Some refusal) report = (refl, refl)
 
-demo_leaves : (applet : Applet) (command : CommandLine) (files : Files) (o : Outcome) → applet ≡ Demo → IsOutcomeOfApplet applet command files o → Leaves files o
+demo_leaves : (applet : Applet) (command : CommandLine) (files : Files) (o : Outcome) → applet ≡ Demo → IsOutcomeOfAppletIncludingRecovery applet command files o → Leaves files o
 demo_leaves Demo command files o demo (last, is_last, is) = subst (Leaves files) (sym is) (unless_leaves files last.refusal (demo_line_of_count_and_add_report (demo_count command.operands) last.out))
 demo_leaves other command files o demo is = cc
 
@@ -169,9 +169,9 @@ refused_to words p q fault tree verdict same is of is_shown =
 -- what a run behind another leads to
 abbrev pub CountsOnlyRise : List (List ℕ) → (Files → Files) → Verdict → MemoryTree → Verdict → MemoryTree → Type 0
 CountsOnlyRise words change last old verdict new =
-    (before : Outcome) → Reports last before → files_of (tree_state old) ≡ before.files → IsRunToOutcome (IsOutcomeOfNextRunOrEarlierRefusal words (change before.files) before) verdict new
+    (before : Outcome) → Reports last before → files_of (tree_state old) ≡ before.files → IsRunToOutcome (IsOutcomeOfNextRunAloneOrEarlierRefusal words (change before.files) before) verdict new
 
-stays : (refusal : Option Refusal) (words : List (List ℕ)) (files : Files) (before : Outcome) → IsSome refusal → IsOutcomeOfNextRunOrBeforeIfRefused refusal words files before before
+stays : (refusal : Option Refusal) (words : List (List ℕ)) (files : Files) (before : Outcome) → IsSome refusal → IsOutcomeOfNextRunAloneOrBeforeIfRefused refusal words files before before
 stays None words files before some = cc
 stays (Some refusal) words files before some = refl
 
@@ -179,7 +179,7 @@ pub after_refused : (words : List (List ℕ)) (change : Files → Files) (last :
 after_refused words change last tree some = λ before reports files.
     (before, stays before.refusal words (change before.files) before (subst (λ (r : Option Refusal). IsSome r) (ap (λ (o : Outcome). o.refusal) reports) some), reports, files)
 
-moves : (refusal : Option Refusal) (words : List (List ℕ)) (files : Files) (before o : Outcome) → (is_some refusal ≡ false) → IsOutcomeWithoutDemo (command_of words) files o → IsOutcomeOfNextRunOrBeforeIfRefused refusal words files before o
+moves : (refusal : Option Refusal) (words : List (List ℕ)) (files : Files) (before o : Outcome) → (is_some refusal ≡ false) → IsOutcomeWithoutDemo (command_of words) files o → IsOutcomeOfNextRunAloneOrBeforeIfRefused refusal words files before o
 moves None words files before o none one = one
 moves (Some refusal) words files before o none one = cc
 
@@ -197,24 +197,24 @@ behind_run words change last old (Ok verdict) new none (o, one, reported, files)
 
 -- ---- all runs
 
-pub start_to : (tree : MemoryTree) (verdict : Verdict) → ((files : Files) → as_outcome files verdict ≡ just_report files []) → files_of (tree_state tree) ≡ outcome_before_first_demo_run.files → IsRunToOutcome (IsDemoOutcomeAfterPackaging 0) verdict tree
-start_to tree verdict shown files = (outcome_before_first_demo_run, refl, shown outcome_before_first_demo_run.files, files)
+pub start_to : (tree : MemoryTree) (verdict : Verdict) → ((files : Files) → as_outcome files verdict ≡ just_report files []) → files_of (tree_state tree) ≡ outcome_before_demo_with_repositories_file.files → IsRunToOutcome (IsDemoOutcomeAfterPackagingByPackageCount 0) verdict tree
+start_to tree verdict shown files = (outcome_before_demo_with_repositories_file, refl, shown outcome_before_demo_with_repositories_file.files, files)
 
-next_at : (i : ℕ) (last verdict : Verdict) (old new : MemoryTree) → IsRunToOutcome (IsDemoOutcomeAfterPackaging i) last old → CountsOnlyRise (mkpkg_words (suc i)) (with_demo_file (suc i)) last old verdict new → IsRunToOutcome (IsDemoOutcomeAfterPackaging (suc i)) verdict new
+next_at : (i : ℕ) (last verdict : Verdict) (old new : MemoryTree) → IsRunToOutcome (IsDemoOutcomeAfterPackagingByPackageCount i) last old → CountsOnlyRise (mkpkg_words (suc i)) (with_file_packed_in_demo_package (suc i)) last old verdict new → IsRunToOutcome (IsDemoOutcomeAfterPackagingByPackageCount (suc i)) verdict new
 next_at i last verdict old new (before, is, reports, files) on =
     let (o, one, reported, after) = on before reports files in
     (o, (before, is, one), reported, after)
 
-pub next_to : (i : ℕ) (last verdict : Verdict) (old new : MemoryTree) → IsRunToOutcome (IsDemoOutcomeAfterPackaging i) last old → CountsOnlyRise (mkpkg_words (i + 1)) (with_demo_file (i + 1)) last old verdict new → IsRunToOutcome (IsDemoOutcomeAfterPackaging (i + 1)) verdict new
+pub next_to : (i : ℕ) (last verdict : Verdict) (old new : MemoryTree) → IsRunToOutcome (IsDemoOutcomeAfterPackagingByPackageCount i) last old → CountsOnlyRise (mkpkg_words (i + 1)) (with_file_packed_in_demo_package (i + 1)) last old verdict new → IsRunToOutcome (IsDemoOutcomeAfterPackagingByPackageCount (i + 1)) verdict new
 next_to i last verdict old new one =
-    subst (λ k. CountsOnlyRise (mkpkg_words k) (with_demo_file k) last old verdict new → IsRunToOutcome (IsDemoOutcomeAfterPackaging k) verdict new) (sym (plus_one i)) (next_at i last verdict old new one)
+    subst (λ k. CountsOnlyRise (mkpkg_words k) (with_file_packed_in_demo_package k) last old verdict new → IsRunToOutcome (IsDemoOutcomeAfterPackagingByPackageCount k) verdict new) (sym (plus_one i)) (next_at i last verdict old new one)
 
-pub index_to : (n : ℕ) (last verdict : Verdict) (old new : MemoryTree) → IsRunToOutcome (IsDemoOutcomeAfterPackaging n) last old → CountsOnlyRise (mkndx_words n) (λ files. files) last old verdict new → IsRunToOutcome (IsDemoOutcomeAfterIndexing n) verdict new
+pub index_to : (n : ℕ) (last verdict : Verdict) (old new : MemoryTree) → IsRunToOutcome (IsDemoOutcomeAfterPackagingByPackageCount n) last old → CountsOnlyRise (mkndx_words n) (λ files. files) last old verdict new → IsRunToOutcome (IsDemoOutcomeAfterIndexingByPackageCount n) verdict new
 index_to n last verdict old new (before, is, reports, files) on =
     let (o, one, reported, after) = on before reports files in
     (o, (before, is, one), reported, after)
 
-pub add_to : (n : ℕ) (last : Verdict) (old new : MemoryTree) (judged : Judged) → IsRunToOutcome (IsDemoOutcomeAfterIndexing n) last old → IfOk judged (λ verdict. CountsOnlyRise (add_words n) (λ files. files) last old verdict new) → IfOk judged (λ verdict. IsRunToOutcome (IsDemoOutcomeAfterInstalling n) verdict new)
+pub add_to : (n : ℕ) (last : Verdict) (old new : MemoryTree) (judged : Judged) → IsRunToOutcome (IsDemoOutcomeAfterIndexingByPackageCount n) last old → IfOk judged (λ verdict. CountsOnlyRise (add_words n) (λ files. files) last old verdict new) → IfOk judged (λ verdict. IsRunToOutcome (IsDemoOutcomeAfterInstallingByPackageCount n) verdict new)
 add_to n last old new (Err fault) one on = tt
 add_to n last old new (Ok verdict) (before, is, reports, files) on =
     let (o, one, reported, after) = on before reports files in
@@ -222,9 +222,9 @@ add_to n last old new (Ok verdict) (before, is, reports, files) on =
 
 -- ---- what is told
 
-pub told_demo : (n : ℕ) (last : Verdict) (tree : MemoryTree) (judged : Judged) → IsRunToOutcome (IsDemoOutcomeAfterInstalling n) last tree
+pub told_demo : (n : ℕ) (last : Verdict) (tree : MemoryTree) (judged : Judged) → IsRunToOutcome (IsDemoOutcomeAfterInstallingByPackageCount n) last tree
     → MatchResult judged (λ verdict. (files : Files) → as_outcome files verdict ≡ just_report_unless_refusal files last.refusal (demo_line_of_count_and_add_report n last.report)) (λ fault. fault ≡ NoMemory)
-    → MatchResult judged (λ verdict. (files : Files) → IsDemoOutcome n files (as_outcome files verdict)) (λ fault. fault ≡ NoMemory)
+    → MatchResult judged (λ verdict. (files : Files) → IsDemoOutcomeByPackageCount n files (as_outcome files verdict)) (λ fault. fault ≡ NoMemory)
 told_demo n last tree (Err fault) one shown = shown
 told_demo n last tree (Ok verdict) (o, is, reports, files) shown = λ files. (
   o,
@@ -245,15 +245,15 @@ package_to words more files at new judged same_words same_files ran =
 pub put_to : (files new : Files) (name at bytes text : List ℕ) → new ≡ put_name files name bytes → name ≡ at → bytes ≡ text → new ≡ put_name files at text
 put_to files new name at bytes text is same_name same_text = is ∙ (ap (λ (n : List ℕ). put_name files n bytes) same_name ∙ ap (λ (t : List ℕ). put_name files at t) same_text)
 
-pub start_files : (files new : Files) (bytes : List ℕ) → new ≡ put_name files repositories_name bytes → files ≡ no_names → bytes ≡ demo_repositories → new ≡ outcome_before_first_demo_run.files
+pub start_files : (files new : Files) (bytes : List ℕ) → new ≡ put_name files repositories_name bytes → files ≡ no_names → bytes ≡ demo_repositories → new ≡ outcome_before_demo_with_repositories_file.files
 start_files files new bytes is none same =
     is ∙ (ap (λ (f : Files). put_name f repositories_name bytes) none ∙ ap (λ (b : List ℕ). put_name {X = List ℕ} no_names repositories_name b) same)
 
 -- ---- the index, and the installation
 
-pub install_to : (n : ℕ) (packaged indexed : Verdict) (first second third : MemoryTree) (index add : List (List ℕ)) (judged : Judged) → IsRunToOutcome (IsDemoOutcomeAfterPackaging n) packaged first
+pub install_to : (n : ℕ) (packaged indexed : Verdict) (first second third : MemoryTree) (index add : List (List ℕ)) (judged : Judged) → IsRunToOutcome (IsDemoOutcomeAfterPackagingByPackageCount n) packaged first
     → index ≡ mkndx_words n → CountsOnlyRise index (λ files. files) packaged first indexed second → add ≡ add_words n → IfOk judged (λ verdict. CountsOnlyRise add (λ files. files) indexed second verdict third)
-    → IfOk judged (λ verdict. IsRunToOutcome (IsDemoOutcomeAfterInstalling n) verdict third)
+    → IfOk judged (λ verdict. IsRunToOutcome (IsDemoOutcomeAfterInstallingByPackageCount n) verdict third)
 install_to n packaged indexed first second third index add judged one is_index on_index is_add on_add =
     add_to n indexed second third judged
     (index_to n packaged indexed first second one (subst (λ (w : List (List ℕ)). CountsOnlyRise w (λ files. files) packaged first indexed second) is_index on_index))

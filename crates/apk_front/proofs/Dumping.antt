@@ -24,7 +24,7 @@ use Rattle.make_core.proofs.make_index.IndexReads.{operand_name}
 use Rattle.command_core.specs.Named.{operand_file}
 use Rattle.make_core.specs.make_info.Reads.{Reads}
 use Rattle.outcome.specs.Commands.{reads_in}
-use Rattle.outcome.specs.Dump.{adbdump, dump_outcome, text_outcome, dump_of, dump_by_root_table, dump_of_blocks, dump_by_schema, payload_head_or_shape_fault, framing_fault, text_unless_fault}
+use Rattle.outcome.specs.Dump.{adbdump, dump_outcome, text_outcome, dump_of, dump_by_schema_number_and_table_if_any, dump_of_first_block_unless_fault_of_blocks, dump_by_schema_unless_header_fault, payload_head_or_shape_fault, framing_fault_of_blocks, text_unless_fault}
 use Rattle.outcome.specs.Outcome.{just_refusal, just_report}
 use Rattle.pkg_core.specs.Whole.{table_of_schema}
 use Rattle.report_core.specs.declared.refusal.Refusal.TheVariants.{FileMissing, FileBad}
@@ -35,27 +35,27 @@ use Rattle.apk_front.specs.declared.answer.Verdict.{Verdict}
 
 -- ---- blocks
 
-pub text_of_shaped : (which : Which) (r later : Reading) (shaped : Shaped) (text : List ℕ) → IsAfterShapedFirstBlock which (payload_of (adb_of shaped)) r later → None ≡ framing_fault later → table_of shaped ≡ which → text ≡ dump_text (table_of shaped) (shaped_value shaped) → dump_of_blocks which r ≡ Ok text
+pub text_of_shaped : (which : Which) (r later : Reading) (shaped : Shaped) (text : List ℕ) → IsAfterShapedFirstBlock which (payload_of (adb_of shaped)) r later → None ≡ framing_fault_of_blocks later → table_of shaped ≡ which → text ≡ dump_text (table_of shaped) (shaped_value shaped) → dump_of_first_block_unless_fault_of_blocks which r ≡ Ok text
 text_of_shaped which done later shaped text first framed table is = absurd first
 text_of_shaped which (fault c) later shaped text first framed table is = absurd first
 text_of_shaped which (more b at r) later shaped text first framed table is =
     let value : dump_text (table_of shaped) (shaped_value shaped) ≡ dump_text which (root_value_of_payload which b.payload) =
     ap (λ w. dump_text w (root_value_of_payload w (payload_of (adb_of shaped)))) table ∙ ap (λ p. dump_text which (root_value_of_payload which p)) first.0 in
-    let tested : option_or (payload_head_or_shape_fault which b.payload) (framing_fault r) ≡ None =
-    ap (λ f. option_or f (framing_fault r)) first.1 ∙ (ap framing_fault first.2 ∙ sym framed) in
+    let tested : option_or (payload_head_or_shape_fault which b.payload) (framing_fault_of_blocks r) ≡ None =
+    ap (λ f. option_or f (framing_fault_of_blocks r)) first.1 ∙ (ap framing_fault_of_blocks first.2 ∙ sym framed) in
     ap (λ f. text_unless_fault f (dump_text which (root_value_of_payload which b.payload))) tested ∙ ap Ok (sym (is ∙ value))
 
-pub first_block_bad : (which : Which) (r : Reading) (c : Cause) → first_block_head_or_shape_fault which r ≡ Some c → dump_of_blocks which r ≡ Err c
+pub first_block_bad : (which : Which) (r : Reading) (c : Cause) → first_block_head_or_shape_fault which r ≡ Some c → dump_of_first_block_unless_fault_of_blocks which r ≡ Err c
 first_block_bad which done c h = absurd (none-some c h)
 first_block_bad which (fault d) c h = ap (λ f. text_unless_fault f (dump_text which (root_value_of_payload which []))) h
-first_block_bad which (more b at r) c h = ap (λ f. text_unless_fault (option_or f (framing_fault r)) (dump_text which (root_value_of_payload which b.payload))) h
+first_block_bad which (more b at r) c h = ap (λ f. text_unless_fault (option_or f (framing_fault_of_blocks r)) (dump_text which (root_value_of_payload which b.payload))) h
 
-pub later_block_bad : (which : Which) (r later : Reading) (payload : List ℕ) (c : Cause) → IsAfterShapedFirstBlock which payload r later → Some c ≡ framing_fault later → dump_of_blocks which r ≡ Err c
+pub later_block_bad : (which : Which) (r later : Reading) (payload : List ℕ) (c : Cause) → IsAfterShapedFirstBlock which payload r later → Some c ≡ framing_fault_of_blocks later → dump_of_first_block_unless_fault_of_blocks which r ≡ Err c
 later_block_bad which done later payload c first framed = absurd first
 later_block_bad which (fault d) later payload c first framed = absurd first
 later_block_bad which (more b at r) later payload c first framed =
-    let tested : option_or (payload_head_or_shape_fault which b.payload) (framing_fault r) ≡ Some c =
-    ap (λ f. option_or f (framing_fault r)) first.1 ∙ (ap framing_fault first.2 ∙ sym framed) in
+    let tested : option_or (payload_head_or_shape_fault which b.payload) (framing_fault_of_blocks r) ≡ Some c =
+    ap (λ f. option_or f (framing_fault_of_blocks r)) first.1 ∙ (ap framing_fault_of_blocks first.2 ∙ sym framed) in
     ap (λ f. text_unless_fault f (dump_text which (root_value_of_payload which b.payload))) tested
 
 -- ---- the schema
@@ -79,10 +79,10 @@ root_known schema which h =
     known : (w : Which) → Some w ≡ Some which → is_some (header_schema_if_root_table w) ≡ true → is_some (header_schema_if_root_table which) ≡ true
     known w e k = subst (λ x. is_some (header_schema_if_root_table x) ≡ true) (same_Some w which e) k
 
-pub dump_is : (file : List ℕ) (schema : ℕ) (s : PositionBetweenBlocks) (which : Which) (answer : Result (List ℕ) Cause) → schema_of_header file ≡ Ok schema → s ≡ first_block_position_of_schema_and_file schema file → table_of_schema schema ≡ Some which → dump_of_blocks which (block_stream_from s) ≡ answer → dump_of file ≡ answer
+pub dump_is : (file : List ℕ) (schema : ℕ) (s : PositionBetweenBlocks) (which : Which) (answer : Result (List ℕ) Cause) → schema_of_header file ≡ Ok schema → s ≡ first_block_position_of_schema_and_file schema file → table_of_schema schema ≡ Some which → dump_of_first_block_unless_fault_of_blocks which (block_stream_from s) ≡ answer → dump_of file ≡ answer
 unfolding dump_of
 dump_is file schema s which answer h at root is =
-    ap (dump_by_schema file) h ∙ (ap (dump_by_root_table schema (block_stream_from (first_block_position_of_schema_and_file schema file))) root ∙ (ap (λ t. dump_of_blocks which (block_stream_from t)) (sym at) ∙ is))
+    ap (dump_by_schema_unless_header_fault file) h ∙ (ap (dump_by_schema_number_and_table_if_any schema (block_stream_from (first_block_position_of_schema_and_file schema file))) root ∙ (ap (λ t. dump_of_first_block_unless_fault_of_blocks which (block_stream_from t)) (sym at) ∙ is))
 
 -- ---- the operand
 

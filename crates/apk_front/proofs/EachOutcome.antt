@@ -15,7 +15,7 @@ use Rattle.outcome.specs.Words.{IsOutcome}
 use Rattle.outcome.specs.Effect.{Effect, effect_of_arguments, output}
 use Rattle.outcome.specs.Outcome.{Outcome}
 use Rattle.words_core.specs.Grammar.{command_of}
-use Rattle.apk_front.specs.Moments.{MomentsOfMakingOrChangeLeadToFiles, AreStatesOldOrLeadToOutcome, IsOkOrOutputFault, LeavesDurableFilesOnceAnsweredOrRefused, MustOutcomeBeDurable}
+use Rattle.apk_front.specs.Moments.{MomentsOfMakingOrChangeLeadToFiles, AreStatesOldOrLeadToOutcome, IsOkOrOutputFault, LeavesDurableFilesIfRequiredOnceAnswered, CommitsRecoversIntentOrCrashesLeaveAsRead}
 use Rattle.apk_front.specs.declared.answer.Answer.{Answer}
 use Rattle.apk_front.specs.declared.answer.Answer.TheVariants.{Ok, Refused, TreeFault, OutFault, Memory}
 
@@ -51,13 +51,13 @@ safe_for_each unique law words ignored v outcome old now (inr (o, its, commits, 
 
 -- ---- what lasts
 
-lasts_for : (effect : Effect) (ignored : List ℕ → Bool) (v : TreeState) (o outcome : Outcome) (now : List TreeState) → o ≡ outcome → MustOutcomeBeDurable effect ignored v outcome → (MustOutcomeBeDurable effect ignored v o → HoldsNow now (EachCrashLeavesStateOf ignored o.files))
+lasts_for : (effect : Effect) (ignored : List ℕ → Bool) (v : TreeState) (o outcome : Outcome) (now : List TreeState) → o ≡ outcome → CommitsRecoversIntentOrCrashesLeaveAsRead effect ignored v outcome → (CommitsRecoversIntentOrCrashesLeaveAsRead effect ignored v o → HoldsNow now (EachCrashLeavesStateOf ignored o.files))
     → HoldsNow now (EachCrashLeavesStateOf ignored outcome.files)
-lasts_for effect ignored v o outcome now same settles last = subst (λ (x : Outcome). (MustOutcomeBeDurable effect ignored v x → HoldsNow now (EachCrashLeavesStateOf ignored x.files))) same last settles
+lasts_for effect ignored v o outcome now same settles last = subst (λ (x : Outcome). (CommitsRecoversIntentOrCrashesLeaveAsRead effect ignored v x → HoldsNow now (EachCrashLeavesStateOf ignored x.files))) same last settles
 
 pub lasting_for_each : IsUnique → (words : List (List ℕ)) (ignored : List ℕ → Bool) (v : TreeState) (outcome : Outcome) (now : List TreeState) (answer : Answer)
-    → LeavesDurableFilesOnceAnsweredOrRefused (IsOutcome (command_of words) (files_of v)) (effect_of_arguments (command_of words)) ignored v now answer → IsOkOrOutputFault answer → IsOutcome (command_of words) (files_of v) outcome → outcome.refusal ≡ None
-    → MustOutcomeBeDurable (effect_of_arguments (command_of words)) ignored v outcome → HoldsNow now (EachCrashLeavesStateOf ignored outcome.files)
+    → LeavesDurableFilesIfRequiredOnceAnswered (IsOutcome (command_of words) (files_of v)) (effect_of_arguments (command_of words)) ignored v now answer → IsOkOrOutputFault answer → IsOutcome (command_of words) (files_of v) outcome → outcome.refusal ≡ None
+    → CommitsRecoversIntentOrCrashesLeaveAsRead (effect_of_arguments (command_of words)) ignored v outcome → HoldsNow now (EachCrashLeavesStateOf ignored outcome.files)
 lasting_for_each unique words ignored v outcome now Ok (o, its, its_none, last) carried one none settles =
     lasts_for (effect_of_arguments (command_of words)) ignored v o outcome now (unique words (files_of v) o outcome its one) settles last
 lasting_for_each unique words ignored v outcome now OutFault (o, its, last) carried one none settles =

@@ -22,7 +22,7 @@ use Rattle.outcome.specs.Outcome.{Outcome, just_refusal}
 use Rattle.outcome.specs.Words.{IsPossibleOutcome, IsOutcome}
 use Rattle.outcome.specs.Version.{version}
 use Rattle.outcome.specs.Commands.{IsOutcomeWithoutDemo, IsOutcomeOverRecoveredFiles, IsOutcomeUnlessBadIntent, effect_outcome, reads_in}
-use Rattle.outcome.specs.Given.{IsChoiceForCommand, IsFirstClashForEffect, IsListingChoiceAndClashFor, AreNamesListedForApplet, IsPossibleListingChoiceAndClash, ArePossibleNamesListedForApplet, IsPossibleFirstClashForEffect, no_listing_choice_or_clash}
+use Rattle.outcome.specs.Given.{IsPreferredChoiceForChangeElseNone, IsFirstClashForChangeElseNone, IsListingChoiceAndClashFor, AreNamesListedForApplet, IsPossibleListingChoiceAndClash, ArePossibleNamesListedForApplet, IsPossibleFirstClashForChangeElseNone, no_listing_choice_or_clash}
 use Rattle.outcome.specs.Effect.{Effect, Computes, OnlyReadsFiles, AsksRoot, Makes, Changes, does_neither_recover_nor_write, does_recover, ignores_files, effect_of_arguments, effect_of, output, depends_only_on_arguments}
 use Rattle.outcome.specs.Work.{recovery_fault, files_recovered_if_needed}
 use Rattle.base_core.specs.declared.cause.Cause.{Cause}
@@ -48,15 +48,15 @@ no_listing_by_some : (applet : Applet) (command : CommandLine) → does_neither_
 no_listing_by_some Mkpkg command reads = cc
 no_listing_by_some other command reads = refl
 
-no_choice : (effect : Effect) (command : CommandLine) (read : Reads) → does_neither_recover_nor_write effect ≡ true → IsChoiceForCommand effect command read None
+no_choice : (effect : Effect) (command : CommandLine) (read : Reads) → does_neither_recover_nor_write effect ≡ true → IsPreferredChoiceForChangeElseNone effect command read None
 no_choice Changes command read reads = cc
 no_choice other command read reads = refl
 
-no_clash : (effect : Effect) (command : CommandLine) (read : Reads) (files : Files) → does_neither_recover_nor_write effect ≡ true → IsFirstClashForEffect effect command read files None None
+no_clash : (effect : Effect) (command : CommandLine) (read : Reads) (files : Files) → does_neither_recover_nor_write effect ≡ true → IsFirstClashForChangeElseNone effect command read files None None
 no_clash Changes command read files reads = cc
 no_clash other command read files reads = refl
 
-no_clash_by_some : (effect : Effect) (command : CommandLine) (read : Reads) (files : Files) → does_neither_recover_nor_write effect ≡ true → IsPossibleFirstClashForEffect effect command read files None None
+no_clash_by_some : (effect : Effect) (command : CommandLine) (read : Reads) (files : Files) → does_neither_recover_nor_write effect ≡ true → IsPossibleFirstClashForChangeElseNone effect command read files None None
 no_clash_by_some Changes command read files reads = absurd (cc)
 no_clash_by_some other command read files reads = refl
 

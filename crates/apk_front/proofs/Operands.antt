@@ -26,7 +26,7 @@ use Rattle.command_core.specs.declared.operands.OperandKind.TheVariants.{Any, Nu
 use Rattle.make_core.specs.make_info.Reads.{Reads}
 use Rattle.outcome.specs.Commands.{reads_in}
 use Rattle.outcome.specs.Outcome.{just_refusal, just_report, just_report_unless_refusal}
-use Rattle.outcome.specs.Verify.{file_refusal, sound_lines, verify, verify_refusal}
+use Rattle.outcome.specs.Verify.{file_refusal, sound_lines, verify, verify_refusal_from_read_number}
 use Rattle.outcome.specs.Version.{line_if_invalid_version, invalid_version_lines, order_line, version_order_report, version_refusal}
 use Rattle.report_core.specs.declared.refusal.Refusal.{Refusal}
 use Rattle.report_core.specs.declared.refusal.Refusal.TheVariants.{VersionBad}
@@ -145,18 +145,18 @@ AgreeBefore later read i = (k : ℕ) (name : List ℕ) → k < i → later k nam
 -- the operands before a place were read, and none of them is refused
 pub record IsReadTo (os : List Operand) (i : ℕ) : Type 0 where
   pub read : Reads
-  pub rest : (later : Reads) → AgreeBefore later read i → verify_refusal later 0 os ≡ verify_refusal later i (drop i os)
+  pub rest : (later : Reads) → AgreeBefore later read i → verify_refusal_from_read_number later 0 os ≡ verify_refusal_from_read_number later i (drop i os)
 
 pub read_none : (os : List Operand) → IsReadTo os 0
 read_none os = record { read = λ k name. None; rest = λ later agree. refl }
 
 -- the operands that are left, where one was read
 read_one : (os : List Operand) (i : ℕ) (o : Operand) (r : Option Refusal) (f : Option (List ℕ)) (later : Reads) → slice_get os i ≡ Some o → r ≡ file_refusal o.place f → later i (without_one_leading_dot_slash o.text) ≡ f
-    → verify_refusal later i (drop i os) ≡ option_or r (verify_refusal later (i + 1) (drop (i + 1) os))
+    → verify_refusal_from_read_number later i (drop i os) ≡ option_or r (verify_refusal_from_read_number later (i + 1) (drop (i + 1) os))
 read_one os i o r f later at is here =
-    ap (verify_refusal later i) (left_at os i o at)
-    ∙ ap (λ (x : Option (List ℕ)). option_or (file_refusal o.place x) (verify_refusal later (i + 1) (drop (i + 1) os))) here
-    ∙ ap (λ (x : Option Refusal). option_or x (verify_refusal later (i + 1) (drop (i + 1) os))) (sym is)
+    ap (verify_refusal_from_read_number later i) (left_at os i o at)
+    ∙ ap (λ (x : Option (List ℕ)). option_or (file_refusal o.place x) (verify_refusal_from_read_number later (i + 1) (drop (i + 1) os))) here
+    ∙ ap (λ (x : Option Refusal). option_or x (verify_refusal_from_read_number later (i + 1) (drop (i + 1) os))) (sym is)
 
 pub read_more : (os : List Operand) (i : ℕ) (o : Operand) (r : Option Refusal) → slice_get os i ≡ Some o → IsReadTo os i → (found : Option (List ℕ)) × (r ≡ file_refusal o.place found) → false ≡ is_some r → IsReadTo os (i + 1)
 read_more os i o r at so (f, is) none = record {
@@ -164,23 +164,23 @@ read_more os i o r at so (f, is) none = record {
   rest = λ later agree.
       so.rest later (λ k name lt. agree k name (omega (lt, arith)) ∙ read_with_before so.read i k f name lt)
       ∙ read_one os i o r f later at is (agree i (without_one_leading_dot_slash o.text) (omega arith) ∙ read_with_at so.read i f (without_one_leading_dot_slash o.text))
-      ∙ or_next r (verify_refusal later (i + 1) (drop (i + 1) os)) none;
+      ∙ or_next r (verify_refusal_from_read_number later (i + 1) (drop (i + 1) os)) none;
 }
 
 pub read_here : (os : List Operand) (i : ℕ) (o : Operand) (r : Option Refusal) → slice_get os i ≡ Some o → IsReadTo os i → (found : Option (List ℕ)) × (r ≡ file_refusal o.place found) → true ≡ is_some r
-    → (read : Reads) × (r ≡ verify_refusal read 0 os)
+    → (read : Reads) × (r ≡ verify_refusal_from_read_number read 0 os)
 read_here os i o r at so (f, is) some =
     let now = read_with so.read i f in
-    (now, sym (so.rest now (λ k name lt. read_with_before so.read i k f name lt) ∙ read_one os i o r f now at is (read_with_at so.read i f (without_one_leading_dot_slash o.text)) ∙ or_here r (verify_refusal now (i + 1) (drop (i + 1) os)) some))
+    (now, sym (so.rest now (λ k name lt. read_with_before so.read i k f name lt) ∙ read_one os i o r f now at is (read_with_at so.read i f (without_one_leading_dot_slash o.text)) ∙ or_here r (verify_refusal_from_read_number now (i + 1) (drop (i + 1) os)) some))
 
-pub read_all_of : (os : List Operand) (i : ℕ) → drop i os ≡ [] → IsReadTo os i → (read : Reads) × (None ≡ verify_refusal read 0 os)
-read_all_of os i ended so = (so.read, sym (so.rest so.read (λ k name lt. refl) ∙ ap (verify_refusal so.read i) ended))
+pub read_all_of : (os : List Operand) (i : ℕ) → drop i os ≡ [] → IsReadTo os i → (read : Reads) × (None ≡ verify_refusal_from_read_number read 0 os)
+read_all_of os i ended so = (so.read, sym (so.rest so.read (λ k name lt. refl) ∙ ap (verify_refusal_from_read_number so.read i) ended))
 
 -- ---- what verify finds in the files
 
 -- the operands before a place are not refused
 abbrev pub IsFine : List Operand → ℕ → TreeState → Type 0
-IsFine os i v = verify_refusal (reads_in (files_of v)) 0 os ≡ verify_refusal (reads_in (files_of v)) i (drop i os)
+IsFine os i v = verify_refusal_from_read_number (reads_in (files_of v)) 0 os ≡ verify_refusal_from_read_number (reads_in (files_of v)) i (drop i os)
 
 abbrev pub IsTestOf : Operand → List ℕ → Option Refusal → TreeState → Type 0
 IsTestOf o name r v = r ≡ file_refusal o.place (files_of v name)
@@ -190,16 +190,16 @@ fine_none [] os = tt
 fine_none (v ∷ old) os = refl
 
 test_one : (v : TreeState) (os : List Operand) (i : ℕ) (o : Operand) (name : List ℕ) (r : Option Refusal) → slice_get os i ≡ Some o → name ≡ without_one_leading_dot_slash o.text → IsTestOf o name r v
-    → verify_refusal (reads_in (files_of v)) i (drop i os) ≡ option_or r (verify_refusal (reads_in (files_of v)) (i + 1) (drop (i + 1) os))
+    → verify_refusal_from_read_number (reads_in (files_of v)) i (drop i os) ≡ option_or r (verify_refusal_from_read_number (reads_in (files_of v)) (i + 1) (drop (i + 1) os))
 test_one v os i o name r at named is = read_one os i o r (files_of v name) (reads_in (files_of v)) at is (ap (files_of v) (sym named))
 
 pub found_here : (old now : List TreeState) (os : List Operand) (i : ℕ) (o : Operand) (name : List ℕ) (r : Option Refusal) → now ≡ old → slice_get os i ≡ Some o → option_map operand_file (slice_get os i) ≡ Some name
     → IfObservable old (IsFine os i) → IfObservable now (IsTestOf o name r) → true ≡ is_some r
-    → IfObservable old (λ v. r ≡ verify_refusal (reads_in (files_of v)) 0 os)
+    → IfObservable old (λ v. r ≡ verify_refusal_from_read_number (reads_in (files_of v)) 0 os)
 found_here [] now os i o name r same at is so_far found some = tt
 found_here (v ∷ old) now os i o name r same at is so_far found some =
     let k : IsTestOf o name r v = subst (λ (h : List TreeState). IfObservable h (IsTestOf o name r)) same found in
-    sym (so_far ∙ test_one v os i o name r at (operand_name os i o name at is) k ∙ or_here r (verify_refusal (reads_in (files_of v)) (i + 1) (drop (i + 1) os)) some)
+    sym (so_far ∙ test_one v os i o name r at (operand_name os i o name at is) k ∙ or_here r (verify_refusal_from_read_number (reads_in (files_of v)) (i + 1) (drop (i + 1) os)) some)
 
 pub found_more : (old now : List TreeState) (os : List Operand) (i : ℕ) (o : Operand) (name : List ℕ) (r : Option Refusal) → now ≡ old → slice_get os i ≡ Some o → option_map operand_file (slice_get os i) ≡ Some name
     → IfObservable old (IsFine os i) → IfObservable now (IsTestOf o name r) → false ≡ is_some r
@@ -207,18 +207,18 @@ pub found_more : (old now : List TreeState) (os : List Operand) (i : ℕ) (o : O
 found_more [] now os i o name r same at is so_far found none = tt
 found_more (v ∷ old) now os i o name r same at is so_far found none =
     let k : IsTestOf o name r v = subst (λ (h : List TreeState). IfObservable h (IsTestOf o name r)) same found in
-    so_far ∙ test_one v os i o name r at (operand_name os i o name at is) k ∙ or_next r (verify_refusal (reads_in (files_of v)) (i + 1) (drop (i + 1) os)) none
+    so_far ∙ test_one v os i o name r at (operand_name os i o name at is) k ∙ or_next r (verify_refusal_from_read_number (reads_in (files_of v)) (i + 1) (drop (i + 1) os)) none
 
-pub found_all : (old : List TreeState) (os : List Operand) (i : ℕ) → drop i os ≡ [] → IfObservable old (IsFine os i) → IfObservable old (λ v. None ≡ verify_refusal (reads_in (files_of v)) 0 os)
+pub found_all : (old : List TreeState) (os : List Operand) (i : ℕ) → drop i os ≡ [] → IfObservable old (IsFine os i) → IfObservable old (λ v. None ≡ verify_refusal_from_read_number (reads_in (files_of v)) 0 os)
 found_all [] os i ended so_far = tt
-found_all (v ∷ old) os i ended so_far = sym (so_far ∙ ap (verify_refusal (reads_in (files_of v)) i) ended)
+found_all (v ∷ old) os i ended so_far = sym (so_far ∙ ap (verify_refusal_from_read_number (reads_in (files_of v)) i) ended)
 
-pub verify_found : (old : List TreeState) (os : List Operand) (verdict : Verdict) (r : Option Refusal) → IfObservable old (λ v. r ≡ verify_refusal (reads_in (files_of v)) 0 os)
+pub verify_found : (old : List TreeState) (os : List Operand) (verdict : Verdict) (r : Option Refusal) → IfObservable old (λ v. r ≡ verify_refusal_from_read_number (reads_in (files_of v)) 0 os)
     → ((files : Files) → as_outcome files verdict ≡ just_report_unless_refusal files r (sound_lines os)) → IfObservable old (λ v. as_outcome (files_of v) verdict ≡ verify (reads_in (files_of v)) (files_of v) os)
 verify_found [] os verdict r found is = tt
 verify_found (v ∷ old) os verdict r found is = is (files_of v) ∙ ap (λ (x : Option Refusal). just_report_unless_refusal (files_of v) x (sound_lines os)) found
 
-pub verify_read : (os : List Operand) (verdict : Verdict) (r : Option Refusal) → (read : Reads) × (r ≡ verify_refusal read 0 os)
+pub verify_read : (os : List Operand) (verdict : Verdict) (r : Option Refusal) → (read : Reads) × (r ≡ verify_refusal_from_read_number read 0 os)
     → ((files : Files) → as_outcome files verdict ≡ just_report_unless_refusal files r (sound_lines os)) → (read : Reads) × (as_outcome no_names verdict ≡ verify read no_names os)
 verify_read os verdict r (read, same) is = (read, is no_names ∙ ap (λ (x : Option Refusal). just_report_unless_refusal no_names x (sound_lines os)) same)
 

@@ -22,7 +22,7 @@ use Rattle.report_core.specs.declared.refusal.Refusal.{Refusal}
 use Rattle.outcome.proofs.Applets.{report_is, told_commits, told_files}
 use Rattle.outcome.specs.Commands.{IsPossibleOutcomeAfterRecovery, reads_in}
 use Rattle.outcome.specs.Effect.{AsksRoot, Effect, effect_of, output_name_for_effect}
-use Rattle.outcome.specs.Given.{IsChoiceForCommand, IsFirstClashForEffect, IsListingChoiceAndClashFor, AreNamesListedForApplet, IsPossibleListingChoiceAndClash, ArePossibleNamesListedForApplet, IsPossibleFirstClashForEffect, no_listing_choice_or_clash}
+use Rattle.outcome.specs.Given.{IsPreferredChoiceForChangeElseNone, IsFirstClashForChangeElseNone, IsListingChoiceAndClashFor, AreNamesListedForApplet, IsPossibleListingChoiceAndClash, ArePossibleNamesListedForApplet, IsPossibleFirstClashForChangeElseNone, no_listing_choice_or_clash}
 use Rattle.outcome.specs.Outcome.{Outcome}
 use Rattle.outcome.specs.OutcomeOfReport.{outcome_of_report}
 use Rattle.apk_front.specs.Runs.{IfNothingStaged, IsRunAfterRecovery}
@@ -50,8 +50,8 @@ tells_listed other command files tells = refl
 are_given : (command : CommandLine) (read : Reads) (files : Files) → effect_of command.applet ≡ AsksRoot → IsListingChoiceAndClashFor command read files no_listing_choice_or_clash
 are_given command read files tells = record {
   names = tells_listed command.applet command files tells;
-  chosen = subst (λ (e : Effect). IsChoiceForCommand e command read None) (sym tells) refl;
-  clash = subst (λ (e : Effect). IsFirstClashForEffect e command read files None None) (sym tells) refl;
+  chosen = subst (λ (e : Effect). IsPreferredChoiceForChangeElseNone e command read None) (sym tells) refl;
+  clash = subst (λ (e : Effect). IsFirstClashForChangeElseNone e command read files None None) (sym tells) refl;
 }
 
 tells_some : (applet : Applet) (command : CommandLine) → effect_of applet ≡ AsksRoot → ArePossibleNamesListedForApplet applet command []
@@ -61,8 +61,8 @@ tells_some other command tells = refl
 may_be_given : (command : CommandLine) (read : Reads) (files : Files) → effect_of command.applet ≡ AsksRoot → IsPossibleListingChoiceAndClash command read files no_listing_choice_or_clash
 may_be_given command read files tells = record {
   names = tells_some command.applet command tells;
-  chosen = subst (λ (e : Effect). IsChoiceForCommand e command read None) (sym tells) refl;
-  clash = subst (λ (e : Effect). IsPossibleFirstClashForEffect e command read files None None) (sym tells) refl;
+  chosen = subst (λ (e : Effect). IsPreferredChoiceForChangeElseNone e command read None) (sym tells) refl;
+  clash = subst (λ (e : Effect). IsPossibleFirstClashForChangeElseNone e command read files None None) (sym tells) refl;
 }
 
 -- ---- what was answered as wanted is reported so

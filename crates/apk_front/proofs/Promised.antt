@@ -11,7 +11,7 @@ use Rattle.journal_core.specs.Staged.{unstaged_files}
 use Rattle.outcome.specs.Effect.{Effect, Changes, Makes, AsksRoot, does_neither_recover_nor_write, effect_of_arguments, effect_of}
 use Rattle.engine_core.specs.journal_commit.Asked.{TargetsAreAccepted, RecoveryChangesOnlyAcceptedNames}
 use Rattle.words_core.specs.Grammar.{command_of}
-use Rattle.apk_front.specs.Moments.{EachRecoveryChangesOnlyAcceptedNames}
+use Rattle.apk_front.specs.Moments.{EachRecoveryDiffersOnlyInAcceptedNames}
 use Rattle.apk_front.proofs.AfterRecovery.{RecoversAs, none_since, since_both}
 use Rattle.apk_front.proofs.Behind.{LeavesUnstaged, nothing_waits}
 use Rattle.apk_front.proofs.Runs.{History, since_weaker}
@@ -21,17 +21,17 @@ module _ (accepts : Option (List ℕ) → List ℕ → Type 0) where
   kept v w same = λ name differs. absurd (differs (ap (λ (f : Files). f name) same))
 
   -- nothing is written
-  pub asked_idle : (old : History) → EachRecoveryChangesOnlyAcceptedNames accepts old old
+  pub asked_idle : (old : History) → EachRecoveryDiffersOnlyInAcceptedNames accepts old old
   asked_idle [] = tt
   asked_idle (v ∷ rest) = none_since (RecoveryChangesOnlyAcceptedNames accepts (unstaged_files (files_of v))) (v ∷ rest) (v ∷ rest) refl
 
   -- the recovery did not end
-  pub asked_unrecovered : (old mid : History) → IfObservable old (λ v. Since (RecoversAs v) old mid) → EachRecoveryChangesOnlyAcceptedNames accepts old mid
+  pub asked_unrecovered : (old mid : History) → IfObservable old (λ v. Since (RecoversAs v) old mid) → EachRecoveryDiffersOnlyInAcceptedNames accepts old mid
   asked_unrecovered [] mid reads = tt
   asked_unrecovered (v ∷ rest) mid reads = since_weaker (RecoversAs v) (RecoveryChangesOnlyAcceptedNames accepts (unstaged_files (files_of v))) (v ∷ rest) mid (λ w same. kept v w same) reads
 
   -- it ended well
-  pub asked_behind : (old mid now : History) → IfObservable old (λ v. Since (RecoversAs v) old mid) → IfObservable old (λ v. HoldsNow mid (LeavesUnstaged v)) → TargetsAreAccepted accepts mid now → EachRecoveryChangesOnlyAcceptedNames accepts old now
+  pub asked_behind : (old mid now : History) → IfObservable old (λ v. Since (RecoversAs v) old mid) → IfObservable old (λ v. HoldsNow mid (LeavesUnstaged v)) → TargetsAreAccepted accepts mid now → EachRecoveryDiffersOnlyInAcceptedNames accepts old now
   asked_behind [] mid now reads left run = tt
   asked_behind (v ∷ rest) [] now reads left run = absurd left
   asked_behind (v ∷ rest) (u ∷ more) now reads left run =
@@ -62,5 +62,5 @@ changes_not_read effect reads changes = let by : does_neither_recover_nor_write 
 -- ---- by the command that is read
 
 pub asked_by_command : (accepts : Option (List ℕ) → List ℕ → Type 0) (words : List (List ℕ)) (command : CommandLine) (old now : History) → command_of words ≡ Ok command
-    → (effect_of command.applet ≡ Changes → EachRecoveryChangesOnlyAcceptedNames accepts old now) → effect_of_arguments (command_of words) ≡ Changes → EachRecoveryChangesOnlyAcceptedNames accepts old now
+    → (effect_of command.applet ≡ Changes → EachRecoveryDiffersOnlyInAcceptedNames accepts old now) → effect_of_arguments (command_of words) ≡ Changes → EachRecoveryDiffersOnlyInAcceptedNames accepts old now
 asked_by_command accepts words command old now is asked changes = asked (ap effect_of_arguments (sym is) ∙ changes)

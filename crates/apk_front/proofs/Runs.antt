@@ -22,7 +22,7 @@ use Rattle.outcome.specs.Effect.{Effect, Makes}
 use Rattle.outcome.specs.Make.{make_outcome}
 use Rattle.outcome.specs.Outcome.{Outcome, commit_report, just_refusal, just_report}
 use Rattle.report_core.specs.declared.refusal.Refusal.TheVariants.{Reserved}
-use Rattle.apk_front.specs.Moments.{AreStatesOldOrLeadToOutcome, CanAddOutputNamesIfAny, IgnoresOutputScratchNameButNotIntent, IsDurableAndLeavesFiles, IsStateDuringRun, OutcomeCommitsOrCrashesLeaveFilesAsRead, NamesAreDurableWithoutIntentExcept, ignored_except_output, is_temporary_name, output_names}
+use Rattle.apk_front.specs.Moments.{AreStatesOldOrLeadToOutcome, CanAddOutputNamesIfAny, IgnoresOutputScratchNameButNotIntent, IsDurableAndLeavesFiles, IsStateDuringRunToNewFilesFromOld, OutcomeCommitsOrCrashesLeaveFilesAsRead, NamesAreDurableExceptOutputIfNoIntent, ignored_except_output_and_scratch, is_temporary_name, output_names}
 use Rattle.apk_front.specs.RunContracts.{IsMakingRun}
 use Rattle.apk_front.specs.Runs.{AreFilesReadWithoutRecovery, IsRunAfterRecovery}
 use Rattle.apk_front.specs.Verdicts.{Reports, as_outcome}
@@ -71,7 +71,7 @@ run_idle IsOne effect output judged v rest now same idle = record {
       on_ok judged (λ is. subst (λ (h : History). HoldsNow h (EachCrashLeavesStateOf ignored o.files)) (sym same) (subst (λ (f : Files). EachCrashLeavesStateOf ignored f v) (sym is.0) (settled_before ignored v o is.1 lasts))) (idle o one);
   durable_state = λ ignored o is_durable hides one commits. on_ok judged (λ is. absurd (false≢true (sym is.1 ∙ commits))) (idle o one);
   reads = inl (record { added = []; is = same; each = All-nil (λ w. files_of w ≡ files_of v) });
-  last = λ last. record { added = []; is = same; each = All-nil (NamesAreDurableWithoutIntentExcept output) };
+  last = λ last. record { added = []; is = same; each = All-nil (NamesAreDurableExceptOutputIfNoIntent output) };
   leaves = λ o one. on_ok judged (λ is. subst (λ (h : History). HoldsNow h (λ w. files_of w ≡ o.files)) (sym same) (sym is.0)) (idle o one);
   idle = λ o one no. same;
 }
@@ -156,31 +156,31 @@ none_read files None n is none = cc
 none_read files (Some k) n is none = cc
 
 module _ (ignored : List ℕ → Bool) (name file : List ℕ) (files : Files) (w : TreeState) (is_durable : IsDurable (StateDependsOn ignored) w) (synced : IsSyncedAt name w) (reads : files_of w ≡ files_after_replacement name file files) where
-  rests_too : (q : List ℕ) (F : Files) → bytes_eq q name ≡ false → bytes_eq q (scratch_name_of name) ≡ false → StateDependsOn (ignored_except_output (Some name) ignored) F q → StateDependsOn ignored F q
+  rests_too : (q : List ℕ) (F : Files) → bytes_eq q name ≡ false → bytes_eq q (scratch_name_of name) ≡ false → StateDependsOn (ignored_except_output_and_scratch (Some name) ignored) F q → StateDependsOn ignored F q
   rests_too q F other another (inl intent) = inl intent
   rests_too q F other another (inr (inl shown)) =
       inr (inl (sym (ap (λ b. is_staged q || (if b || bytes_eq q (scratch_name_of name) then false else ignored q)) other ∙ ap (λ b. is_staged q || (if b then false else ignored q)) another) ∙ shown))
   rests_too q F other another (inr (inr place)) = inr (inr place)
 
-  synced_map : (map : NameMap) → IsCrashMap w map → (q : List ℕ) (n : ℕ) (a b : Bool) → bytes_eq q name ≡ a → bytes_eq q (scratch_name_of name) ≡ b → StateDependsOn (ignored_except_output (Some name) ignored) (files_under_map w map) q → map q ≡ Some n → (w.files n).synced ≡ true
+  synced_map : (map : NameMap) → IsCrashMap w map → (q : List ℕ) (n : ℕ) (a b : Bool) → bytes_eq q name ≡ a → bytes_eq q (scratch_name_of name) ≡ b → StateDependsOn (ignored_except_output_and_scratch (Some name) ignored) (files_under_map w map) q → map q ≡ Some n → (w.files n).synced ≡ true
   synced_map map among q n true b is_name is_scratch rests at = synced.file n (ap w.names (sym ((bytes_eq-Decides q name).0 is_name)) ∙ sym (ap (λ (m : NameMap). m q) (only_map w map synced.one_map among)) ∙ at)
   synced_map map among q n false true is_name is_scratch rests at =
       absurd (none_read w.files (w.names q) n (sym (ap (λ (m : NameMap). m q) (only_map w map synced.one_map among)) ∙ at) (ap (λ (f : Files). f q) reads ∙ scratch_gone name file files q is_name is_scratch))
   synced_map map among q n false false is_name is_scratch rests at = is_durable.each map among q n (rests_too q (files_under_map w map) is_name is_scratch rests) at
 
-  counts_again : IsDurable (StateDependsOn (ignored_except_output (Some name) ignored)) w
+  counts_again : IsDurable (StateDependsOn (ignored_except_output_and_scratch (Some name) ignored)) w
   counts_again = record { each = λ map among q n rests at. synced_map map among q n (bytes_eq q name) (bytes_eq q (scratch_name_of name)) refl refl rests at }
 
-  rest_at : ImageHasState → IsDurableAndLeavesFiles (ignored_except_output (Some name) ignored) (files_after_replacement name file files) w
+  rest_at : ImageHasState → IsDurableAndLeavesFiles (ignored_except_output_and_scratch (Some name) ignored) (files_after_replacement name file files) w
   rest_at law = record {
     is_durable = counts_again;
     settled = λ image (map, among, by).
-        law (ignored_except_output (Some name) ignored) w counts_again map among image by
-        ∙ ap (λ (m : NameMap). state_of (ignored_except_output (Some name) ignored) (files_under_map w m)) (only_map w map synced.one_map among) ∙ ap (state_of (ignored_except_output (Some name) ignored)) reads;
+        law (ignored_except_output_and_scratch (Some name) ignored) w counts_again map among image by
+        ∙ ap (λ (m : NameMap). state_of (ignored_except_output_and_scratch (Some name) ignored) (files_under_map w m)) (only_map w map synced.one_map among) ∙ ap (state_of (ignored_except_output_and_scratch (Some name) ignored)) reads;
   }
 
 rest_now : ImageHasState → (ignored : List ℕ → Bool) (name file : List ℕ) (files : Files) (judged : Judged) (now : History) → HoldsNow now (IsDurable (StateDependsOn ignored)) → OnOk judged (HoldsNow now (IsSyncedAt name)) → OnOk judged (HoldsNow now (λ w. files_of w ≡ files_after_replacement name file files))
-    → OnOk judged (HoldsNow now (IsDurableAndLeavesFiles (ignored_except_output (Some name) ignored) (files_after_replacement name file files)))
+    → OnOk judged (HoldsNow now (IsDurableAndLeavesFiles (ignored_except_output_and_scratch (Some name) ignored) (files_after_replacement name file files)))
 rest_now law ignored name file files (Err e) now is_durable synced reads = tt
 rest_now law ignored name file files (Ok verdict) [] is_durable synced reads = absurd is_durable
 rest_now law ignored name file files (Ok verdict) (w ∷ now) is_durable synced reads = rest_at ignored name file files w is_durable synced reads law
@@ -192,11 +192,11 @@ since_weaker P Q old now f since = record { added = since.added; is = since.is; 
 off_scratch : (name q : List ℕ) → is_temporary_name Makes (Some name) q ≡ false → q ≢ scratch_name_of name
 off_scratch name q off is = false≢true (sym off ∙ (bytes_eq-Decides q (scratch_name_of name)).1 is)
 
-drafting : (name file : List ℕ) (files : Files) (w : TreeState) → ReadsOldOrReplaced name file files w → IsStateDuringRun Makes (Some name) (files_after_replacement name file files) files w
+drafting : (name file : List ℕ) (files : Files) (w : TreeState) → ReadsOldOrReplaced name file files w → IsStateDuringRunToNewFilesFromOld Makes (Some name) (files_after_replacement name file files) files w
 drafting name file files w (inl others) = inl (λ q off. others q (off_scratch name q off))
 drafting name file files w (inr is) = inr (inr is)
 
-names_kept : (output : Option (List ℕ)) (u w : TreeState) → NamesOutsideJournalAreDurable u → KeepsCrashMapsExcept (output_names output) u w → NamesAreDurableWithoutIntentExcept output w
+names_kept : (output : Option (List ℕ)) (u w : TreeState) → NamesOutsideJournalAreDurable u → KeepsCrashMapsExcept (output_names output) u w → NamesAreDurableExceptOutputIfNoIntent output w
 names_kept output u w last keeps none map among q off no_intent unstaged =
     let (was, is_was, same) = keeps map among in
     let (own, is_own, own_same) = keeps w.names (read_may_be_left w) in
@@ -224,13 +224,13 @@ free_run law output report file name judged v old now is free done =
       is_durable = λ ignored is_durable hides. done.is_durable ignored is_durable (hidden ignored hides);
       settled = λ ignored o is_durable hides one lasts. subst (λ (f : Files). OnOk judged (HoldsNow now (EachCrashLeavesStateOf ignored f))) (left o one) (done.settled ignored is_durable (hidden ignored hides));
       durable_state = λ ignored o is_durable hides one commits.
-          subst (λ (f : Files). OnOk judged (HoldsNow now (IsDurableAndLeavesFiles (ignored_except_output output ignored) f))) (left o one)
-          (subst (λ (out : Option (List ℕ)). OnOk judged (HoldsNow now (IsDurableAndLeavesFiles (ignored_except_output out ignored) (files_after_replacement name file (files_of v))))) (sym is)
+          subst (λ (f : Files). OnOk judged (HoldsNow now (IsDurableAndLeavesFiles (ignored_except_output_and_scratch output ignored) f))) (left o one)
+          (subst (λ (out : Option (List ℕ)). OnOk judged (HoldsNow now (IsDurableAndLeavesFiles (ignored_except_output_and_scratch out ignored) (files_after_replacement name file (files_of v))))) (sym is)
           (rest_now law ignored name file (files_of v) judged now (done.is_durable ignored is_durable (hidden ignored hides)) done.synced done.leaves));
       reads = subst (λ (out : Option (List ℕ)). AreFilesReadWithoutRecovery (IsMade output report file v) Makes out v old now) (sym is)
-          (inr (commit_report (files_after_replacement name file (files_of v)) report, sym same, refl, since_weaker (ReadsOldOrReplaced name file (files_of v)) (IsStateDuringRun Makes (Some name) (files_after_replacement name file (files_of v)) (files_of v)) old now (drafting name file (files_of v)) done.reads));
-      last = subst (λ (out : Option (List ℕ)). NamesOutsideJournalAreDurable v → Since (NamesAreDurableWithoutIntentExcept out) old now) (sym is)
-          (λ last. since_weaker (KeepsCrashMapsExcept (name ∷ scratch_name_of name ∷ []) v) (NamesAreDurableWithoutIntentExcept (Some name)) old now (λ w. names_kept (Some name) v w last) done.others);
+          (inr (commit_report (files_after_replacement name file (files_of v)) report, sym same, refl, since_weaker (ReadsOldOrReplaced name file (files_of v)) (IsStateDuringRunToNewFilesFromOld Makes (Some name) (files_after_replacement name file (files_of v)) (files_of v)) old now (drafting name file (files_of v)) done.reads));
+      last = subst (λ (out : Option (List ℕ)). NamesOutsideJournalAreDurable v → Since (NamesAreDurableExceptOutputIfNoIntent out) old now) (sym is)
+          (λ last. since_weaker (KeepsCrashMapsExcept (name ∷ scratch_name_of name ∷ []) v) (NamesAreDurableExceptOutputIfNoIntent (Some name)) old now (λ w. names_kept (Some name) v w last) done.others);
       leaves = λ o one. subst (λ (f : Files). OnOk judged (HoldsNow now (λ w. files_of w ≡ f))) (left o one) done.leaves;
       idle = λ o one no. absurd (false≢true (sym no ∙ ap (λ (x : Outcome). x.commits) (one ∙ same)));
     }

@@ -36,9 +36,9 @@ IgnoresOutputScratchNameButNotIntent None ignored = Unit {0}
 IgnoresOutputScratchNameButNotIntent (Some name) ignored = IgnoresScratchNameButNotIntent ignored name
 
 -- whether a name is ignored, if the output and its scratch name are no longer ignored
-abbrev pub ignored_except_output : Option (List ℕ) → (List ℕ → Bool) → List ℕ → Bool
-ignored_except_output None ignored q = ignored q
-ignored_except_output (Some name) ignored q =
+abbrev pub ignored_except_output_and_scratch : Option (List ℕ) → (List ℕ → Bool) → List ℕ → Bool
+ignored_except_output_and_scratch None ignored q = ignored q
+ignored_except_output_and_scratch (Some name) ignored q =
     if bytes_eq q name || bytes_eq q (scratch_name_of name) then false else ignored q
 
 -- ---- free paths
@@ -103,8 +103,8 @@ pub record IsCommittedChange (effect : Effect) (new old : Files) (w : TreeState)
 
 -- the files as read are the old ones, except under temporary names; or a change to the new files is
 -- committed and in progress; or the files as read are the new ones
-abbrev pub IsStateDuringRun : Effect → Option (List ℕ) → Files → Files → TreeState → Type 0
-IsStateDuringRun effect output new old w =
+abbrev pub IsStateDuringRunToNewFilesFromOld : Effect → Option (List ℕ) → Files → Files → TreeState → Type 0
+IsStateDuringRunToNewFilesFromOld effect output new old w =
     HasFilesExceptTemporaryOnes effect output old w
     ⊎ (IsCommittedChange effect new old w ⊎ (files_of w ≡ new))
 
@@ -137,7 +137,7 @@ IsStateDuringRecoveryOrNext effect IsNext v w =
 
 -- Except while the tree is recovered, the files as read are those on which the command works
 -- (*files_recovered_if_needed*). Or the run has an outcome that commits, and its states are those of such a run
--- (*IsStateDuringRun*).
+-- (*IsStateDuringRunToNewFilesFromOld*).
 abbrev pub AreStatesAsRecoveredOrOfCommittingRun :
     (Outcome → Type 0) → Effect → Option (List ℕ) → TreeState → List TreeState → List TreeState
     → Type 0
@@ -148,13 +148,13 @@ AreStatesAsRecoveredOrOfCommittingRun IsOne effect output v old now =
     × IsOne outcome
     × (outcome.commits ≡ true)
     × Since (IsStateDuringRecoveryOrNext effect
-    (IsStateDuringRun effect output outcome.files
+    (IsStateDuringRunToNewFilesFromOld effect output outcome.files
     (files_recovered_if_needed effect (files_of v))) v) old now)
 
 -- if no intent is read, a crash undoes no change of a name, except for those of the output and of
 -- staged files
-abbrev pub NamesAreDurableWithoutIntentExcept : Option (List ℕ) → TreeState → Type 0
-NamesAreDurableWithoutIntentExcept output w =
+abbrev pub NamesAreDurableExceptOutputIfNoIntent : Option (List ℕ) → TreeState → Type 0
+NamesAreDurableExceptOutputIfNoIntent output w =
     w.names intent_name ≡ None → NamesOutsideJournalAreDurableExcept (output_names output) w
 
 -- ---- what a crash leaves
@@ -189,8 +189,10 @@ OutcomeCommitsOrCrashesLeaveFilesAsRead ignored v outcome =
 
 -- an outcome's files must be durable after the run: by *OutcomeCommitsOrCrashesLeaveFilesAsRead*, or because an
 -- intent can be recovered
-abbrev pub MustOutcomeBeDurable : Effect → (List ℕ → Bool) → TreeState → Outcome → Type 0
-MustOutcomeBeDurable effect ignored v outcome = OutcomeCommitsOrCrashesLeaveFilesAsRead ignored v outcome
+abbrev pub CommitsRecoversIntentOrCrashesLeaveAsRead : Effect → (List ℕ → Bool) → TreeState → Outcome
+    → Type 0
+CommitsRecoversIntentOrCrashesLeaveAsRead effect ignored v outcome =
+    OutcomeCommitsOrCrashesLeaveFilesAsRead ignored v outcome
     ⊎ RecoversAndFindsValidIntent effect v
 
 -- the tree is durable, and each crash leaves these files
@@ -234,26 +236,26 @@ IsRefusedOutOfMemoryOrCommitsNothing IsOne answer =
 abbrev pub LeavesDurableFilesIfRequired :
     Effect → (List ℕ → Bool) → TreeState → List TreeState → Outcome → Type 0
 LeavesDurableFilesIfRequired effect ignored v now outcome =
-    MustOutcomeBeDurable effect ignored v outcome
+    CommitsRecoversIntentOrCrashesLeaveAsRead effect ignored v outcome
     → HoldsNow now (EachCrashLeavesStateOf ignored outcome.files)
 
 -- Once an outcome is answered, even a refusal, or a sink's fault instead, its files are durable if they
 -- must be. After other answers nothing is said.
-abbrev pub LeavesDurableFilesOnceAnsweredOrRefused :
+abbrev pub LeavesDurableFilesIfRequiredOnceAnswered :
     (Outcome → Type 0) → Effect → (List ℕ → Bool) → TreeState → List TreeState → Answer → Type 0
-LeavesDurableFilesOnceAnsweredOrRefused IsOne effect ignored v now Ok =
+LeavesDurableFilesIfRequiredOnceAnswered IsOne effect ignored v now Ok =
     (outcome : Outcome)
     × IsOne outcome
     × (outcome.refusal ≡ None)
     × LeavesDurableFilesIfRequired effect ignored v now outcome
-LeavesDurableFilesOnceAnsweredOrRefused IsOne effect ignored v now (Refused refusal) =
+LeavesDurableFilesIfRequiredOnceAnswered IsOne effect ignored v now (Refused refusal) =
     (outcome : Outcome)
     × IsOne outcome
     × (outcome.refusal ≡ Some refusal)
     × LeavesDurableFilesIfRequired effect ignored v now outcome
-LeavesDurableFilesOnceAnsweredOrRefused IsOne effect ignored v now OutFault =
+LeavesDurableFilesIfRequiredOnceAnswered IsOne effect ignored v now OutFault =
     (outcome : Outcome) × IsOne outcome × LeavesDurableFilesIfRequired effect ignored v now outcome
-LeavesDurableFilesOnceAnsweredOrRefused IsOne effect ignored v now other = Unit {0}
+LeavesDurableFilesIfRequiredOnceAnswered IsOne effect ignored v now other = Unit {0}
 
 -- there is one of these outcomes, and if it commits the tree is durable with its files; the output and
 -- its scratch name are no longer ignored
@@ -262,14 +264,15 @@ abbrev pub LeavesDurableStateAndOutputIfCommitted :
 LeavesDurableStateAndOutputIfCommitted IsOne output ignored now =
     (outcome : Outcome)
     × IsOne outcome
-    × (outcome.commits ≡ true → HoldsNow now (IsDurableAndLeavesFiles (ignored_except_output output ignored)
+    × (outcome.commits ≡ true
+    → HoldsNow now (IsDurableAndLeavesFiles (ignored_except_output_and_scratch output ignored)
     outcome.files))
 
 -- ---- what is promised
 
 -- at each moment of a run the tree accepts each name to which a recovery gives other bytes than a
 -- recovery of the files at the start: it was asked for the name before
-abbrev pub EachRecoveryChangesOnlyAcceptedNames :
+abbrev pub EachRecoveryDiffersOnlyInAcceptedNames :
     (Option (List ℕ) → List ℕ → Type 0) → List TreeState → List TreeState → Type 0
-EachRecoveryChangesOnlyAcceptedNames accepts old now = IfObservable old (λ v.
+EachRecoveryDiffersOnlyInAcceptedNames accepts old now = IfObservable old (λ v.
     Since (RecoveryChangesOnlyAcceptedNames accepts (unstaged_files (files_of v))) old now)

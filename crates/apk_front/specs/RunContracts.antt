@@ -16,7 +16,7 @@ use Rattle.outcome.specs.Effect.{Effect, Changes, Makes, effect_of, output_name_
 use Rattle.outcome.specs.Outcome.{Outcome}
 use Rattle.outcome.specs.Verify.{file_refusal}
 use Rattle.report_core.specs.declared.refusal.Refusal.{Refusal}
-use Rattle.apk_front.specs.Moments.{AreRecoveryAndOutcomePathsFree, ArePathsToWriteFree, EachRecoveryChangesOnlyAcceptedNames}
+use Rattle.apk_front.specs.Moments.{AreRecoveryAndOutcomePathsFree, ArePathsToWriteFree, EachRecoveryDiffersOnlyInAcceptedNames}
 use Rattle.apk_front.specs.Runs.{IfNothingStaged, IsRunAfterRecovery, IsRunWithRecovery}
 use Rattle.apk_front.specs.Verdicts.{ReportsOneOfOutcomes, as_outcome}
 use Rattle.apk_front.specs.declared.answer.Verdict.{Verdict}
@@ -120,7 +120,7 @@ pub record IsJudgedRun (accepts : Option (List ℕ) → List ℕ → Type 0)
   pub tree : IfObservable old (λ v. IsRunWithRecovery (IsOne (files_of v)) effect output judged v old now)
   -- at each moment of a change, the tree has accepted each name to which recovery would then give other bytes than
   -- recovery at the start
-  pub promised : effect ≡ Changes → EachRecoveryChangesOnlyAcceptedNames accepts old now
+  pub promised : effect ≡ Changes → EachRecoveryDiffersOnlyInAcceptedNames accepts old now
   -- if there is a verdict, the tree counted no failed call; an I/O error has its cause in the counts
   pub counts : IsVerdictExplainedByCounts counts_before counts_now judged
   -- on an observable tree, no call is a misuse if the paths that recovery and the outcome write are free

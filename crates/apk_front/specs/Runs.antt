@@ -16,7 +16,7 @@ use Rattle.journal_core.specs.Staged.{HasNoStagedNames}
 use Rattle.outcome.specs.Effect.{Effect}
 use Rattle.outcome.specs.Outcome.{Outcome}
 use Rattle.outcome.specs.Work.{recovery_fault}
-use Rattle.apk_front.specs.Moments.{AreStatesAsRecoveredOrOfCommittingRun, AreStatesOldOrLeadToOutcome, HasOutcomeWithoutCommit, HasNothingToRecover, IgnoresOutputScratchNameButNotIntent, IsDurableAndLeavesFiles, IsStateDuringRun, MustOutcomeBeDurable, OutcomeCommitsOrCrashesLeaveFilesAsRead, NamesAreDurableWithoutIntentExcept, ignored_except_output}
+use Rattle.apk_front.specs.Moments.{AreStatesAsRecoveredOrOfCommittingRun, AreStatesOldOrLeadToOutcome, HasOutcomeWithoutCommit, HasNothingToRecover, IgnoresOutputScratchNameButNotIntent, IsDurableAndLeavesFiles, IsStateDuringRunToNewFilesFromOld, CommitsRecoversIntentOrCrashesLeaveAsRead, OutcomeCommitsOrCrashesLeaveFilesAsRead, NamesAreDurableExceptOutputIfNoIntent, ignored_except_output_and_scratch}
 use Rattle.apk_front.specs.declared.answer.Verdict.{Verdict}
 
 -- ---- after recovery
@@ -33,7 +33,7 @@ IfNothingStaged history P = IfObservable history (λ v. HasNothingStaged v → P
 -- ---- a run
 
 -- In each state of a run that recovers nothing, the files as read are those at its start. Or the run has an outcome
--- that commits, and its states are those of such a run (*IsStateDuringRun*).
+-- that commits, and its states are those of such a run (*IsStateDuringRunToNewFilesFromOld*).
 abbrev pub AreFilesReadWithoutRecovery :
     (Outcome → Type 0) → Effect → Option (List ℕ) → TreeState → List TreeState → List TreeState
     → Type 0
@@ -42,7 +42,7 @@ AreFilesReadWithoutRecovery IsOne effect output v old now =
     ⊎ ((outcome : Outcome)
     × IsOne outcome
     × (outcome.commits ≡ true)
-    × Since (IsStateDuringRun effect output outcome.files (files_of v)) old now)
+    × Since (IsStateDuringRunToNewFilesFromOld effect output outcome.files (files_of v)) old now)
 
 -- The effect of a run on a tree in state v, after recovery, if its outcome is one of these.
 pub record IsRunAfterRecovery (IsOne : Outcome → Type 0) (effect : Effect) (output : Option (List ℕ))
@@ -67,12 +67,12 @@ pub record IsRunAfterRecovery (IsOne : Outcome → Type 0) (effect : Effect) (ou
       → IsDurable (StateDependsOn ignored) v → IgnoresOutputScratchNameButNotIntent output ignored
       → IsOne outcome → outcome.commits ≡ true
       → OnOk judged (HoldsNow now
-      (IsDurableAndLeavesFiles (ignored_except_output output ignored) outcome.files))
+      (IsDurableAndLeavesFiles (ignored_except_output_and_scratch output ignored) outcome.files))
   -- in each state the files as read are those at the start, or the states are those of a run that commits
   pub reads : AreFilesReadWithoutRecovery IsOne effect output v old now
   -- if at the start no crash undoes a change of a name outside the journal: at each moment at which the intent is
   -- absent, a crash undoes no change of a name, except for those of the output and of staged files
-  pub last : NamesOutsideJournalAreDurable v → Since (NamesAreDurableWithoutIntentExcept output) old now
+  pub last : NamesOutsideJournalAreDurable v → Since (NamesAreDurableExceptOutputIfNoIntent output) old now
   -- if there is a verdict, the files as read are those of the outcome
   pub leaves : (outcome : Outcome) → IsOne outcome
       → OnOk judged (HoldsNow now (λ w. files_of w ≡ outcome.files))
@@ -98,14 +98,14 @@ pub record IsRunWithRecovery (IsOne : Outcome → Type 0) (effect : Effect) (out
   -- if there is a verdict, each crash leaves the files of the outcome, if they must be durable
   pub settled : (ignored : List ℕ → Bool) (outcome : Outcome)
       → IsDurable (StateDependsOn ignored) v → IgnoresOutputScratchNameButNotIntent output ignored
-      → IsOne outcome → MustOutcomeBeDurable effect ignored v outcome
+      → IsOne outcome → CommitsRecoversIntentOrCrashesLeaveAsRead effect ignored v outcome
       → OnOk judged (HoldsNow now (EachCrashLeavesStateOf ignored outcome.files))
   -- after an outcome that commits, each crash leaves its files, also under the output's name
   pub durable_state : (ignored : List ℕ → Bool) (outcome : Outcome)
       → IsDurable (StateDependsOn ignored) v → IgnoresOutputScratchNameButNotIntent output ignored
       → IsOne outcome → outcome.commits ≡ true
       → OnOk judged (HoldsNow now
-      (IsDurableAndLeavesFiles (ignored_except_output output ignored) outcome.files))
+      (IsDurableAndLeavesFiles (ignored_except_output_and_scratch output ignored) outcome.files))
   -- a run that is out of memory or commits nothing leaves the state of a durable tree unchanged
   pub left : IsOutOfMemoryOrWithoutCommit IsOne judged → (ignored : List ℕ → Bool)
       → IsDurable (StateDependsOn ignored) v → Since (StateIsUnchanged ignored v) old now
@@ -117,7 +117,7 @@ pub record IsRunWithRecovery (IsOne : Outcome → Type 0) (effect : Effect) (out
   pub reads : AreStatesAsRecoveredOrOfCommittingRun IsOne effect output v old now
   -- if the intent is present at the start: at each moment at which it is absent, a crash undoes no change of a name,
   -- except for those of the output and of staged files
-  pub last : IsSome (v.names intent_name) → Since (NamesAreDurableWithoutIntentExcept output) old now
+  pub last : IsSome (v.names intent_name) → Since (NamesAreDurableExceptOutputIfNoIntent output) old now
   -- if there is a verdict, the files as read are those of the outcome
   pub leaves : (outcome : Outcome) → IsOne outcome
       → OnOk judged (HoldsNow now (λ w. files_of w ≡ outcome.files))

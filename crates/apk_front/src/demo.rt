@@ -14,7 +14,7 @@ ghost use Rattle.outcome.specs.demo_lines.Count.{demo_count};
 ghost use Rattle.outcome.specs.demo_lines.Lines.{mkpkg_words};
 ghost use Rattle.outcome.specs.demo_lines.Report.{demo_line_of_count_and_add_report};
 ghost use Rattle.outcome.specs.Commands.{IsOutcomeWithoutDemo};
-ghost use Rattle.outcome.specs.Demo.{IsDemoOutcomeAfterInstalling, IsDemoOutcomeAfterPackaging, IsDemoOutcome, IsOutcomeOfNextRunOrEarlierRefusal, with_demo_file};
+ghost use Rattle.outcome.specs.Demo.{IsDemoOutcomeAfterInstallingByPackageCount, IsDemoOutcomeAfterPackagingByPackageCount, IsDemoOutcomeByPackageCount, IsOutcomeOfNextRunAloneOrEarlierRefusal, with_file_packed_in_demo_package};
 ghost use Rattle.outcome.specs.Outcome.{Outcome, just_report_unless_refusal};
 ghost use Rattle.tree_memory.specs.Memory.{tree_state};
 ghost use Rattle.words_core.specs.Grammar.{command_of};
@@ -43,7 +43,7 @@ pub(crate) fn demo(alloc: Global, operands: &Operands) -> Result<Verdict, TreeFa
     // The verdict is that of an outcome of `demo`. The only fault is a lack of memory.
     ensures { MatchResult result
         (λ verdict. (files : Files)
-        → IsDemoOutcome (demo_count operands.now) files (as_outcome files verdict))
+        → IsDemoOutcomeByPackageCount (demo_count operands.now) files (as_outcome files verdict))
         (λ fault. fault ≡ TreeFault.Memory) }
 {
     let count = demo_count(operands);
@@ -89,7 +89,7 @@ fn install(alloc: Global, n: u16, tree: &mut MemoryTree) -> Result<Verdict, Tree
     // The verdict is that of the outcome of the last run, and the tree has the files of this
     // outcome.
     ensures { IfOk result (λ verdict. IsRunToOutcome
-        (IsDemoOutcomeAfterInstalling n) verdict tree.new) }
+        (IsDemoOutcomeAfterInstallingByPackageCount n) verdict tree.new) }
 {
     let packaged = package_all(alloc, n, tree)?;
     let words = mkndx_words(alloc, n)?;
@@ -106,7 +106,7 @@ fn package_all(alloc: Global, n: u16, tree: &mut MemoryTree) -> Result<Verdict, 
     // The verdict is that of the outcome of the last run, and the tree has the files of this
     // outcome.
     ensures { IfOk result (λ verdict. IsRunToOutcome
-        (IsDemoOutcomeAfterPackaging n) verdict tree.new) }
+        (IsDemoOutcomeAfterPackagingByPackageCount n) verdict tree.new) }
 {
     put(alloc, REPOSITORIES, demo_repositories(), tree)?;
     let mut last = Verdict::empty(alloc);
@@ -127,8 +127,8 @@ fn package_behind(
     // and the files are those of the next run, or of `before` if that run was refused.
     ensures { IfOk result (λ verdict. (before : Outcome) → Reports last before
         → files_of (tree_state tree.old) ≡ before.files
-        → IsRunToOutcome (IsOutcomeOfNextRunOrEarlierRefusal (mkpkg_words i)
-        (with_demo_file i before.files) before)
+        → IsRunToOutcome (IsOutcomeOfNextRunAloneOrEarlierRefusal (mkpkg_words i)
+        (with_file_packed_in_demo_package i before.files) before)
         verdict tree.new) }
 {
     if last.refusal.is_some() {
@@ -142,7 +142,7 @@ fn package(alloc: Global, i: u16, tree: &mut MemoryTree) -> Result<Verdict, Tree
     // The verdict and the files are those of `mkpkg`, run over the files with that one file added.
     ensures { IfOk result (λ verdict. IsRunToOutcome (IsOutcomeWithoutDemo (command_of
         (mkpkg_words i))
-        (with_demo_file i (files_of (tree_state tree.old)))) verdict tree.new) }
+        (with_file_packed_in_demo_package i (files_of (tree_state tree.old)))) verdict tree.new) }
 {
     let name = demo_file(alloc, i)?;
     let text = contents_of_demo_file(alloc, i)?;
@@ -163,7 +163,7 @@ fn run_after(
     // and the files are those of the next run, or of `before` if that run was refused.
     ensures { IfOk result (λ verdict. (before : Outcome) → Reports last before
         → files_of (tree_state tree.old) ≡ before.files
-        → IsRunToOutcome (IsOutcomeOfNextRunOrEarlierRefusal words.now before.files before) verdict tree.new) }
+        → IsRunToOutcome (IsOutcomeOfNextRunAloneOrEarlierRefusal words.now before.files before) verdict tree.new) }
 {
     if last.refusal.is_some() {
         return Ok(last);

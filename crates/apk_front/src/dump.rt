@@ -12,7 +12,7 @@ ghost use Rattle.apk_front.specs.Verdicts.{as_outcome};
 ghost use Rattle.base_core.specs.Files.{Files};
 ghost use Rattle.base_core.specs.Read.{bytes_in};
 ghost use Rattle.command_core.specs.Named.{are_files};
-ghost use Rattle.outcome.specs.Dump.{adbdump, dump_of, dump_of_blocks, dump_outcome, payload_head_or_shape_fault, framing_fault};
+ghost use Rattle.outcome.specs.Dump.{adbdump, dump_of, dump_of_first_block_unless_fault_of_blocks, dump_outcome, payload_head_or_shape_fault, framing_fault_of_blocks};
 
 use crate::answer::Verdict;
 use adb_block::Blocks;
@@ -90,11 +90,13 @@ fn text_of_blocks(alloc: Global, blocks: &mut Blocks<'_>, which: Which) -> Resul
     // The table is one that may be at a root.
     requires root { IsTrue (is_some (header_schema_if_root_table which)) }
     // The text is the one that the definition gives for these blocks.
-    ensures ok { IfOk result (λ text. dump_of_blocks which (block_stream_from blocks.old)
+    ensures ok { IfOk result (λ text. dump_of_first_block_unless_fault_of_blocks which
+        (block_stream_from blocks.old)
         ≡ Ok text) }
     // The fault is that of the definition, or out of memory.
     ensures bad { IfErr result (λ fault.
-        IsDumpFault fault (dump_of_blocks which (block_stream_from blocks.old))) }
+        IsDumpFault fault (dump_of_first_block_unless_fault_of_blocks which
+        (block_stream_from blocks.old))) }
 {
     let shaped = shape_first(blocks, which)?;
     check_framing(blocks)?;
@@ -139,7 +141,7 @@ fn shape_payload<'a>(payload: &'a [u8], which: Which) -> Result<Shaped<'a>, Caus
 
 // Tests the block headers (kind and lengths) of the blocks after the first one.
 fn check_framing(blocks: &mut Blocks<'_>) -> Result<(), Cause>
-    ensures { result_err result ≡ framing_fault (block_stream_from blocks.old) }
+    ensures { result_err result ≡ framing_fault_of_blocks (block_stream_from blocks.old) }
 {
     while blocks.next()?.is_some() {}
     Ok(())

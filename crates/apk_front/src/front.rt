@@ -3,7 +3,7 @@
 //! "Recovery", in the table of what a run of `apk` may leave.
 ghost use Rattle.std.specs.Prelude.{◌≡◌, ℕ, Bool, List, IsSome, IsTrue, is_some};
 ghost use Rattle.apk_front.specs.Answers.{is_applet_help_or_version_named, IsAnswerOfSomeOutcomeOrFailure, LeavesFiles, LeavesAnyFiles, AnswerTellsWhetherTreeOrSinkFailed, IsFaultless, AnswersOutcomeUnlessMemory, HasNoPlannedFailureAndCanCountMisuse, IsAnsweredInFullUnlessMemory};
-ghost use Rattle.apk_front.specs.Moments.{IsOkRefusedOrOutputFault, AreStatesAsRecoveredOrOfCommittingRun, AreStatesOldOrLeadToOutcome, IsRefusedOutOfMemoryOrCommitsNothing, HasNothingToRecover, IgnoresOutputScratchNameButNotIntent, EachRecoveryChangesOnlyAcceptedNames, LeavesDurableStateAndOutputIfCommitted, LeavesDurableFilesOnceAnsweredOrRefused, AreRunPathsOfCommandLineFree, NamesAreDurableWithoutIntentExcept};
+ghost use Rattle.apk_front.specs.Moments.{IsOkRefusedOrOutputFault, AreStatesAsRecoveredOrOfCommittingRun, AreStatesOldOrLeadToOutcome, IsRefusedOutOfMemoryOrCommitsNothing, HasNothingToRecover, IgnoresOutputScratchNameButNotIntent, EachRecoveryDiffersOnlyInAcceptedNames, LeavesDurableStateAndOutputIfCommitted, LeavesDurableFilesIfRequiredOnceAnswered, AreRunPathsOfCommandLineFree, NamesAreDurableExceptOutputIfNoIntent};
 ghost use Rattle.base_core.specs.Calls.{HoldsNow, IfObservable};
 ghost use Rattle.base_core.specs.Crash.{Since};
 ghost use Rattle.base_core.specs.Undone.{IsDurable};
@@ -134,7 +134,8 @@ pub fn apk<T: Tree, O: Sink, E: Sink>(
     // at each moment, if recovery would now change a name that it would not have changed at the
     // start, the tree has accepted that name.
     ensures promised { effect_of_arguments (command_of words.now) ≡ Changes
-        → EachRecoveryChangesOnlyAcceptedNames T.accepts (T.history tree.old) (T.history tree.new) }
+        → EachRecoveryDiffersOnlyInAcceptedNames T.accepts (T.history tree.old)
+        (T.history tree.new) }
 
     // If there is nothing to recover, these runs write nothing, whatever is answered instead: those
     // that are refused, that run out of memory, or whose outcome commits nothing.
@@ -165,7 +166,7 @@ pub fn apk<T: Tree, O: Sink, E: Sink>(
     // no change of a name, so that the change of the intent is durable. This excludes OUTPUT,
     // OUTPUT.apk-tmp and staged files.
     ensures last { IfObservable (T.history tree.old) (λ v. IsSome (v.names intent_name)
-        → Since (NamesAreDurableWithoutIntentExcept (output words.now)) (T.history tree.old)
+        → Since (NamesAreDurableExceptOutputIfNoIntent (output words.now)) (T.history tree.old)
         (T.history tree.new)) }
 
     // ---- what a crash leaves of a durable tree
@@ -202,7 +203,7 @@ pub fn apk<T: Tree, O: Sink, E: Sink>(
     ensures settled { IfObservable (T.history tree.old) (λ v. (ignored : List ℕ → Bool)
         → IsDurable (StateDependsOn ignored) v
         → IgnoresOutputScratchNameButNotIntent (output words.now) ignored
-        → LeavesDurableFilesOnceAnsweredOrRefused (IsOutcome (command_of words.now) (files_of v))
+        → LeavesDurableFilesIfRequiredOnceAnswered (IsOutcome (command_of words.now) (files_of v))
         (effect_of_arguments (command_of words.now)) ignored v (T.history tree.new) result) }
 
     // Once an outcome that commits is answered, or a sink's fault instead, OUTPUT and

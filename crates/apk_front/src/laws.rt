@@ -1,7 +1,7 @@
 //! Laws: the clauses of `apk` hold of each outcome that a command line has, and not only of the one
 //! that they name. They serve `run_lists`; the rules are in `docs/crash-safety.md`, "Recovery".
 ghost use Rattle.std.specs.Prelude.{◌≡◌, ℕ, Bool, true, List, None, is_some};
-ghost use Rattle.apk_front.specs.Moments.{AreStatesOldOrLeadToOutcome, HasNothingToRecover, IsOkOrOutputFault, IsStateDuringRecovery, LeavesDurableFilesOnceAnsweredOrRefused, MustOutcomeBeDurable};
+ghost use Rattle.apk_front.specs.Moments.{AreStatesOldOrLeadToOutcome, HasNothingToRecover, IsOkOrOutputFault, IsStateDuringRecovery, LeavesDurableFilesIfRequiredOnceAnswered, CommitsRecoversIntentOrCrashesLeaveAsRead};
 ghost use Rattle.apk_front.specs.declared.answer.Answer.{Answer};
 ghost use Rattle.base_core.specs.Calls.{HoldsNow};
 ghost use Rattle.base_core.specs.Crash.{Since};
@@ -39,12 +39,13 @@ pub fn a_crash_leaves_the_old_files_or_those_of_the_outcome()
 pub fn what_is_carried_out_is_durable()
     ensures { (words : List (List ℕ)) (ignored : List ℕ → Bool) (v : TreeState) (outcome : Outcome)
         (now : List TreeState) (answer : Answer)
-        → LeavesDurableFilesOnceAnsweredOrRefused (IsOutcome (command_of words) (files_of v))
+        → LeavesDurableFilesIfRequiredOnceAnswered (IsOutcome (command_of words) (files_of v))
         (effect_of_arguments
         (command_of words))
         ignored v now answer → IsOkOrOutputFault answer
         → IsOutcome (command_of words) (files_of v) outcome → outcome.refusal ≡ None
-        → MustOutcomeBeDurable (effect_of_arguments (command_of words)) ignored v outcome
+        → CommitsRecoversIntentOrCrashesLeaveAsRead (effect_of_arguments
+        (command_of words)) ignored v outcome
         → HoldsNow now (EachCrashLeavesStateOf ignored outcome.files) }
 {
     // A law that the proof needs; it has no effect at run time.

@@ -11,7 +11,7 @@ ghost use Rattle.command_core.specs.Named.{are_files};
 ghost use Rattle.make_core.specs.make_info.Reads.{Reads};
 ghost use Rattle.outcome.specs.Commands.{reads_in};
 ghost use Rattle.outcome.specs.Outcome.{just_report_unless_refusal};
-ghost use Rattle.outcome.specs.Verify.{file_refusal, sound_lines, verify, verify_refusal};
+ghost use Rattle.outcome.specs.Verify.{file_refusal, sound_lines, verify, verify_refusal_from_read_number};
 
 use crate::answer::Verdict;
 use base_core::{Name, Text, Tree, TreeFault, consecutive_reads_compose, read_all};
@@ -70,10 +70,10 @@ fn first_refusal<T: Tree>(
     requires { IsTrue (are_files operands.now) }
     // On an observable tree the result is the first refusal of the tree's files, if there is one.
     ensures found { IfOk result (λ refusal. IfObservable (T.history tree.old) (λ v.
-        refusal ≡ verify_refusal (reads_in (files_of v)) 0 operands.now)) }
+        refusal ≡ verify_refusal_from_read_number (reads_in (files_of v)) 0 operands.now)) }
     // On every tree the result is the first refusal of some bytes, or no file, at each read.
     ensures by_reads { IfOk result (λ refusal. (read : Reads)
-        × (refusal ≡ verify_refusal read 0 operands.now)) }
+        × (refusal ≡ verify_refusal_from_read_number read 0 operands.now)) }
     // The tree is only read; an I/O error has its cause there.
     ensures tree { OnlyReads TreeFault.Disk (T.history tree.old) (T.history tree.new)
         (T.counts tree.old) (T.counts tree.new) result }

@@ -42,9 +42,9 @@ use Rattle.root_laws.specs.pkg_core.GoodContents.{MatchEachExpectedSizeAndKnownD
 use Rattle.root_laws.proofs.pkg_core.Digests.{HasFirstValue}
 use Rattle.report_core.specs.declared.refusal.Refusal.{Refusal}
 use Rattle.report_core.specs.declared.refusal.Refusal.TheVariants.{DatabaseBad}
-use Rattle.root_laws.specs.RootLeft.{IsRootLeftToLaterCommandsByChange}
+use Rattle.root_laws.specs.RootLeft.{LaterCommandsFindMembersAndNewWorld}
 use Rattle.root_names.specs.RootNames.{database_name, text_database_name}
-use Rattle.audit_laws.specs.AfterChange.{ExplainsDifference, IsEmptyFileWithOtherDigest, IsDifferenceExplainedAfterChange, old_and_new_packages_of_change_left, contents_left, packages_left}
+use Rattle.audit_laws.specs.AfterChange.{ExplainsDifference, IsEmptyFileWithOtherDigest, IsDifferenceExplainedByFilesBeforeChange, old_and_new_packages_of_change_left, contents_of_added_packages_left, packages_left}
 use Rattle.audit_laws.proofs.AfterFiles.{by_left, left_by, stays_so}
 use Rattle.audit_laws.proofs.AfterRecords.{WrittenLaws, owner_free, owner_record, record_of_owner, zeros_alike}
 use Rattle.audit_laws.proofs.FoundContents.{contents_listed}
@@ -85,7 +85,7 @@ not_record records name reserved free = by_test (is_old_or_new_database_or_world
 comes_if : (change : FileChange) (path : List ℕ) (l : Listing) → owner_listing change path ≡ Some l → is_added l.member ≡ true → added_owner_listing change path ≡ Some l
 comes_if change path l owner comes = ap if_member_added owner ∙ ap (λ (b : Bool). if b then Some l else None) comes
 
-module _ (laws : Laws) (command : CommandLine) (read : Reads) (files : Files) (chosen : Option (List ℕ)) (clash : Option NamePair) (done : ChangeDone) (left : IsRootLeftToLaterCommandsByChange command read chosen done)
+module _ (laws : Laws) (command : CommandLine) (read : Reads) (files : Files) (chosen : Option (List ℕ)) (clash : Option NamePair) (done : ChangeDone) (left : LaterCommandsFindMembersAndNewWorld command read chosen done)
     (e : change_of_command command read files chosen clash ≡ Ok done) (off : command.flags.simulate ≡ false) where
   abbrev s : InputsAndReplacement
   s = left.selected
@@ -111,7 +111,7 @@ module _ (laws : Laws) (command : CommandLine) (read : Reads) (files : Files) (c
   change = old_and_new_packages_of_change_left left
 
   abbrev bytes_of : Listing → List ℕ
-  bytes_of = listing_bytes (contents_left left)
+  bytes_of = listing_bytes (contents_of_added_packages_left left)
 
   files_are : done.files ≡ files_after_change change bytes_of records files
   files_are =
@@ -140,19 +140,19 @@ module _ (laws : Laws) (command : CommandLine) (read : Reads) (files : Files) (c
   -- ---- what differs was left so
 
   left_so : (path : List ℕ) (l : Listing) (d : FileDifference) → d.path ≡ path → owner_listing change path ≡ Some l → DiffersFromEntry d.difference l.entry (done.files path)
-      → ExplainsDifference (contents_left left) change files d l (is_added l.member)
+      → ExplainsDifference (contents_of_added_packages_left left) change files d l (is_added l.member)
   left_so path l d at owner differs =
       let here = subst (λ (fs : Files). DiffersFromEntry d.difference l.entry (fs path)) files_are differs in
       by_coming (is_added l.member) refl here
     where
-      by_coming : (b : Bool) → is_added l.member ≡ b → DiffersFromEntry d.difference l.entry (files_after_change change bytes_of records files path) → ExplainsDifference (contents_left left) change files d l b
+      by_coming : (b : Bool) → is_added l.member ≡ b → DiffersFromEntry d.difference l.entry (files_after_change change bytes_of records files path) → ExplainsDifference (contents_of_added_packages_left left) change files d l b
       by_coming false t here =
           subst (λ (q : List ℕ). DiffersFromEntry d.difference l.entry (files q)) (sym at) ((stays_so change bytes_of records files path (plain path l owner) l d.difference owner t).0 here)
       by_coming true t here =
-          subst (λ (q : List ℕ). ExplainsDifference (contents_left left) change files (record { path = q; difference = d.difference }) l true) (sym at)
+          subst (λ (q : List ℕ). ExplainsDifference (contents_of_added_packages_left left) change files (record { path = q; difference = d.difference }) l true) (sym at)
           (left_by change bytes_of records files path (plain path l owner) l (comes_if change path l owner t) d.difference here)
 
-  pub is_path_left_over : (d : FileDifference) → IsIn d (file_differences done.files (packages_left left)) → IsDifferenceExplainedAfterChange (contents_left left) change files d
+  pub is_path_left_over : (d : FileDifference) → IsIn d (file_differences done.files (packages_left left)) → IsDifferenceExplainedByFilesBeforeChange (contents_of_added_packages_left left) change files d
   is_path_left_over d here =
       let is = (laws.differences done.files (packages_left left) d).0 here in
       let found = record_of_owner laws.written change value sound read_back.1 d.path is.entry is.recorded in
@@ -165,12 +165,12 @@ module _ (laws : Laws) (command : CommandLine) (read : Reads) (files : Files) (c
 
   -- ---- what was left so differs
 
-  differs_so : (l : Listing) (d : FileDifference) → owner_listing change d.path ≡ Some l → (b : Bool) → is_added l.member ≡ b → ExplainsDifference (contents_left left) change files d l b
+  differs_so : (l : Listing) (d : FileDifference) → owner_listing change d.path ≡ Some l → (b : Bool) → is_added l.member ≡ b → ExplainsDifference (contents_of_added_packages_left left) change files d l b
       → DiffersFromEntry d.difference l.entry (files_after_change change bytes_of records files d.path)
   differs_so l d owner false t why = (stays_so change bytes_of records files d.path (plain d.path l owner) l d.difference owner t).1 why
   differs_so l d owner true t why = by_left change bytes_of records files d.path (plain d.path l owner) l (comes_if change d.path l owner t) d.difference why
 
-  pub left_is : (d : FileDifference) → IsDifferenceExplainedAfterChange (contents_left left) change files d → IsIn d (file_differences done.files (packages_left left))
+  pub left_is : (d : FileDifference) → IsDifferenceExplainedByFilesBeforeChange (contents_of_added_packages_left left) change files d → IsIn d (file_differences done.files (packages_left left))
   left_is d is =
       let l = is.listing in
       let here = subst (λ (fs : Files). DiffersFromEntry d.difference l.entry (fs d.path)) (sym files_are) (differs_so l d is.owner (is_added l.member) refl is.left) in
@@ -205,8 +205,8 @@ pub empty_alone :
     → ((contents : ℕ → List Contents) (members : List Member) (l : Listing) → Contains (listings_of_members members) l → HaveValidDigestLengths (expected_files_of_package l.member.pkg)
     → MatchEachExpectedSizeAndKnownDigest (expected_files_of_package l.member.pkg) (contents l.place) → (is_file_with_contents l.entry ≡ false → has_target l.entry ≡ false → is_as_listed l.entry [] ≡ true)
     → is_as_listed l.entry (listing_bytes contents l) ≡ true)
-    → (command : CommandLine) (read : Reads) (chosen : Option (List ℕ)) (done : ChangeDone) (left : IsRootLeftToLaterCommandsByChange command read chosen done) (path : List ℕ) (l : Listing)
-    → added_owner_listing (old_and_new_packages_of_change_left left) path ≡ Some l → is_as_listed l.entry (listing_bytes (contents_left left) l) ≡ false → IsEmptyFileWithOtherDigest l.entry
+    → (command : CommandLine) (read : Reads) (chosen : Option (List ℕ)) (done : ChangeDone) (left : LaterCommandsFindMembersAndNewWorld command read chosen done) (path : List ℕ) (l : Listing)
+    → added_owner_listing (old_and_new_packages_of_change_left left) path ≡ Some l → is_as_listed l.entry (listing_bytes (contents_of_added_packages_left left) l) ≡ false → IsEmptyFileWithOtherDigest l.entry
 empty_alone told placed brought command read chosen done left path l comes unlike =
     let members = found_members left.found in
     let owner = coming_is (old_and_new_packages_of_change_left left) path l comes in
@@ -214,5 +214,5 @@ empty_alone told placed brought command read chosen done left path l comes unlik
     let place = some_place l (listings_of_members members) listed in
     let s = left.selected in
     let are = contents_listed told read s.replacement s.inputs.root.repositories (wishes_of command).no_scripts left.found l.place l.member left.members (placed members place.0 l place.1).member owner.1 in
-    empty_by l.entry (listing_bytes (contents_left left) l)
-    (brought (contents_left left) members l (contains_from_one (listings_of_members members) l listed) are.0 are.1) unlike
+    empty_by l.entry (listing_bytes (contents_of_added_packages_left left) l)
+    (brought (contents_of_added_packages_left left) members l (contains_from_one (listings_of_members members) l listed) are.0 are.1) unlike

@@ -18,7 +18,7 @@ use Rattle.root_laws.specs.engine_core.Wishes.{wishes_of}
 use Rattle.audit_core.specs.file_guard.AsListed.{has_target, is_as_listed}
 use Rattle.root_laws.specs.make_info.Reads.{Reads}
 use Rattle.root_laws.specs.pkg_core.Contents.{Contents}
-use Rattle.root_laws.specs.RootLeft.{IsRootLeftToLaterCommandsByChange, database_of_members}
+use Rattle.root_laws.specs.RootLeft.{LaterCommandsFindMembersAndNewWorld, database_of_members}
 
 -- ---- why a file differs after a change
 
@@ -48,7 +48,7 @@ ExplainsDifference contents change files d l true =
 
 -- the difference `d` is one that the change leaves, and there is a reason for it. `contents` has the contents of the
 -- files of each added package, and `files` are the files before the change.
-pub record IsDifferenceExplainedAfterChange (contents : ℕ → List Contents) (change : FileChange)
+pub record IsDifferenceExplainedByFilesBeforeChange (contents : ℕ → List Contents) (change : FileChange)
     (files : Files)
     (d : FileDifference) : Type 0 where
   -- the listing of the file in the package that owns its path
@@ -63,18 +63,18 @@ pub record IsDifferenceExplainedAfterChange (contents : ℕ → List Contents) (
 -- the packages after a command's change, as the next command reads them from the database
 abbrev pub packages_left :
     {command : CommandLine} → {read : Reads} → {chosen : Option (List ℕ)} → {done : ChangeDone}
-    → IsRootLeftToLaterCommandsByChange command read chosen done → List Plain
+    → LaterCommandsFindMembersAndNewWorld command read chosen done → List Plain
 packages_left left = (database_of_members (found_members left.found) left.bytes).packages
 
 -- the change of files that a command has made
 abbrev pub old_and_new_packages_of_change_left :
     {command : CommandLine} → {read : Reads} → {chosen : Option (List ℕ)} → {done : ChangeDone}
-    → IsRootLeftToLaterCommandsByChange command read chosen done → FileChange
+    → LaterCommandsFindMembersAndNewWorld command read chosen done → FileChange
 old_and_new_packages_of_change_left {command} left =
     packages_before_and_after_with_purge left.selected.inputs (wishes_of command) left.found
 
 -- for the index of each added package, the contents of its files
-abbrev pub contents_left :
+abbrev pub contents_of_added_packages_left :
     {command : CommandLine} → {read : Reads} → {chosen : Option (List ℕ)} → {done : ChangeDone}
-    → IsRootLeftToLaterCommandsByChange command read chosen done → ℕ → List Contents
-contents_left left = found_package_contents left.found
+    → LaterCommandsFindMembersAndNewWorld command read chosen done → ℕ → List Contents
+contents_of_added_packages_left left = found_package_contents left.found

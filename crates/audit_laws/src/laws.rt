@@ -4,7 +4,7 @@
 ghost use Rattle.audit_core.specs.adb_fields.FirstPair.{IsIn};
 ghost use Rattle.audit_core.specs.Audit.{FileDifference};
 ghost use Rattle.audit_core.specs.Differences.{file_differences};
-ghost use Rattle.audit_laws.specs.AfterChange.{IsEmptyFileWithOtherDigest, IsDifferenceExplainedAfterChange, old_and_new_packages_of_change_left, contents_left, packages_left};
+ghost use Rattle.audit_laws.specs.AfterChange.{IsEmptyFileWithOtherDigest, IsDifferenceExplainedByFilesBeforeChange, old_and_new_packages_of_change_left, contents_of_added_packages_left, packages_left};
 ghost use Rattle.base_core.specs.Files.{Files};
 ghost use Rattle.root_laws.specs.change_files.FileChange.{added_owner_listing};
 ghost use Rattle.root_laws.specs.change_files.FilesAfter.{listing_bytes};
@@ -15,7 +15,7 @@ ghost use Rattle.root_laws.specs.engine_core.Changed.{change_of_command};
 ghost use Rattle.audit_core.specs.file_guard.AsListed.{is_as_listed};
 ghost use Rattle.root_laws.specs.make_info.Reads.{Reads};
 ghost use Rattle.audit_core.specs.path_clashes.Clash.{NamePair};
-ghost use Rattle.root_laws.specs.RootLeft.{IsRootLeftToLaterCommandsByChange};
+ghost use Rattle.root_laws.specs.RootLeft.{LaterCommandsFindMembersAndNewWorld};
 ghost use Rattle.std.specs.Prelude.{◌≡◌, ◌↔◌, ℕ, false, List, Ok, Option, Some};
 
 use audit_core::{an_audit_reports_just_the_files_that_differ, listings_are_at_their_places};
@@ -35,19 +35,19 @@ pub fn after_a_change_an_audit_reports_what_it_left_to_the_user()
     // these reasons. `files` are the files before the change.
     ensures each { (command : CommandLine) (read : Reads) (files : Files)
         (chosen : Option (List ℕ)) (clash : Option NamePair) (done : ChangeDone)
-        (left : IsRootLeftToLaterCommandsByChange command read chosen done) (d : FileDifference)
+        (left : LaterCommandsFindMembersAndNewWorld command read chosen done) (d : FileDifference)
         → change_of_command command read files chosen clash ≡ Ok done
         → command.flags.simulate ≡ false
         → IsIn d (file_differences done.files (packages_left left))
-        ↔ IsDifferenceExplainedAfterChange (contents_left left)
+        ↔ IsDifferenceExplainedByFilesBeforeChange (contents_of_added_packages_left left)
         (old_and_new_packages_of_change_left left) files d }
     // If the bytes that an added package has for a file are not as its own entry lists them, the
     // entry is that of an empty file with another digest.
     ensures empty { (command : CommandLine) (read : Reads) (chosen : Option (List ℕ))
-        (done : ChangeDone) (left : IsRootLeftToLaterCommandsByChange command read chosen done)
+        (done : ChangeDone) (left : LaterCommandsFindMembersAndNewWorld command read chosen done)
         (path : List ℕ)
         (l : Listing) → added_owner_listing (old_and_new_packages_of_change_left left) path ≡ Some l
-        → is_as_listed l.entry (listing_bytes (contents_left left) l) ≡ false
+        → is_as_listed l.entry (listing_bytes (contents_of_added_packages_left left) l) ≡ false
         → IsEmptyFileWithOtherDigest l.entry }
 {
     // Laws that the proof needs; they compute nothing.

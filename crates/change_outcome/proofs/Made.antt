@@ -7,7 +7,7 @@ use Rattle.package_changes.specs.change_files.NamesAfter.{name_change}
 use Rattle.package_changes.specs.change_files.PlanLists.{first_reserved_added_path_in_byte_order}
 use Rattle.change_inputs.specs.Chains.{and_then}
 use Rattle.change_inputs.specs.Inputs.{Inputs}
-use Rattle.change_outcome.specs.ChangeOutcome.{ChangeDone, ChangeWishes, IsFirstClashUnlessMembersRefused, IsFirstClashOfChange, intent_of_change, change_done, members_after_change, change_or_refusal, change_with_members, packages_before_and_after_with_purge, database_and_world_after_change, touched_paths, unless_clash, unless_contested, or_result_too_large, unless_overflow, unless_reserved_path, change_done_unless_too_large}
+use Rattle.change_outcome.specs.ChangeOutcome.{ChangeDone, ChangeWishes, IsFirstClashUnlessMembersRefused, IsFirstClashOfChange, intent_of_change, change_done, members_after_change, change_or_refusal, change_with_members, packages_before_and_after_with_purge, database_and_world_after_change, touched_paths, unless_clash, unless_contested, or_result_too_large, unless_overflow, unless_reserved_path, change_done_unless_over_writer_limits}
 use Rattle.change_outcome.specs.MembersAfter.{MemberFound}
 use Rattle.change_outcome.specs.Triggers.{unless_trigger_due}
 use Rattle.db_write.specs.db_core.Members.{Member}
@@ -60,12 +60,12 @@ module _ (inputs : Inputs) (r : Replacement) (wishes : ChangeWishes) (read : Rea
   with_found found are e =
       let change : FileChange = packages_before_and_after_with_purge inputs wishes found in
       let reserved = unreserved_ok (first_reserved_added_path_in_byte_order change.members) (unless_clash clash (unless_contested change.members (first_contested_member_path_in_byte_order change.members)
-      (and_then (unless_trigger_due wishes.no_scripts (touched_paths change files) change.members) (λ is_allowed. change_done_unless_too_large inputs r wishes found files)))) done e in
+      (and_then (unless_trigger_due wishes.no_scripts (touched_paths change files) change.members) (λ is_allowed. change_done_unless_over_writer_limits inputs r wishes found files)))) done e in
       let clashes = no_clash_ok clash (unless_contested change.members (first_contested_member_path_in_byte_order change.members)
-      (and_then (unless_trigger_due wishes.no_scripts (touched_paths change files) change.members) (λ is_allowed. change_done_unless_too_large inputs r wishes found files))) done reserved.1 in
+      (and_then (unless_trigger_due wishes.no_scripts (touched_paths change files) change.members) (λ is_allowed. change_done_unless_over_writer_limits inputs r wishes found files))) done reserved.1 in
       let contested = uncontested_ok change.members (first_contested_member_path_in_byte_order change.members)
-      (and_then (unless_trigger_due wishes.no_scripts (touched_paths change files) change.members) (λ is_allowed. change_done_unless_too_large inputs r wishes found files)) done clashes.1 in
-      let triggers = and_then_ok (unless_trigger_due wishes.no_scripts (touched_paths change files) change.members) (λ is_allowed. change_done_unless_too_large inputs r wishes found files) done contested.1 in
+      (and_then (unless_trigger_due wishes.no_scripts (touched_paths change files) change.members) (λ is_allowed. change_done_unless_over_writer_limits inputs r wishes found files)) done clashes.1 in
+      let triggers = and_then_ok (unless_trigger_due wishes.no_scripts (touched_paths change files) change.members) (λ is_allowed. change_done_unless_over_writer_limits inputs r wishes found files) done contested.1 in
       let large = and_then_ok (or_result_too_large (database_of change.members (owned_flags_of change.members))) (λ database.
       unless_overflow (counts_at_first_overflow (value_of_intent (intent_of_change inputs change files (database_and_world_after_change inputs database))))
       (change_done inputs r wishes found files (database_and_world_after_change inputs database))) done triggers.2 in

@@ -183,9 +183,9 @@ change_done inputs r wishes found files records =
 
 -- a change that is made, unless a limit of the writer is exceeded, first by the database and then by
 -- the intent
-abbrev pub change_done_unless_too_large :
+abbrev pub change_done_unless_over_writer_limits :
     Inputs → Replacement → ChangeWishes → List MemberFound → Files → Result ChangeDone Refusal
-change_done_unless_too_large inputs r wishes found files =
+change_done_unless_over_writer_limits inputs r wishes found files =
     let change = packages_before_and_after_with_purge inputs wishes found in
     and_then (or_result_too_large (database_of change.members (owned_flags_of change.members))) (λ database.
     let records = database_and_world_after_change inputs database in
@@ -204,7 +204,7 @@ change_with_members inputs r wishes clash files found =
     (unless_clash clash
     (unless_contested change.members (first_contested_member_path_in_byte_order change.members)
     (and_then (unless_trigger_due wishes.no_scripts (touched_paths change files) change.members)
-    (λ is_allowed. change_done_unless_too_large inputs r wishes found files))))
+    (λ is_allowed. change_done_unless_over_writer_limits inputs r wishes found files))))
 
 -- the packages after a change, or the first refusal of one
 abbrev pub members_after_change :

@@ -7,8 +7,8 @@ use Rattle.journal_core.specs.journal_intent.FreeNames.{HasFreeNamesAndUnrepeate
 use Rattle.journal_core.specs.journal_intent.IntentValue.{intent_of_lists}
 
 -- a change has fewer writes than this limit, so that their number plus 1 fits into 64 bits
-abbrev pub write_count_limit : ℕ
-write_count_limit = 2 ^ 63
+abbrev pub exclusive_write_count_limit : ℕ
+exclusive_write_count_limit = 2 ^ 63
 
 -- The files `after` are `files` with these names removed and written, and all others unchanged. The names may be in an
 -- intent, nothing is staged in `files`, and the writes are fewer than their limit.
@@ -17,7 +17,7 @@ pub record CanStageActionsLeadingToFiles (removals writes : List (List ℕ))
   -- the names are not used by the journal; none is written twice, and none is both written and removed
   pub free : HasFreeNamesAndUnrepeatedWrites (intent_of_lists removals writes)
   -- there are fewer writes than the limit
-  pub few : length writes < write_count_limit
+  pub few : length writes < exclusive_write_count_limit
   -- nothing is staged in the files before
   pub empty : HasNoStagedNames files
   -- each written name has a file afterwards

@@ -57,13 +57,13 @@ abbrev pub folders_of_paths : List (List ℕ) → List (List ℕ)
 folders_of_paths paths = sorted_distinct_names (map folder_of paths)
 
 -- the line that says that the package's trigger is due for the folder
-abbrev pub due_trigger_line : Plain → List ℕ → List ℕ
-due_trigger_line pkg folder = report_line (trigger_due_for_folder_text (package_name pkg) folder)
+abbrev pub line_saying_trigger_is_due : Plain → List ℕ → List ℕ
+line_saying_trigger_is_due pkg folder = report_line (trigger_due_for_folder_text (package_name pkg) folder)
 
 -- a line for each of the folders for which the package's trigger is due
 abbrev pub due_trigger_lines_for_folders : List (List ℕ) → Plain → List ℕ
 due_trigger_lines_for_folders folders pkg =
-    flat_map (due_trigger_line pkg) (filter (is_trigger_due pkg) folders)
+    flat_map (line_saying_trigger_is_due pkg) (filter (is_trigger_due pkg) folders)
 
 -- the lines on triggers of the packages after a change that writes and removes files with these
 -- paths, in their order

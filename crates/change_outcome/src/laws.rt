@@ -18,7 +18,7 @@ ghost use Rattle.journal_core.specs.journal_intent.IntentValue.{intent_of_lists}
 ghost use Rattle.change_inputs.specs.make_info.Reads.{Reads};
 ghost use Rattle.package_changes.specs.Changes.{Replacement};
 ghost use Rattle.package_changes.specs.path_clashes.Clash.{NamePair};
-ghost use Rattle.change_outcome.specs.Leading.{CanStageActionsLeadingToFiles, write_count_limit};
+ghost use Rattle.change_outcome.specs.Leading.{CanStageActionsLeadingToFiles, exclusive_write_count_limit};
 ghost use Rattle.change_outcome.specs.Made.{IsChangeMade};
 ghost use Rattle.change_outcome.specs.Premises.{OldAndAddedPackagesListNoReservedPath, AreDatabaseAndWorldReadFromFiles};
 
@@ -55,7 +55,7 @@ pub fn the_actions_of_a_change_lead_to_its_files()
         → let records = database_and_world_after_change inputs database in
         let actions = intent_of_change inputs change files records in
         let after = files_after_change change bytes_of records files in
-        length actions.writes < write_count_limit
+        length actions.writes < exclusive_write_count_limit
         → files_after_actions actions
         (files_with_staged 1 (map (bytes_or_empty_under after) actions.writes) files) ≡ after }
 {}

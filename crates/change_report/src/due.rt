@@ -3,7 +3,7 @@
 //! `docs/commands.md`, "`add` and `del`", part "Which triggers are due".
 
 ghost use Rattle.change_outcome.specs.adb_schema.Views.{package_value};
-ghost use Rattle.change_outcome.specs.Triggers.{due_trigger_line, due_trigger_lines_for_folders, folders_of_paths, has_due_trigger, watches_folder, trigger_lines, unless_trigger_due};
+ghost use Rattle.change_outcome.specs.Triggers.{line_saying_trigger_is_due, due_trigger_lines_for_folders, folders_of_paths, has_due_trigger, watches_folder, trigger_lines, unless_trigger_due};
 ghost use Rattle.change_outcome.specs.db_core.Seen.{members_of};
 ghost use Rattle.change_report.specs.Due.{refusal_if_trigger_due, planned_paths};
 ghost use Rattle.report_core.specs.Reports.{folder_path_or_slash_for_root, report_line, trigger_due_for_folder_text};
@@ -106,7 +106,7 @@ fn push_line_if_watched(
     // One line is appended if the package watches the folder.
     ensures { OnOk result (report.new
         ≡ report.old ++ (if watches_folder (package_value pkg.now) folder.now
-        then due_trigger_line (package_value pkg.now) folder.now else [])) }
+        then line_saying_trigger_is_due (package_value pkg.now) folder.now else [])) }
 {
     if watches_folder(pkg, folder) {
         push_trigger_line(report, name_of(pkg, PhantomData), folder)?;

@@ -25,7 +25,7 @@ use Rattle.outcome.specs.adb_dump.Values.{IsOfBytes, IsNormalValueOfTable}
 use Rattle.outcome.proofs.adb_dump.Booleans.{chosen}
 use Rattle.outcome.specs.gen_core.Dumps.{IsNormalRootValueOfTable}
 use Rattle.outcome.specs.gen_core.Generated.{DumpedRoot, dumped_root, file_of_root, file_of_schema_and_payload_unless_too_large, generated_file, schema_word_or_zero}
-use Rattle.outcome.specs.Dump.{dump_fault_of_blocks, dump_of, dump_of_blocks, dump_by_root_table, dump_by_schema, text_unless_fault}
+use Rattle.outcome.specs.Dump.{dump_fault_of_blocks, dump_of, dump_of_first_block_unless_fault_of_blocks, dump_by_schema_number_and_table_if_any, dump_by_schema_unless_header_fault, text_unless_fault}
 use Rattle.dump_laws.proofs.Printed.{HasNamesAmong, Overflows, printed, within}
 
 -- what the layers below say of texts and of values that are found
@@ -98,7 +98,7 @@ word_known : (which : Which) (schema : ℕ) → header_schema_if_root_table whic
 word_known which schema e = (subst IsSome (sym e) refl, ap (λ (o : Option ℕ). unwrap_or o 0) e)
 
 -- what is printed of blocks
-text_of_blocks : (which : Which) (r : Reading) (text : List ℕ) → dump_of_blocks which r ≡ Ok text → dump_text which (root_value_of_payload which (first_block_payload r)) ≡ text
+text_of_blocks : (which : Which) (r : Reading) (text : List ℕ) → dump_of_first_block_unless_fault_of_blocks which r ≡ Ok text → dump_text which (root_value_of_payload which (first_block_payload r)) ≡ text
 text_of_blocks which r text e = go (dump_fault_of_blocks which r) e
   where
     go : (o : Option Cause) → text_unless_fault o (dump_text which (root_value_of_payload which (first_block_payload r))) ≡ Ok text → dump_text which (root_value_of_payload which (first_block_payload r)) ≡ text
@@ -109,7 +109,7 @@ printed_text : (file text : List ℕ) (schema : ℕ) (which : Which) → dump_of
 unfolding dump_of payload_in
 printed_text file text schema which e h root =
     let r = block_stream_from (first_block_position_of_schema_and_file schema file) in
-    let blocks : dump_of_blocks which r ≡ Ok text = sym (ap (dump_by_schema file) h ∙ ap (dump_by_root_table schema r) root) ∙ e in
+    let blocks : dump_of_first_block_unless_fault_of_blocks which r ≡ Ok text = sym (ap (dump_by_schema_unless_header_fault file) h ∙ ap (dump_by_schema_number_and_table_if_any schema r) root) ∙ e in
     ap (λ (o : Result ℕ Cause). dump_text which (root_value_of_payload which (payload_by_header_schema_or_fault file o))) h ∙ text_of_blocks which r text blocks
 
 null_root : (which : Which) → IsNormalValueOfTable which null × IsOfBytes null

@@ -29,7 +29,7 @@ use Rattle.outcome.proofs.adb_sound.Payloads.{payload_long}
 use Rattle.outcome.proofs.make_core.Roots.{written}
 use Rattle.outcome.proofs.adb_sound.SoundFiles.{IsWord, reading_is, word_is}
 use Rattle.outcome.specs.adb_dump.Dump.{dump_text}
-use Rattle.outcome.specs.Dump.{dump_fault_of_blocks, dump_of, dump_of_blocks, dump_by_root_table, dump_by_schema, payload_head_or_shape_fault, framing_fault, text_unless_fault}
+use Rattle.outcome.specs.Dump.{dump_fault_of_blocks, dump_of, dump_of_first_block_unless_fault_of_blocks, dump_by_schema_number_and_table_if_any, dump_by_schema_unless_header_fault, payload_head_or_shape_fault, framing_fault_of_blocks, text_unless_fault}
 
 -- a value within both limits, of a table
 pub record HasNamesAmong (which : Which) (v : Plain) : Type 0 where
@@ -76,9 +76,9 @@ value_is laws which v g = ap (λ (o : Option Plain). unwrap_or o null) (laws.bac
 
 -- ---- the file
 
-blocks_printed : Lower → (which : Which) (v : Plain) → HasNamesAmong which v → (r : Reading) (at : ℕ) → r ≡ more (adb_block_of_payload (canonical v)) at done → dump_of_blocks which r ≡ Ok (dump_text which v)
+blocks_printed : Lower → (which : Which) (v : Plain) → HasNamesAmong which v → (r : Reading) (at : ℕ) → r ≡ more (adb_block_of_payload (canonical v)) at done → dump_of_first_block_unless_fault_of_blocks which r ≡ Ok (dump_text which v)
 blocks_printed laws which v g r at is =
-    ap (dump_of_blocks which) is
+    ap (dump_of_first_block_unless_fault_of_blocks which) is
     ∙ ap (λ (o : Option Cause). text_unless_fault o (dump_text which (root_value_of_payload which (canonical v)))) (none_both _ _ (form_good laws which v g) refl)
     ∙ ap (λ (u : Plain). let text : Result (List ℕ) Cause = Ok (dump_text which u) in text) (value_is laws which v g)
 
@@ -94,6 +94,6 @@ printed laws which schema v word g =
     let read = laws.read file schema pieces spelled in
     let first = first_of (block_stream_from (first_block_position_of_schema_and_file schema file)) (adb_block_of_payload (canonical v)) [] (reading_is file schema pieces read.0 read.1) in
     let alone : block_stream_from (first_block_position_of_schema_and_file schema file) ≡ more (adb_block_of_payload (canonical v)) first.at done = first.is ∙ ap (λ (r : Reading). more (adb_block_of_payload (canonical v)) first.at r) (none_of_blocks first.later first.others) in
-    ap (dump_by_schema file) read.0
-    ∙ ap (dump_by_root_table schema (block_stream_from (first_block_position_of_schema_and_file schema file))) w.root
+    ap (dump_by_schema_unless_header_fault file) read.0
+    ∙ ap (dump_by_schema_number_and_table_if_any schema (block_stream_from (first_block_position_of_schema_and_file schema file))) w.root
     ∙ blocks_printed laws which v g (block_stream_from (first_block_position_of_schema_and_file schema file)) first.at alone

@@ -31,7 +31,7 @@ use Rattle.change_report.specs.journal_intent.Intent.{AreDistinctNamesAllowedInI
 use Rattle.engine_core.proofs.Once.{once_both}
 use Rattle.change_report.proofs.change_outcome.Leading.{acted_is}
 use Rattle.change_report.proofs.change_outcome.Room.{room}
-use Rattle.change_report.specs.change_outcome.ChangeOutcome.{ChangeDone, ChangeWishes, intent_of_change, bytes_or_empty_under, change_done, has_actions, packages_before_and_after_with_purge, is_absent_or_different, name_if_needed, database_and_world_after_change, or_result_too_large, unless_overflow, change_done_unless_too_large, names_of_written_database_and_world}
+use Rattle.change_report.specs.change_outcome.ChangeOutcome.{ChangeDone, ChangeWishes, intent_of_change, bytes_or_empty_under, change_done, has_actions, packages_before_and_after_with_purge, is_absent_or_different, name_if_needed, database_and_world_after_change, or_result_too_large, unless_overflow, change_done_unless_over_writer_limits, names_of_written_database_and_world}
 use Rattle.change_report.specs.change_outcome.MembersAfter.{MemberFound, found_package_contents, found_members}
 use Rattle.change_report.specs.journal_core.Recovery.{files_after_actions, intent_name}
 use Rattle.change_report.specs.journal_core.Staged.{AreIntentAndStagedPathsFree, HasEmptyStageAndFreeJournalPaths, HasNoStagedNames, Staging, action_count, new_stage_of_removals_and_writes, files_with_staged}
@@ -581,19 +581,19 @@ module _ (history : List TreeState) (p : Plan) (found : List MemberFound) (files
 
   -- the database is too large
   pub large_database : (counts : Counts) (fault : Refused) → Agrees {A = NewRecords} (λ r. r.database.items) (Err fault) (or_result_too_large (database_of (members_of p.members) p.files.owned))
-      → IsEndOfRunOfWantedChange (Ok found) (change_done_unless_too_large (inputs_of_plan p) (replacement_of_plan p) (wishes_of_plan p) found files) history history counts counts (Err fault)
+      → IsEndOfRunOfWantedChange (Ok found) (change_done_unless_over_writer_limits (inputs_of_plan p) (replacement_of_plan p) (wishes_of_plan p) found files) history history counts counts (Err fault)
   large_database counts fault told =
       part_fails {A = NewRecords} {B = List ℕ} (Ok found) (or_result_too_large (database_of (found_members found) (owned_flags_of (found_members found)))) (or_result_too_large (database_of (members_of p.members) p.files.owned))
       (ready_change (inputs_of_plan p) (replacement_of_plan p) (wishes_of_plan p) found files) (λ r. r.database.items) history counts fault database_is told
 
   -- the database is made
   module _ (records : NewRecords) (told : or_result_too_large (database_of (members_of p.members) p.files.owned) ≡ Ok records.database.items) where
-    pub made_database : change_done_unless_too_large (inputs_of_plan p) (replacement_of_plan p) (wishes_of_plan p) found files ≡ ready_change (inputs_of_plan p) (replacement_of_plan p) (wishes_of_plan p) found files records.database.items
+    pub made_database : change_done_unless_over_writer_limits (inputs_of_plan p) (replacement_of_plan p) (wishes_of_plan p) found files ≡ ready_change (inputs_of_plan p) (replacement_of_plan p) (wishes_of_plan p) found files records.database.items
     made_database = ap (λ (part : Result (List ℕ) Refusal). and_then part (ready_change (inputs_of_plan p) (replacement_of_plan p) (wishes_of_plan p) found files)) (sym database_is ∙ told)
 
     -- the journal entry is too large
     pub large_entry : (counts : Counts) (fault : Refused) → IsRefusedForOverflow p records fault
-        → IsEndOfRunOfWantedChange (Ok found) (change_done_unless_too_large (inputs_of_plan p) (replacement_of_plan p) (wishes_of_plan p) found files) history history counts counts (Err fault)
+        → IsEndOfRunOfWantedChange (Ok found) (change_done_unless_over_writer_limits (inputs_of_plan p) (replacement_of_plan p) (wishes_of_plan p) found files) history history counts counts (Err fault)
     large_entry counts fault large =
         subst (λ (w : Result ChangeDone Refusal). IsEndOfRunOfWantedChange (Ok found) w history history counts counts (Err fault)) (sym made_database)
         (entry_refused (Ok found)
@@ -602,7 +602,7 @@ module _ (history : List TreeState) (p : Plan) (found : List MemberFound) (files
 
     -- the journal entry fits
     pub entry_fits : (own : AreNewRecordsOf (inputs_of_plan p) records) (r : Rendered) → IsRendered p records r
-        → change_done_unless_too_large (inputs_of_plan p) (replacement_of_plan p) (wishes_of_plan p) found files
+        → change_done_unless_over_writer_limits (inputs_of_plan p) (replacement_of_plan p) (wishes_of_plan p) found files
         ≡ Ok (change_done (inputs_of_plan p) (replacement_of_plan p) (wishes_of_plan p) found files (database_and_world_after_change (inputs_of_plan p) records.database.items))
     entry_fits own r rendered =
         let ready : IsReadyToCommit history p r = record { found = found; files = files; planned = plan; records = records; own = own; rendered = rendered } in

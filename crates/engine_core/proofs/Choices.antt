@@ -11,7 +11,7 @@ use Rattle.change_report.proofs.solve_core.Existence.{first_or_none}
 use Rattle.change_report.proofs.solve_core.FirstFound.{none_satisfies}
 use Rattle.change_report.proofs.search_tables.PoolFacts.{pool_facts}
 use Rattle.change_report.proofs.search_tables.Satisfying.{closed_of_satisfying, satisfying_of_closed}
-use Rattle.engine_core.specs.Choice.{IsPreferredChoice, IsPreferredChoiceUnlessRefused}
+use Rattle.engine_core.specs.Choice.{IsPreferredChoice, IsPreferredChoiceOrNoneIfRefused}
 
 -- what a pool promises of the options of each need
 abbrev pub HaveOptions : Type 0
@@ -33,7 +33,7 @@ pool_choice has pool =
       | inr dead ↦ (None, none_satisfies pool dead)
     ]
 
-pub choice_exists : HaveOptions → (pool : Result SelectionProblem Refusal) → (chosen : Option (List ℕ)) × IsPreferredChoiceUnlessRefused pool chosen
+pub choice_exists : HaveOptions → (pool : Result SelectionProblem Refusal) → (chosen : Option (List ℕ)) × IsPreferredChoiceOrNoneIfRefused pool chosen
 choice_exists has (Ok pool) = pool_choice has pool
 choice_exists has (Err refusal) = (None, refl)
 
@@ -47,6 +47,6 @@ pool_one one pool None (Some t) x y = absurd (x t y.satisfies)
 pool_one one pool (Some t) None x y = absurd (y t x.satisfies)
 pool_one one pool (Some t) (Some u) x y = ap Some (one pool t u x y)
 
-pub choice_one : HasOneFirst → (pool : Result SelectionProblem Refusal) (a b : Option (List ℕ)) → IsPreferredChoiceUnlessRefused pool a → IsPreferredChoiceUnlessRefused pool b → a ≡ b
+pub choice_one : HasOneFirst → (pool : Result SelectionProblem Refusal) (a b : Option (List ℕ)) → IsPreferredChoiceOrNoneIfRefused pool a → IsPreferredChoiceOrNoneIfRefused pool b → a ≡ b
 choice_one one (Ok pool) a b x y = pool_one one pool a b x y
 choice_one one (Err refusal) a b x y = x ∙ sym y

@@ -23,7 +23,7 @@ use Rattle.change_report.specs.path_clashes.Clash.{NamePair}
 use Rattle.change_report.specs.package_changes.Changes.{Replacement}
 use Rattle.report_core.specs.declared.refusal.Refusal.{Refusal}
 use Rattle.engine_core.specs.ChangeRun.{IsEndOfRunOfWantedChange, DoesCommit, IsUnchangedOrCommit, report_as_is, report_of_result}
-use Rattle.engine_core.specs.Changed.{IsFirstClashUnlessRefused, IsFirstClashUnlessSimulated, InputsAndReplacement, change_of_selected, packages_found_after_change}
+use Rattle.engine_core.specs.Changed.{IsFirstClashOrNoneIfRefused, IsFirstClashOrNoneIfSimulated, InputsAndReplacement, change_of_selected, packages_found_after_change}
 use Rattle.engine_core.specs.Runs.{IsRunOnSelection}
 use Rattle.engine_core.specs.Wishes.{wishes_of}
 
@@ -35,12 +35,12 @@ pub record HaveClash : Type 0 where
 
 module _ (have : HaveClash) (names : List (List ℕ)) (files : Files) (within : HasOnlyNamesAmong names files) where
   clash_unless : (b : Bool) (s : InputsAndReplacement) (wishes : ChangeWishes) (read : Reads)
-      → (clash : Option NamePair) × IsFirstClashUnlessSimulated b wishes read files s clash
+      → (clash : Option NamePair) × IsFirstClashOrNoneIfSimulated b wishes read files s clash
   clash_unless true s wishes read = (None, refl)
   clash_unless false s wishes read = have.exists s.inputs s.replacement wishes read names files within
 
   pub clash_selected : (command : CommandLine) (read : Reads) (selected : Result InputsAndReplacement Refusal)
-      → (clash : Option NamePair) × IsFirstClashUnlessRefused command read files selected clash
+      → (clash : Option NamePair) × IsFirstClashOrNoneIfRefused command read files selected clash
   clash_selected command read (Ok s) = clash_unless command.flags.simulate s (wishes_of command) read
   clash_selected command read (Err refusal) = (None, refl)
 
@@ -52,7 +52,7 @@ pub record Seen (command : CommandLine) (selected : Result InputsAndReplacement 
   pub files : Files
   pub there : IfObservable old (λ v. files ≡ files_of v)
   pub clash : Option NamePair
-  pub is_clash : IsFirstClashUnlessRefused command read files selected clash
+  pub is_clash : IsFirstClashOrNoneIfRefused command read files selected clash
 
 pub nothing_within : HasOnlyNamesAmong [] (no_names {X = List ℕ})
 nothing_within q is = absurd (cc)
@@ -69,7 +69,7 @@ pub record FilesSeen (command : CommandLine) (selected : Result InputsAndReplace
   pub files : Files
   pub there : IfObservable old (λ v. files ≡ files_of v)
   pub clash : Option NamePair
-  pub is_clash : IsFirstClashUnlessRefused command read files selected clash
+  pub is_clash : IsFirstClashOrNoneIfRefused command read files selected clash
 
 pub files_seen : HaveClash → (command : CommandLine) (selected : Result InputsAndReplacement Refusal) (old : List TreeState) (read : Reads) → All IsWellFormed old → FilesSeen command selected old read
 files_seen have command selected [] read whole =

@@ -19,7 +19,7 @@ use Rattle.change_report.specs.change_inputs.Chains.{and_then}
 use Rattle.change_report.specs.change_inputs.Inputs.{Inputs}
 use Rattle.change_report.specs.change_inputs.declared.root.Refused.{Refused}
 use Rattle.change_report.specs.change_inputs.declared.root.Refused.TheVariants as Commands
-use Rattle.change_report.specs.change_outcome.ChangeOutcome.{ChangeDone, ChangeWishes, IsFirstClashUnlessMembersRefused, members_after_change, change_with_members, packages_before_and_after_with_purge, member_name_at_place, touched_paths, unless_clash, unless_contested, unless_reserved_path, change_done_unless_too_large}
+use Rattle.change_report.specs.change_outcome.ChangeOutcome.{ChangeDone, ChangeWishes, IsFirstClashUnlessMembersRefused, members_after_change, change_with_members, packages_before_and_after_with_purge, member_name_at_place, touched_paths, unless_clash, unless_contested, unless_reserved_path, change_done_unless_over_writer_limits}
 use Rattle.change_report.specs.change_outcome.MembersAfter.{MemberFound, found_members}
 use Rattle.change_report.specs.change_outcome.Triggers.{unless_trigger_due}
 use Rattle.change_report.specs.db_core.Members.{Member, listings_of_members, member_name, member_of_kept}
@@ -112,7 +112,7 @@ module _ (have : HaveClash) (inputs : Inputs) (r : Replacement) (wishes : Change
     reserved_path : (path : List ℕ) → first_reserved_added_path_in_byte_order (found_members found) ≡ Some path → IsRunOnFoundPackages inputs r wishes found old now before after (Err (Commands.Refusal (Reserved path)))
     reserved_path path is = found_by _ (λ clash. comes_to_refusal _ _ old now before after quiet (Reserved path)
         (ap (λ (o : Option (List ℕ)). unless_reserved_path o (unless_clash clash (unless_contested (found_members found) (first_contested_member_path_in_byte_order (found_members found))
-        (and_then (unless_trigger_due wishes.no_scripts (touched_paths (packages_before_and_after_with_purge inputs wishes found) (files_now old)) (found_members found)) (λ allowed. change_done_unless_too_large inputs r wishes found (files_now old)))))) is))
+        (and_then (unless_trigger_due wishes.no_scripts (touched_paths (packages_before_and_after_with_purge inputs wishes found) (files_now old)) (found_members found)) (λ allowed. change_done_unless_over_writer_limits inputs r wishes found (files_now old)))))) is))
 
     by_clash : (result : Result (List ℕ) Refused) (clash : Option NamePair) → (told : ClashTold (packages_before_and_after_with_purge inputs wishes found) old clash)
         → IsEndOfRunOfWantedChange (Ok found) (change_with_members inputs r wishes clash told.files found) old now before after result → IsRunOnFoundPackages inputs r wishes found old now before after result
@@ -126,7 +126,7 @@ module _ (have : HaveClash) (inputs : Inputs) (r : Replacement) (wishes : Change
         by_clash _ (Some pair) told
         (comes_to_refusal _ _ old now before after quiet (PathClash path other)
         (ap (λ (o : Option (List ℕ)). unless_reserved_path o (unless_clash (Some pair) (unless_contested (found_members found) (first_contested_member_path_in_byte_order (found_members found))
-        (and_then (unless_trigger_due wishes.no_scripts (touched_paths (packages_before_and_after_with_purge inputs wishes found) told.files) (found_members found)) (λ allowed. change_done_unless_too_large inputs r wishes found told.files)))))
+        (and_then (unless_trigger_due wishes.no_scripts (touched_paths (packages_before_and_after_with_purge inputs wishes found) told.files) (found_members found)) (λ allowed. change_done_unless_over_writer_limits inputs r wishes found told.files)))))
         none))
 
     named : (place : ℕ) (name : List ℕ) → member_name_at (found_members found) place ≡ Some name → member_name_at_place (found_members found) place ≡ name
@@ -140,7 +140,7 @@ module _ (have : HaveClash) (inputs : Inputs) (r : Replacement) (wishes : Change
         → IsRunOnFoundPackages inputs r wishes found old now before after (Err (Commands.Refusal (Owned path first second)))
     owned_path path first second (none, contest) told =
         let contested : Option ContestedPath = first_contested_member_path_in_byte_order (found_members found) in
-        let rest = and_then (unless_trigger_due wishes.no_scripts (touched_paths (packages_before_and_after_with_purge inputs wishes found) told.files) (found_members found)) (λ allowed. change_done_unless_too_large inputs r wishes found told.files) in
+        let rest = and_then (unless_trigger_due wishes.no_scripts (touched_paths (packages_before_and_after_with_purge inputs wishes found) told.files) (found_members found)) (λ allowed. change_done_unless_over_writer_limits inputs r wishes found told.files) in
         by_clash _ None told
         (comes_to_refusal _ _ old now before after quiet (Owned path first second)
         (ap (λ (o : Option (List ℕ)). unless_reserved_path o (unless_contested (found_members found) contested rest)) none
@@ -204,13 +204,13 @@ pub planned_run : (old mid now : List TreeState) (before between after : Counts)
     → IsOnlyRead old mid before between → IsArrived old a ms found → (plan : IsPlanOverSomeFiles (file_change_between a.selection.now.db ms wishes.purge) old p) → IsPlanForMembersAlone (members_of ms) p
     → IsEndOfRunOfWantedChange (Ok found)
     (and_then (unless_trigger_due wishes.no_scripts (touched_paths (packages_before_and_after_with_purge (inputs_of_packages a) wishes found) plan.files) (found_members found))
-    (λ allowed. change_done_unless_too_large (inputs_of_packages a) (replacement_of_packages a) wishes found plan.files)) mid now between after result
+    (λ allowed. change_done_unless_over_writer_limits (inputs_of_packages a) (replacement_of_packages a) wishes found plan.files)) mid now between after result
     → IsRunOnFoundPackages (inputs_of_packages a) (replacement_of_packages a) wishes found old now before after result
 planned_run old mid now before between after a ms p wishes found result quiet arrived plan owners comes =
     let inputs = inputs_of_packages a in
     let r = replacement_of_packages a in
     let members : List Member = found_members found in
-    let rest : Result ChangeDone Refusal = and_then (unless_trigger_due wishes.no_scripts (touched_paths (packages_before_and_after_with_purge inputs wishes found) plan.files) members) (λ allowed. change_done_unless_too_large inputs r wishes found plan.files) in
+    let rest : Result ChangeDone Refusal = and_then (unless_trigger_due wishes.no_scripts (touched_paths (packages_before_and_after_with_purge inputs wishes found) plan.files) members) (λ allowed. change_done_unless_over_writer_limits inputs r wishes found plan.files) in
     let wanted_is : change_with_members inputs r wishes None plan.files found ≡ rest =
     ap (λ (o : Option (List ℕ)). unless_reserved_path o (unless_contested members (first_contested_member_path_in_byte_order members) rest)) (sym (ap first_reserved_added_path_in_byte_order arrived.members) ∙ owners.allowed)
     ∙ ap (λ (o : Option ContestedPath). unless_contested members o rest) (sym (ap first_contested_member_path_in_byte_order arrived.members) ∙ owners.owners) in
@@ -238,7 +238,7 @@ pub planned_step_run : (old mid now : List TreeState) (before between after : Co
     → ((files : Files) → IsPlanned mid p found files
     → IsEndOfRunOfWantedChange (Ok found)
     (and_then (unless_trigger_due (wishes_of_plan p).no_scripts (touched_paths (packages_before_and_after_with_purge (inputs_of_plan p) (wishes_of_plan p) found) files) (found_members found))
-    (λ allowed. change_done_unless_too_large (inputs_of_plan p) (replacement_of_plan p) (wishes_of_plan p) found files)) mid now between after result)
+    (λ allowed. change_done_unless_over_writer_limits (inputs_of_plan p) (replacement_of_plan p) (wishes_of_plan p) found files)) mid now between after result)
     → IsPlanFrom old (wishes_of_plan p).purge p.packages.now.selection.now.db p.members p.files → IsOnlyRead old mid before between → IsArrived old p.packages.now p.members found
     → IsRunOnFoundPackages (inputs_of_plan p) (replacement_of_plan p) (wishes_of_plan p) found old now before after result
 planned_step_run old mid now before between after p found result comes plan quiet arrived =

@@ -15,7 +15,7 @@ use Rattle.change_report.specs.change_inputs.Chains.{and_then}
 use Rattle.change_report.specs.change_inputs.Inputs.{Inputs}
 use Rattle.change_report.specs.change_inputs.declared.root.Refused.{Refused}
 use Rattle.change_report.specs.change_inputs.declared.root.Refused.TheVariants.{Disk, Memory, Refusal as IsRefused}
-use Rattle.change_report.specs.change_outcome.ChangeOutcome.{ChangeDone, ChangeWishes, IsFirstClashUnlessMembersRefusedAmong, members_after_change, change_or_refusal, change_with_members, packages_before_and_after_with_purge, touched_paths, change_done_unless_too_large}
+use Rattle.change_report.specs.change_outcome.ChangeOutcome.{ChangeDone, ChangeWishes, IsFirstClashUnlessMembersRefusedAmong, members_after_change, change_or_refusal, change_with_members, packages_before_and_after_with_purge, touched_paths, change_done_unless_over_writer_limits}
 use Rattle.change_report.specs.change_outcome.Triggers.{unless_trigger_due}
 use Rattle.change_report.specs.change_outcome.MembersAfter.{MemberFound, found_members, members_after}
 use Rattle.command_core.specs.Command.{CommandLine}
@@ -26,7 +26,7 @@ use Rattle.dep_core.specs.Repositories.{Repository}
 use Rattle.change_report.specs.make_info.Reads.{Reads}
 use Rattle.change_report.specs.package_files.Runs.{AreReadsOfTreeIfObservable, HoldsOfSomeReadsOfTree}
 use Rattle.change_report.specs.package_changes.Changes.{Replacement}
-use Rattle.change_report.specs.package_changes.Placed.{candidates_at, placed_names_of, replacement_of}
+use Rattle.change_report.specs.package_changes.Placed.{candidates_at, names_with_change_and_old_and_pool_place, replacement_of}
 use Rattle.change_report.specs.package_changes.Seen.{placed_names_seen, placed_replacement_from_parts}
 use Rattle.change_report.specs.package_changes.declared.placed.PlacedNames.{PlacedNames}
 use Rattle.change_report.specs.path_clashes.Clash.{NamePair}
@@ -34,7 +34,7 @@ use Rattle.change_report.specs.candidate_core.Rank.{SelectionProblem}
 use Rattle.change_report.specs.candidate_core.declared.candidate_list.TheConstants.{MOST_CANDIDATES}
 use Rattle.report_core.specs.declared.refusal.Refusal.{Refusal}
 use Rattle.engine_core.specs.ChangeRun.{IsEndOfRunOfWantedChange}
-use Rattle.engine_core.specs.Changed.{IsFirstClashUnlessRefusedAmong, IsFirstClashUnlessSimulatedAmong, change_of_selected, simulated_change}
+use Rattle.engine_core.specs.Changed.{IsFirstClashOrNoneIfRefusedAmong, IsFirstClashOrNoneIfSimulatedAmong, change_of_selected, simulated_change}
 use Rattle.engine_core.specs.Preparing.{HasReadAddedPackages, ArePackagesFoundByReads, ArePackagesReadForSelection, IsArrived, IsPlanOfPackages, IsPlanned, IsRootRead, inputs_of_packages, inputs_of_plan, replacement_of_packages, replacement_of_plan, wishes_of_packages, wishes_of_plan}
 use Rattle.engine_core.specs.Runs.{IsRunOnSelection}
 use Rattle.engine_core.specs.Selecting.{pool_of_inputs_unless_too_many_candidates}
@@ -100,7 +100,7 @@ module _ (s : Selection) (database : HasDatabaseOfInputs s) where
     read_refused Memory explained = record { read = explained.read; observed = explained.observed; is = tt }
 
     -- the packages that come are read
-    pub read_all : (a : ReadPackages) → a.selection.now ≡ s → placed_names_seen a.names ≡ placed_names_of (placed_replacement_from_parts s.db s.pool s.trace s.again)
+    pub read_all : (a : ReadPackages) → a.selection.now ≡ s → placed_names_seen a.names ≡ names_with_change_and_old_and_pool_place (placed_replacement_from_parts s.db s.pool s.trace s.again)
         → HoldsOfSomeReadsOfTree old (λ read. DenotesUnlessDisk (λ (b : Arrivals) (found : List MemberFound). AreMembersFoundFromOldPackagesAndReads old (packages_of s.db) (arrivals_seen b) found) (Ok a.arrivals) (members_after placed read repositories flags.no_scripts))
         → HoldsOfSomeReadsOfTree old (λ read. DenotesUnlessDisk (ArePackagesReadForSelection old s) (Ok a) (members_after_change inputs (replacement_seen s) wishes read))
     read_all a same named explained = record {
@@ -111,7 +111,7 @@ module _ (s : Selection) (database : HasDatabaseOfInputs s) where
         sym (members_are explained.read repositories flags are is_flags) ∙ explained.is.1,
         record {
           selection = same;
-          placed = subst (λ (t : Selection). placed_names_seen a.names ≡ placed_names_of (placed_replacement_from_parts t.db t.pool t.trace t.again)) (sym same) named;
+          placed = subst (λ (t : Selection). placed_names_seen a.names ≡ names_with_change_and_old_and_pool_place (placed_replacement_from_parts t.db t.pool t.trace t.again)) (sym same) named;
           read = subst (λ (t : Selection). AreMembersFoundFromOldPackagesAndReads old (packages_of t.db) (arrivals_seen a.arrivals) explained.is.0) (sym same) explained.is.2;
         },
       );
@@ -135,9 +135,9 @@ module _ (s : Selection) (real : s.command.now.flags.simulate ≡ false) where
       change_is read files clash ∙ ap (λ (m : Result (List MemberFound) Refusal). and_then m (change_with_members (inputs_of_selection s) (replacement_seen s) (wishes_of_selection s) clash files)) is
 
   clash_is : (read : Reads) (found : List MemberFound) (files present_files : Files) (clash : Option NamePair) → members_after_change (inputs_of_selection s) (replacement_seen s) (wishes_of_selection s) read ≡ Ok found
-      → IsFirstClashUnlessMembersRefusedAmong (inputs_of_selection s) (wishes_of_selection s) files present_files (Ok found) clash → IsFirstClashUnlessRefusedAmong s.command.now read files present_files (Ok (selection_seen s)) clash
+      → IsFirstClashUnlessMembersRefusedAmong (inputs_of_selection s) (wishes_of_selection s) files present_files (Ok found) clash → IsFirstClashOrNoneIfRefusedAmong s.command.now read files present_files (Ok (selection_seen s)) clash
   clash_is read found files present_files clash is here =
-      subst (λ (b : Bool). IsFirstClashUnlessSimulatedAmong b (wishes_of_selection s) read files present_files (selection_seen s) clash) (sym real)
+      subst (λ (b : Bool). IsFirstClashOrNoneIfSimulatedAmong b (wishes_of_selection s) read files present_files (selection_seen s) clash) (sym real)
       (subst (λ (m : Result (List MemberFound) Refusal). IsFirstClashUnlessMembersRefusedAmong (inputs_of_selection s) (wishes_of_selection s) files present_files m clash) (sym is) here)
 
   module _ (old mid : List TreeState) (before between : Counts) (quiet : IsOnlyRead old mid before between) where
@@ -215,14 +215,14 @@ module _ (law : HaveMembers) (old mid : List TreeState) (before between : Counts
   plan_is = planned_step old mid p found plan.files quiet.same plan_arrived
 
   pub plan_run : (now : List TreeState) (after : Counts) (result : Result (List ℕ) Refused)
-      → ((files : Files) → IsPlanned mid p found files → IsEndOfRunOfWantedChange (Ok found) (change_done_unless_too_large (inputs_of_plan p) (replacement_of_plan p) (wishes_of_plan p) found files) mid now between after result)
+      → ((files : Files) → IsPlanned mid p found files → IsEndOfRunOfWantedChange (Ok found) (change_done_unless_over_writer_limits (inputs_of_plan p) (replacement_of_plan p) (wishes_of_plan p) found files) mid now between after result)
       → IsRunOnFoundPackages (inputs_of_packages a) (replacement_of_packages a) (wishes_of_packages a) found old now before after result
   plan_run now after result comes =
       subst (λ (b : ReadPackages). IsRunOnFoundPackages (inputs_of_packages b) (replacement_of_packages b) (wishes_of_packages b) found old now before after result) plan.packages
       (planned_step_run old mid now before between after p found result
       (λ files planned.
       subst (λ (w : Result ChangeDone Refusal). IsEndOfRunOfWantedChange (Ok found) w mid now between after result)
-      (sym (ap (λ (t : Result Bool Refusal). and_then t (λ allowed. change_done_unless_too_large (inputs_of_plan p) (replacement_of_plan p) (wishes_of_plan p) found files)) (allowed files planned)))
+      (sym (ap (λ (t : Result Bool Refusal). and_then t (λ allowed. change_done_unless_over_writer_limits (inputs_of_plan p) (replacement_of_plan p) (wishes_of_plan p) found files)) (allowed files planned)))
       (comes files planned))
       plan.files quiet plan_arrived)
     where
@@ -246,7 +246,7 @@ untriggered law old mid before between quiet p files members found arrivals faul
     planned_step_run old mid mid before between between p found (Err fault)
     (λ fs planned.
     part_fails {A = Unit {0}} {B = Bool} (Ok found) (unless_trigger_due (wishes_of_plan p).no_scripts (touched_paths (packages_before_and_after_with_purge (inputs_of_plan p) (wishes_of_plan p) found) fs) (found_members found))
-    (unless_trigger_due flags.no_scripts (planned_paths p.files) (members_of p.members)) (λ allowed. change_done_unless_too_large (inputs_of_plan p) (replacement_of_plan p) (wishes_of_plan p) found fs) (λ _. true) mid between fault
+    (unless_trigger_due flags.no_scripts (planned_paths p.files) (members_of p.members)) (λ allowed. change_done_unless_over_writer_limits (inputs_of_plan p) (replacement_of_plan p) (wishes_of_plan p) found fs) (λ _. true) mid between fault
     ((λ i. unless_trigger_due (is_flags i).no_scripts (planned_paths p.files) (members_of p.members)) ∙ triggers_are mid p found fs planned) told)
     files quiet (has_arrived old p.packages.now p.members found (members ∙ law _ _ _ found arrivals.read) arrivals)
 

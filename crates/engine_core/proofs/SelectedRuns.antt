@@ -17,7 +17,7 @@ use Rattle.change_report.specs.candidate_core.Rank.{SelectionProblem, UpgradedNa
 use Rattle.report_core.specs.declared.refusal.Refusal.{Refusal}
 use Rattle.report_core.specs.declared.refusal.Refusal.TheVariants.{NotInstalled}
 use Rattle.engine_core.specs.Changed.{InputsAndReplacement, selected_from_pool_by_choice, selected_from_inputs_by_choice, simulated_change}
-use Rattle.engine_core.specs.Choice.{IsPreferredChoice, IsPreferredChoiceUnlessRefused}
+use Rattle.engine_core.specs.Choice.{IsPreferredChoice, IsPreferredChoiceOrNoneIfRefused}
 use Rattle.engine_core.specs.Chosen.{IsResultOfChoice}
 use Rattle.engine_core.specs.Runs.{IsRunOnSelection}
 use Rattle.engine_core.specs.Selecting.{pool_of_inputs_unless_too_many_candidates, replacement_of_choice}
@@ -27,7 +27,7 @@ use Rattle.engine_core.specs.declared.choosing.Selection.{Selection}
 use Rattle.engine_core.proofs.Early.{HaveClash, IsOnlyRead, Seen, comes_to_idle, of_seen, seen_any, selected_failure, selected_refusal}
 
 abbrev pub HaveChoice : Type 0
-HaveChoice = (pool : Result SelectionProblem Refusal) → (chosen : Option (List ℕ)) × IsPreferredChoiceUnlessRefused pool chosen
+HaveChoice = (pool : Result SelectionProblem Refusal) → (chosen : Option (List ℕ)) × IsPreferredChoiceOrNoneIfRefused pool chosen
 
 -- a run by these inputs, and by whatever is chosen among their candidates
 abbrev pub IsRunBy :
@@ -35,7 +35,7 @@ abbrev pub IsRunBy :
     → Result (List ℕ) Refused → Type 0
 IsRunBy command inputs old now before after result =
     (chosen : Option (List ℕ))
-    × IsPreferredChoiceUnlessRefused (pool_of_inputs_unless_too_many_candidates command inputs) chosen
+    × IsPreferredChoiceOrNoneIfRefused (pool_of_inputs_unless_too_many_candidates command inputs) chosen
     × IsRunOnSelection command (selected_from_inputs_by_choice command chosen inputs)
     old now before after result
 
@@ -81,7 +81,7 @@ module _ (command : CommandLine) (inputs : Inputs) where
       by : (fault : Refused) → Agrees (λ (pool : SelectionProblem). pool) (Err fault) (pool_of_inputs_unless_too_many_candidates command inputs) → IsSelectedFrom command inputs (Err fault)
       by (IsRefused refusal) is = (
         None,
-        subst (λ (p : Result SelectionProblem Refusal). IsPreferredChoiceUnlessRefused p None) (sym is) refl,
+        subst (λ (p : Result SelectionProblem Refusal). IsPreferredChoiceOrNoneIfRefused p None) (sym is) refl,
         ap (λ (p : Result SelectionProblem Refusal). and_then p (λ pool. unless_unknown_operand (unknown_operand_place command.applet inputs command.operands) (selected_from_pool_by_choice command inputs pool None))) is,
       )
       by Disk is = absurd is
@@ -94,8 +94,8 @@ module _ (command : CommandLine) (inputs : Inputs) where
         ap (λ (p : Result SelectionProblem Refusal). and_then p (λ pool. unless_unknown_operand (unknown_operand_place command.applet inputs command.operands) (selected_from_pool_by_choice command inputs pool chosen))) pool_is
         ∙ ap (λ (o : Option ℕ). unless_unknown_operand o (selected_from_pool_by_choice command inputs pool chosen)) known_is
 
-    choice_is : (chosen : Option (List ℕ)) → IsPreferredChoice pool chosen → IsPreferredChoiceUnlessRefused (pool_of_inputs_unless_too_many_candidates command inputs) chosen
-    choice_is chosen choice = subst (λ (p : Result SelectionProblem Refusal). IsPreferredChoiceUnlessRefused p chosen) (sym pool_is) choice
+    choice_is : (chosen : Option (List ℕ)) → IsPreferredChoice pool chosen → IsPreferredChoiceOrNoneIfRefused (pool_of_inputs_unless_too_many_candidates command inputs) chosen
+    choice_is chosen choice = subst (λ (p : Result SelectionProblem Refusal). IsPreferredChoiceOrNoneIfRefused p chosen) (sym pool_is) choice
 
     -- an operand is not known
     pub unknown_operand_found : HaveChoice → (place : ℕ) → unknown_operand_place command.applet inputs command.operands ≡ Some place → IsSelectedFrom command inputs (Err (IsRefused (NotInstalled place)))

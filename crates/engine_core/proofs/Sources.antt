@@ -7,7 +7,7 @@ use Rattle.base_core.specs.Files.{Files}
 use Rattle.base_core.specs.Tree.{TreeState, files_of}
 use Rattle.journal_staging.specs.adb_schema.Reserved.{is_reserved}
 use Rattle.adb_view.specs.Plain.{Plain}
-use Rattle.added_packages.specs.Arrivals.{IsTestedPackageOfMember}
+use Rattle.added_packages.specs.Arrivals.{IsTestedPackageWithContentsOfMember}
 use Rattle.change_report.specs.change_files.FileChange.{FileChange}
 use Rattle.change_report.specs.change_files.FilesAfter.{DatabaseAndWorldAfter, files_after_change, database_name, is_listing_written_under_name, listing_bytes, new_world_bytes_unless_empty_and_absent, world_name, listing_written_under_name}
 use Rattle.change_report.specs.change_files.PlanLists.{FileWrite, file_writes_of, file_write_under_name}
@@ -126,7 +126,7 @@ record_stands files name own wanted b (Some bytes) write copied same is = (is.na
 
 -- what `a_package_that_was_read_is_that_of_its_file` says
 abbrev pub FilesAreRead : List TreeState → List MemberFound → (ℕ → Option TestedPackage) → Type 0
-FilesAreRead history found packages = (place : ℕ) (pkg : TestedPackage) → packages place ≡ Some pkg → IsTestedPackageOfMember history found place pkg
+FilesAreRead history found packages = (place : ℕ) (pkg : TestedPackage) → packages place ≡ Some pkg → IsTestedPackageWithContentsOfMember history found place pkg
 
 module _ (v : TreeState) (earlier : List TreeState) (found : List MemberFound) (members : List Member) (packages : ℕ → Option TestedPackage) (read : FilesAreRead (v ∷ earlier) found packages) where
   file_stands : (w : FileWrite) (bytes : List ℕ) (s : Source) → bytes ≡ write_bytes members (found_package_contents found) w → IsSourceOfWrite members packages w s → DenotesBytes (files_of v) s bytes

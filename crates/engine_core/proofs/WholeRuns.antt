@@ -26,8 +26,8 @@ use Rattle.report_core.specs.declared.refusal.Refusal.{Refusal}
 use Rattle.change_report.specs.change_outcome.Premises.{AreDatabaseAndWorldReadFromFiles}
 use Rattle.engine_core.specs.Preparing.{IsRootRead}
 use Rattle.engine_core.specs.ChangeRun.{IsEndOfRunOfWantedChange, IsChangeRun}
-use Rattle.engine_core.specs.Changed.{IsFirstClashUnlessRefused, IsFirstClashUnlessRefusedAmong, IsFirstClashUnlessSimulatedAmong, InputsAndReplacement, change_of_selected, change_of_command, packages_found_after_change, selected_from_pool_by_choice, selected_from_reads_by_choice, selected_from_inputs_by_choice, simulated_change}
-use Rattle.engine_core.specs.Choice.{IsPreferredChoiceUnlessRefused}
+use Rattle.engine_core.specs.Changed.{IsFirstClashOrNoneIfRefused, IsFirstClashOrNoneIfRefusedAmong, IsFirstClashOrNoneIfSimulatedAmong, InputsAndReplacement, change_of_selected, change_of_command, packages_found_after_change, selected_from_pool_by_choice, selected_from_reads_by_choice, selected_from_inputs_by_choice, simulated_change}
+use Rattle.engine_core.specs.Choice.{IsPreferredChoiceOrNoneIfRefused}
 use Rattle.engine_core.specs.Runs.{IsRunOnSelection}
 use Rattle.engine_core.specs.Selecting.{pool_of_inputs_unless_too_many_candidates, pool_of_command}
 use Rattle.engine_core.specs.Wishes.{unknown_operand_place, unless_unknown_operand, wishes_of}
@@ -121,13 +121,13 @@ module _ (have : HaveOwnReads) (command : CommandLine) (inputs : Inputs) (read o
       by true = refl
       by false = same_of_inputs s.inputs is
 
-  clash_same : (s : InputsAndReplacement) (files present_files : Files) (clash : Option NamePair) → s.inputs ≡ inputs → IsFirstClashUnlessSimulatedAmong command.flags.simulate (wishes_of command) other files present_files s clash → IsFirstClashUnlessSimulatedAmong command.flags.simulate (wishes_of command) read files present_files s clash
+  clash_same : (s : InputsAndReplacement) (files present_files : Files) (clash : Option NamePair) → s.inputs ≡ inputs → IsFirstClashOrNoneIfSimulatedAmong command.flags.simulate (wishes_of command) other files present_files s clash → IsFirstClashOrNoneIfSimulatedAmong command.flags.simulate (wishes_of command) read files present_files s clash
   clash_same s files present_files clash is = by command.flags.simulate
     where
       of_inputs : (i : Inputs) → i ≡ inputs → members_after_change i s.replacement (wishes_of command) other ≡ members_after_change i s.replacement (wishes_of command) read
       of_inputs i e = subst (λ (j : Inputs). members_after_change j s.replacement (wishes_of command) other ≡ members_after_change j s.replacement (wishes_of command) read) (sym e) (sym (members_same s.replacement (wishes_of command)))
 
-      by : (b : Bool) → IsFirstClashUnlessSimulatedAmong b (wishes_of command) other files present_files s clash → IsFirstClashUnlessSimulatedAmong b (wishes_of command) read files present_files s clash
+      by : (b : Bool) → IsFirstClashOrNoneIfSimulatedAmong b (wishes_of command) other files present_files s clash → IsFirstClashOrNoneIfSimulatedAmong b (wishes_of command) read files present_files s clash
       by true clash_is = clash_is
       by false clash_is = subst (λ (found : Result (List MemberFound) Refusal). IsFirstClashUnlessMembersRefusedAmong s.inputs (wishes_of command) files present_files found clash) (of_inputs s.inputs is) clash_is
 
@@ -156,7 +156,7 @@ selected_has command chosen inputs = by_pool (pool_of_inputs_unless_too_many_can
 
 module _ (have : HaveOwnReads) (command : CommandLine) (inputs : Inputs) (old now : List TreeState) (before after : Counts) (result : Result (List ℕ) Refused)
     (first : Reads) (observed : AreReadsOfTreeIfObservable old first) (is : inputs_of command first ≡ Ok inputs)
-    (chosen : Option (List ℕ)) (choice : IsPreferredChoiceUnlessRefused (pool_of_inputs_unless_too_many_candidates command inputs) chosen)
+    (chosen : Option (List ℕ)) (choice : IsPreferredChoiceOrNoneIfRefused (pool_of_inputs_unless_too_many_candidates command inputs) chosen)
     (run : IsRunOnSelection command (selected_from_inputs_by_choice command chosen inputs) old now before after result) where
   count : ℕ
   count = first_index_read_number + length inputs.root.repositories
@@ -195,7 +195,7 @@ module _ (have : HaveOwnReads) (command : CommandLine) (inputs : Inputs) (old no
   unfolding selected
   packages_are = packages_by selected (selected_has command chosen inputs) ∙ ap (packages_found_after_change command read) (sym selected_is)
 
-  clash_by : (s : Result InputsAndReplacement Refusal) → HasInputs inputs s → IsFirstClashUnlessRefusedAmong command run.read run.files run.present_files s run.clash → IsFirstClashUnlessRefusedAmong command read run.files run.present_files s run.clash
+  clash_by : (s : Result InputsAndReplacement Refusal) → HasInputs inputs s → IsFirstClashOrNoneIfRefusedAmong command run.read run.files run.present_files s run.clash → IsFirstClashOrNoneIfRefusedAmong command read run.files run.present_files s run.clash
   clash_by (Ok s) has clash = clash_same have command inputs read run.read same s run.files run.present_files run.clash has clash
   clash_by (Err refusal) has clash = clash
 
@@ -205,13 +205,13 @@ module _ (have : HaveOwnReads) (command : CommandLine) (inputs : Inputs) (old no
     read = read;
     observed = splice_observed count first run.read old observed run.observed;
     chosen = chosen;
-    choice = subst (λ (r : Result Inputs Refusal). IsPreferredChoiceUnlessRefused (and_then r (pool_of_inputs_unless_too_many_candidates command)) chosen) (sym inputs_is) choice;
+    choice = subst (λ (r : Result Inputs Refusal). IsPreferredChoiceOrNoneIfRefused (and_then r (pool_of_inputs_unless_too_many_candidates command)) chosen) (sym inputs_is) choice;
     files = run.files;
     there = run.there;
     present_files = run.present_files;
     stand = run.stand;
     clash = run.clash;
-    is_clash = subst (λ (s : Result InputsAndReplacement Refusal). IsFirstClashUnlessRefusedAmong command read run.files run.present_files s run.clash) (sym selected_is)
+    is_clash = subst (λ (s : Result InputsAndReplacement Refusal). IsFirstClashOrNoneIfRefusedAmong command read run.files run.present_files s run.clash) (sym selected_is)
         (clash_by selected (selected_has command chosen inputs) run.is_clash);
     comes = subst (λ (p : Result (List MemberFound) Refusal). IsEndOfRunOfWantedChange p (change_of_command command read run.files chosen run.clash) old now before after result) packages_are
         (subst (λ (w : Result ChangeDone Refusal). IsEndOfRunOfWantedChange (packages_found_after_change command run.read selected) w old now before after result) changed_is run.comes);
@@ -253,13 +253,13 @@ module _ (choose : HaveChoice) (have : HaveClash) (command : CommandLine) (old n
         read = read;
         observed = observed;
         chosen = None;
-        choice = subst (λ (r : Result Inputs Refusal). IsPreferredChoiceUnlessRefused (and_then r (pool_of_inputs_unless_too_many_candidates command)) None) (sym is) refl;
+        choice = subst (λ (r : Result Inputs Refusal). IsPreferredChoiceOrNoneIfRefused (and_then r (pool_of_inputs_unless_too_many_candidates command)) None) (sym is) refl;
         files = seen.files;
         there = seen.there;
         present_files = seen.files;
         stand = seen.there;
         clash = seen.clash;
-        is_clash = subst (λ (s : Result InputsAndReplacement Refusal). IsFirstClashUnlessRefused command read seen.files s seen.clash) (sym selected) seen.is_clash;
+        is_clash = subst (λ (s : Result InputsAndReplacement Refusal). IsFirstClashOrNoneIfRefused command read seen.files s seen.clash) (sym selected) seen.is_clash;
         comes = comes_to_refusal _ _ old now before after quiet refusal (ap (λ (s : Result InputsAndReplacement Refusal). and_then s (change_of_selected command read seen.files seen.clash)) selected);
       }
 

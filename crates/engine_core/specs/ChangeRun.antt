@@ -26,7 +26,7 @@ use Rattle.report_core.specs.declared.refusal.Refusal.TheVariants.{PackageBad}
 use Rattle.journal_staging.specs.Spoiled.{IsFileWithOnlyContentsSpoiled}
 use Rattle.journal_staging.specs.journal_commit.StageRun.{IsRunOfStagedChange, IsStagedChangeComplete}
 use Rattle.engine_core.specs.Changed.{IsFirstClashOfCommandAmong, change_of_command, packages_found_after_change, selected_from_reads_by_choice}
-use Rattle.engine_core.specs.Choice.{IsPreferredChoiceUnlessRefused}
+use Rattle.engine_core.specs.Choice.{IsPreferredChoiceOrNoneIfRefused}
 use Rattle.engine_core.specs.Selecting.{pool_of_command}
 
 -- ---- the answer
@@ -47,7 +47,8 @@ DoesCommit (Err refusal) = ⊥
 -- One of the packages that were read for a change is spoiled: its file has other contents now. `tested` are the bytes
 -- of its file when it was tested, and `file` is a file with other contents, which fails a test with `cause`. The
 -- refusal reports this package as bad, with this cause.
-pub record IsRefusalOfSpoiledPackage (packages : Result (List MemberFound) Refusal) (refusal : Refusal) :
+pub record IsRefusalOfPackageSpoiledSinceTested (packages : Result (List MemberFound) Refusal)
+    (refusal : Refusal) :
     Type 0 where
   -- the packages after the change, as the reads found them
   pub found : List MemberFound
@@ -72,7 +73,7 @@ pub record IsRefusalOfSpoiledPackage (packages : Result (List MemberFound) Refus
 
 -- The file of an added package is not what was tested, when its contents are read once more. The refusal is that of
 -- some file with other contents. This does not happen on an observable tree without an intent and staged files.
-pub record IsPackageFileChangedSinceTested (packages : Result (List MemberFound) Refusal)
+pub record IsRefusedForUnobservedChangeOfTestedPackage (packages : Result (List MemberFound) Refusal)
     (wanted : Result ChangeDone Refusal) (history : List TreeState)
     (result : Result (List ℕ) Refused) : Type 0 where
   -- the tree is not observable, or has an intent or a staged file
@@ -83,7 +84,7 @@ pub record IsPackageFileChangedSinceTested (packages : Result (List MemberFound)
   -- the refusal
   pub refusal : Refusal
   -- the refusal reports one of these packages as spoiled
-  pub spoiled : IsRefusalOfSpoiledPackage packages refusal
+  pub spoiled : IsRefusalOfPackageSpoiledSinceTested packages refusal
   -- the run ends with this refusal
   pub is : result ≡ Err (IsRefused refusal)
 
@@ -127,7 +128,7 @@ pub record IsEndOfRunOfWantedChange (packages : Result (List MemberFound) Refusa
   -- the run answers the report or the refusal of `wanted`, unless the tree failed or memory ran out; or it refuses a
   -- package whose file is no longer what was tested
   pub told : AgreesUnlessDiskOrMemory report_as_is result (report_of_result wanted)
-      ⊎ IsPackageFileChangedSinceTested packages wanted old result
+      ⊎ IsRefusedForUnobservedChangeOfTestedPackage packages wanted old result
   -- without an intent and staged files at the start, the change is committed, or the tree is unchanged or failed
   pub run : IfObservable old (λ v. v.names intent_name ≡ None → HasNoStagedNames (files_of v)
       → IsUnchangedOrCommit wanted v old now result)
@@ -148,7 +149,7 @@ pub record IsChangeRun (command : CommandLine) (old now : List TreeState) (befor
   -- the places of the chosen candidates; None if no selection satisfies the new world
   pub chosen : Option (List ℕ)
   -- the chosen candidates are the preferred selection, or there is none
-  pub choice : IsPreferredChoiceUnlessRefused (pool_of_command command read) chosen
+  pub choice : IsPreferredChoiceOrNoneIfRefused (pool_of_command command read) chosen
   -- the files that decide whether a configuration file is kept
   pub files : Files
   -- on an observable tree these are its files at the start

@@ -85,20 +85,20 @@ change_of_command command read files chosen clash =
 -- ---- the first clash
 
 -- the first clash of names that a change finds; a simulated change does not search for it, and has none
-abbrev pub IsFirstClashUnlessSimulatedAmong :
+abbrev pub IsFirstClashOrNoneIfSimulatedAmong :
     Bool → ChangeWishes → Reads → Files → Files → InputsAndReplacement → Option NamePair → Type 0
-IsFirstClashUnlessSimulatedAmong true wishes read files present_files s clash = clash ≡ None
-IsFirstClashUnlessSimulatedAmong false wishes read files present_files s clash =
+IsFirstClashOrNoneIfSimulatedAmong true wishes read files present_files s clash = clash ≡ None
+IsFirstClashOrNoneIfSimulatedAmong false wishes read files present_files s clash =
     IsFirstClashOfChangeAmong s.inputs s.replacement wishes read files present_files clash
 
 -- the first clash of names that a command finds; a command that is refused earlier does not search for it, and
 -- has none
-abbrev pub IsFirstClashUnlessRefusedAmong :
+abbrev pub IsFirstClashOrNoneIfRefusedAmong :
     CommandLine → Reads → Files → Files → Result InputsAndReplacement Refusal → Option NamePair → Type 0
-IsFirstClashUnlessRefusedAmong command read files present_files (Ok s) clash =
-    IsFirstClashUnlessSimulatedAmong command.flags.simulate (wishes_of command) read files present_files s
+IsFirstClashOrNoneIfRefusedAmong command read files present_files (Ok s) clash =
+    IsFirstClashOrNoneIfSimulatedAmong command.flags.simulate (wishes_of command) read files present_files s
     clash
-IsFirstClashUnlessRefusedAmong command read files present_files (Err refusal) clash = clash ≡ None
+IsFirstClashOrNoneIfRefusedAmong command read files present_files (Err refusal) clash = clash ≡ None
 
 -- The first clash of the names after a change; none if the command is refused before that test. `files`
 -- decide whether a configuration file is kept or a file is written beside it; names clash among
@@ -106,20 +106,20 @@ IsFirstClashUnlessRefusedAmong command read files present_files (Err refusal) cl
 abbrev pub IsFirstClashOfCommandAmong :
     CommandLine → Reads → Files → Files → Option (List ℕ) → Option NamePair → Type 0
 IsFirstClashOfCommandAmong command read files present_files chosen clash =
-    IsFirstClashUnlessRefusedAmong command read files present_files
+    IsFirstClashOrNoneIfRefusedAmong command read files present_files
     (selected_from_reads_by_choice command read chosen) clash
 
--- *IsFirstClashUnlessSimulatedAmong*, with the same files as `present_files`, as on an observable tree
-abbrev pub IsFirstClashUnlessSimulated :
+-- *IsFirstClashOrNoneIfSimulatedAmong*, with the same files as `present_files`, as on an observable tree
+abbrev pub IsFirstClashOrNoneIfSimulated :
     Bool → ChangeWishes → Reads → Files → InputsAndReplacement → Option NamePair → Type 0
-IsFirstClashUnlessSimulated simulate wishes read files s clash =
-    IsFirstClashUnlessSimulatedAmong simulate wishes read files files s clash
+IsFirstClashOrNoneIfSimulated simulate wishes read files s clash =
+    IsFirstClashOrNoneIfSimulatedAmong simulate wishes read files files s clash
 
--- *IsFirstClashUnlessRefusedAmong*, with the same files as `present_files`
-abbrev pub IsFirstClashUnlessRefused :
+-- *IsFirstClashOrNoneIfRefusedAmong*, with the same files as `present_files`
+abbrev pub IsFirstClashOrNoneIfRefused :
     CommandLine → Reads → Files → Result InputsAndReplacement Refusal → Option NamePair → Type 0
-IsFirstClashUnlessRefused command read files selected clash =
-    IsFirstClashUnlessRefusedAmong command read files files selected clash
+IsFirstClashOrNoneIfRefused command read files selected clash =
+    IsFirstClashOrNoneIfRefusedAmong command read files files selected clash
 
 -- *IsFirstClashOfCommandAmong*, with the same files as `present_files`
 abbrev pub IsFirstClashOfCommand :

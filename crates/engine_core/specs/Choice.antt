@@ -12,6 +12,6 @@ IsPreferredChoice pool None = (selection : List ℕ) → IsSatisfying pool selec
 IsPreferredChoice pool (Some trace) = IsFirstPreferredSelection pool trace
 
 -- `chosen` is the choice among these candidates (*IsPreferredChoice*); None if there is a refusal instead of candidates
-abbrev pub IsPreferredChoiceUnlessRefused : Result SelectionProblem Refusal → Option (List ℕ) → Type 0
-IsPreferredChoiceUnlessRefused (Ok pool) chosen = IsPreferredChoice pool chosen
-IsPreferredChoiceUnlessRefused (Err refusal) chosen = chosen ≡ None
+abbrev pub IsPreferredChoiceOrNoneIfRefused : Result SelectionProblem Refusal → Option (List ℕ) → Type 0
+IsPreferredChoiceOrNoneIfRefused (Ok pool) chosen = IsPreferredChoice pool chosen
+IsPreferredChoiceOrNoneIfRefused (Err refusal) chosen = chosen ≡ None

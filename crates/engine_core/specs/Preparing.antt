@@ -23,7 +23,7 @@ use Rattle.change_report.specs.make_info.Reads.{Reads}
 use Rattle.dep_core.specs.World.{world_text}
 use Rattle.change_report.specs.own_core.Planned.{ArePlanLists, HasDisjointUnreservedNames, HasSources, IsPlanForMembersAlone}
 use Rattle.change_report.specs.package_changes.Changes.{Replacement}
-use Rattle.change_report.specs.package_changes.Placed.{placed_names_of}
+use Rattle.change_report.specs.package_changes.Placed.{names_with_change_and_old_and_pool_place}
 use Rattle.change_report.specs.package_changes.Seen.{placed_names_seen, placed_replacement_from_parts}
 use Rattle.root_names.specs.RootNames as Names
 use Rattle.engine_core.specs.Plans.{IsPlanFrom}
@@ -59,7 +59,8 @@ pub record ArePackagesReadForSelection (history : List TreeState) (s : Selection
   -- the packages were read for this selection
   pub selection : a.selection.now ≡ s
   -- the names are those of the packages before and of the selected candidates, with their places
-  pub placed : placed_names_seen a.names ≡ placed_names_of (placed_replacement_from_parts
+  pub placed : placed_names_seen a.names
+      ≡ names_with_change_and_old_and_pool_place (placed_replacement_from_parts
       a.selection.now.db a.selection.now.pool a.selection.now.trace a.selection.now.again)
   -- each package was read as the definition finds it
   pub read : AreMembersFoundFromOldPackagesAndReads history (packages_of a.selection.now.db)
@@ -72,7 +73,8 @@ pub record HasReadAddedPackages (history : List TreeState) (a : ReadPackages) (f
   -- the packages before are those of the inputs
   pub database : HasDatabaseOfInputs a.selection.now
   -- the names are those of the packages before and of the selected candidates, with their places
-  pub placed : placed_names_seen a.names ≡ placed_names_of (placed_replacement_from_parts
+  pub placed : placed_names_seen a.names
+      ≡ names_with_change_and_old_and_pool_place (placed_replacement_from_parts
       a.selection.now.db a.selection.now.pool a.selection.now.trace a.selection.now.again)
   -- each package was read as the definition finds it
   pub read : AreMembersFoundFromOldPackagesAndReads history (packages_of a.selection.now.db)

@@ -19,7 +19,7 @@ use Rattle.change_report.specs.package_changes.Changes.{Replacement}
 use Rattle.change_report.specs.path_clashes.Clash.{NamePair}
 use Rattle.report_core.specs.declared.refusal.Refusal.{Refusal}
 use Rattle.engine_core.specs.ChangeRun.{IsEndOfRunOfWantedChange}
-use Rattle.engine_core.specs.Changed.{IsFirstClashUnlessRefusedAmong, InputsAndReplacement, change_of_selected, packages_found_after_change}
+use Rattle.engine_core.specs.Changed.{IsFirstClashOrNoneIfRefusedAmong, InputsAndReplacement, change_of_selected, packages_found_after_change}
 
 -- a run of a change, given what is selected or the refusal instead
 pub record IsRunOnSelection (command : CommandLine) (selected : Result InputsAndReplacement Refusal)
@@ -40,7 +40,7 @@ pub record IsRunOnSelection (command : CommandLine) (selected : Result InputsAnd
   -- two names of which one would be a folder of the other after the change; None if there are none
   pub clash : Option NamePair
   -- `clash` is the first such clash of the change among `present_files`
-  pub is_clash : IsFirstClashUnlessRefusedAmong command read files present_files selected clash
+  pub is_clash : IsFirstClashOrNoneIfRefusedAmong command read files present_files selected clash
   -- the run ends as the packages found and the result of the change say
   pub comes : IsEndOfRunOfWantedChange (packages_found_after_change command read selected)
       (and_then selected (change_of_selected command read files clash))

@@ -11,7 +11,7 @@ use Rattle.command_core.specs.Command.{CommandLine}
 use Rattle.change_report.specs.db_core.Seen.{packages_of}
 use Rattle.change_report.specs.package_changes.Changes.{Replacement}
 use Rattle.engine_core.specs.Changed.{InputsAndReplacement, selected_from_inputs_by_choice}
-use Rattle.engine_core.specs.Choice.{IsPreferredChoiceUnlessRefused}
+use Rattle.engine_core.specs.Choice.{IsPreferredChoiceOrNoneIfRefused}
 use Rattle.engine_core.specs.Selecting.{pool_of_inputs_unless_too_many_candidates, replacement_of_choice}
 use Rattle.engine_core.specs.Wishes.{wishes_of}
 use Rattle.engine_core.specs.declared.choosing.Selection.{Selection}
@@ -49,7 +49,7 @@ wishes_of_selection s = wishes_of s.command.now
 abbrev pub IsSelectedFrom : CommandLine → Inputs → Result Selection Refused → Type 0
 IsSelectedFrom command inputs result =
     (chosen : Option (List ℕ))
-    × IsPreferredChoiceUnlessRefused (pool_of_inputs_unless_too_many_candidates command inputs) chosen
+    × IsPreferredChoiceOrNoneIfRefused (pool_of_inputs_unless_too_many_candidates command inputs) chosen
     × Agrees selection_seen result (selected_from_inputs_by_choice command chosen inputs)
 
 -- a selection has this command, these inputs, their database, and the command's candidates

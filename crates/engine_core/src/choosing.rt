@@ -4,7 +4,7 @@
 
 ghost use Rattle.change_report.specs.change_inputs.Seen.{inputs_seen};
 ghost use Rattle.engine_core.specs.Chosen.{IsResultOfChoice};
-ghost use Rattle.engine_core.specs.Choice.{IsPreferredChoice, IsPreferredChoiceUnlessRefused};
+ghost use Rattle.engine_core.specs.Choice.{IsPreferredChoice, IsPreferredChoiceOrNoneIfRefused};
 ghost use Rattle.engine_core.specs.SelectionSeen.{IsSelectedFrom, IsSelectionFor};
 ghost use Rattle.engine_core.specs.Wishes.{names_of_upgrade};
 ghost use Rattle.std.specs.Prelude.{◌≡◌, ℕ, IfOk, List, Option, Result};
@@ -106,7 +106,7 @@ fn first_selection<'a>(
 /// or None if no selection satisfies world or the candidates were refused.
 pub fn a_choice_exists()
     ensures { (pool : Result SelectionProblem Refusal) →
-        (chosen : Option (List ℕ)) × IsPreferredChoiceUnlessRefused pool chosen }
+        (chosen : Option (List ℕ)) × IsPreferredChoiceOrNoneIfRefused pool chosen }
 {
     // A law that the proof needs; it has no effect at run time.
     options_are_the_best_first();
@@ -115,7 +115,7 @@ pub fn a_choice_exists()
 /// A law: there is only one choice among given candidates.
 pub fn a_choice_is_unique()
     ensures { (pool : Result SelectionProblem Refusal) (a b : Option (List ℕ)) →
-        IsPreferredChoiceUnlessRefused pool a → IsPreferredChoiceUnlessRefused pool b → a ≡ b }
+        IsPreferredChoiceOrNoneIfRefused pool a → IsPreferredChoiceOrNoneIfRefused pool b → a ≡ b }
 {
     // A law that the proof needs; it has no effect at run time.
     the_first_selection_is_unique();

@@ -1,6 +1,6 @@
 -- What a run recovers to, at each of its moments.
 use Rattle.std.proofs.Common.{◌≡◌, ◌⊎◌, inl, inr, ℕ, true, false, List, [], ◌∷◌, Ok, refl, subst, ◌∙◌}
-use Rattle.run_lists.specs.apk_front.Moments.{IsOkRefusedOrOutputFault, IgnoresOutputScratchNameButNotIntent, IsDurableAndLeavesFiles, MustOutcomeBeDurable}
+use Rattle.run_lists.specs.apk_front.Moments.{IsOkRefusedOrOutputFault, IgnoresOutputScratchNameButNotIntent, IsDurableAndLeavesFiles, CommitsRecoversIntentOrCrashesLeaveAsRead}
 use Rattle.base_core.specs.Calls.{HoldsNow, IfObservable}
 use Rattle.base_core.specs.Undone.{IsDurable, IsCrashImage}
 use Rattle.base_core.specs.Files.{Files}
@@ -14,7 +14,7 @@ use Rattle.refusal_laws.specs.outcome.Words.{IsOutcome}
 use Rattle.refusal_laws.specs.words_core.Grammar.{command_of}
 use Rattle.run_lists.specs.Events.{RootEvent, HasNoUnfinishedRunSinceCrash, Reaches, ReachesWithoutCommitOrEdit, ReachesOneCrashState, IsRunWithoutCommit, IsOutcomeFrom, IsRunFrom, IsPossibleStop, Run, ignored_after, ignored_during_run, ignored_with_all_touched, ignored_with_scratch}
 use Rattle.run_lists.specs.Recovered.{ReachesWithNoBadIntentPutByOthers, HasStateOfSomeCrashBefore, HasStateOfCrashBeforeOrOutcome, HasSameState, RecoversToStateWithoutRefusal, EachCrashLeavesNoBadIntent}
-use Rattle.run_lists.specs.Safety.{HasStateAsReadOrOutcome, IsAtomicFromOneCrashState, IsSafeRun, IsSafeAfterAnyEvents, AnswersOutcomeAndLeavesItsFiles}
+use Rattle.run_lists.specs.Safety.{HasStateAsReadOrOutcome, IsAtomicFromOneCrashState, IsCrashSafeRun, IsCrashSafeAfterAnyEvents, AnswersOutcomeAndLeavesItsFiles}
 use Rattle.run_lists.proofs.AtMoments.{History}
 use Rattle.run_lists.proofs.Facts.{AreMore, Ignored}
 use Rattle.run_lists.proofs.Moments.{last_moment}
@@ -73,7 +73,7 @@ now_last (w ∷ rest) A B f a = f w refl a
 
 module _ (begins : (ignored : Ignored) (first v : TreeState) (events : List RootEvent) (words : List (List ℕ)) → ignored intent_name ≡ false → IsDurable (StateDependsOn ignored) first → Reaches first events v
     → IsDurable (StateDependsOn (ignored_with_scratch (output words) (ignored_after ignored events))) v × IgnoresOutputScratchNameButNotIntent (output words) (ignored_with_scratch (output words) (ignored_after ignored events)))
-    (safe : (v : TreeState) (run : Run) → IsRunFrom v run → IsSafeAfterAnyEvents v run)
+    (safe : (v : TreeState) (run : Run) → IsRunFrom v run → IsCrashSafeAfterAnyEvents v run)
     (one_state : (ignored : Ignored) (first v : TreeState) (events : List RootEvent) → ignored intent_name ≡ false → IsDurableAndLeavesFiles ignored (files_of first) first → ReachesOneCrashState first events v → IsDurableAndLeavesFiles (ignored_after ignored events) (files_of v) v)
     (unbroken : (first v : TreeState) (events : List RootEvent) → Reaches first events v → HasNoUnfinishedRunSinceCrash events → ReachesOneCrashState first events v)
     (left : (ignored : Ignored) (first v m w : TreeState) (events later : List RootEvent) (run next : Run) → ignored intent_name ≡ false → IsDurable (StateDependsOn ignored) first → EachCrashLeavesNoBadIntent first
@@ -90,7 +90,7 @@ module _ (begins : (ignored : Ignored) (first v : TreeState) (events : List Root
   seen : Reaches first events v
   seen = seen_plainly first v events past.seen
 
-  here : IsSafeRun (ignored_after ignored events) v run
+  here : IsCrashSafeRun (ignored_after ignored events) v run
   here = safe v run is_run ignored first events past.counts past.durable seen
 
   durable : IsDurable (StateDependsOn Names) v
@@ -113,11 +113,11 @@ module _ (begins : (ignored : Ignored) (first v : TreeState) (events : List Root
       recovers_to Names m (left_at m (at, moment, torn)) (λ names. HasStateOfSomeCrashBefore names v) (before_rests v)
       (λ image is. (idle_moment Names v run is_run durable idle at moment).quiet image (torn_image at m torn image is))
 
-  ends_settled : (o : Outcome) → IsOutcomeFrom v run o → MustOutcomeBeDurable (effect_of_arguments (command_of run.words)) Names v o → (w : TreeState) → AnswersOutcomeAndLeavesItsFiles (ignored_after ignored events) v run w → EachCrashLeavesStateOf Names o.files w
+  ends_settled : (o : Outcome) → IsOutcomeFrom v run o → CommitsRecoversIntentOrCrashesLeaveAsRead (effect_of_arguments (command_of run.words)) Names v o → (w : TreeState) → AnswersOutcomeAndLeavesItsFiles (ignored_after ignored events) v run w → EachCrashLeavesStateOf Names o.files w
   ends_settled o is settles w leaves =
-      subst (λ (p : Outcome). (MustOutcomeBeDurable (effect_of_arguments (command_of run.words)) Names v p → EachCrashLeavesStateOf Names p.files w)) (unique run.words (files_of v) leaves.outcome o leaves.is_outcome is) leaves.settled settles
+      subst (λ (p : Outcome). (CommitsRecoversIntentOrCrashesLeaveAsRead (effect_of_arguments (command_of run.words)) Names v p → EachCrashLeavesStateOf Names p.files w)) (unique run.words (files_of v) leaves.outcome o leaves.is_outcome is) leaves.settled settles
 
-  answered : IsOkRefusedOrOutputFault run.answer → (o : Outcome) → IsOutcomeFrom v run o → MustOutcomeBeDurable (effect_of_arguments (command_of run.words)) Names v o → HoldsNow run.now (RootRecoversTo (λ names. HasSameState names o.files) Names)
+  answered : IsOkRefusedOrOutputFault run.answer → (o : Outcome) → IsOutcomeFrom v run o → CommitsRecoversIntentOrCrashesLeaveAsRead (effect_of_arguments (command_of run.words)) Names v o → HoldsNow run.now (RootRecoversTo (λ names. HasSameState names o.files) Names)
   answered answers o is settles =
       now_last run.now (AnswersOutcomeAndLeavesItsFiles (ignored_after ignored events) v run) (RootRecoversTo (λ names. HasSameState names o.files) Names)
       (λ w ends leaves. recovers_to Names w (left_at w (w, last_moment run v w is_run ends, torn_self w)) (λ names. HasSameState names o.files) (state_rests o.files) (ends_settled o is settles w leaves))
@@ -143,10 +143,10 @@ module _ (begins : (ignored : Ignored) (first v : TreeState) (events : List Root
 
 -- ---- of a call
 
-pub of_call : ((v : TreeState) (run : Run) → IsRunFrom v run → IsAsPromisedAfterAnyEvents v run) → (run : Run) → IfObservable run.old (λ v. IsRunFrom v run × IsSafeAfterAnyEvents v run × IsAtomicFromOneCrashState v run)
+pub of_call : ((v : TreeState) (run : Run) → IsRunFrom v run → IsAsPromisedAfterAnyEvents v run) → (run : Run) → IfObservable run.old (λ v. IsRunFrom v run × IsCrashSafeAfterAnyEvents v run × IsAtomicFromOneCrashState v run)
     → IfObservable run.old (λ v. IsRunFrom v run × IsAsPromisedAfterAnyEvents v run)
 of_call holds run = by run.old
   where
-    by : (h : History) → IfObservable h (λ v. IsRunFrom v run × IsSafeAfterAnyEvents v run × IsAtomicFromOneCrashState v run) → IfObservable h (λ v. IsRunFrom v run × IsAsPromisedAfterAnyEvents v run)
+    by : (h : History) → IfObservable h (λ v. IsRunFrom v run × IsCrashSafeAfterAnyEvents v run × IsAtomicFromOneCrashState v run) → IfObservable h (λ v. IsRunFrom v run × IsAsPromisedAfterAnyEvents v run)
     by [] is = is
     by (v ∷ rest) (is_run, all_safe, all_atomic) = (is_run, holds v run is_run)

@@ -3,7 +3,7 @@
 -- outcomes of commands) and `refusal_laws` (the faults that refusals state).
 use Rattle.std.specs.Prelude.{◌≡◌, ◌⊎◌, ℕ, Bool, true, false, List, Some, None, Ok}
 use Rattle.run_lists.specs.apk_front.Answers.{IsAnswerOfSomeOutcomeOrFailure, LeavesFiles}
-use Rattle.run_lists.specs.apk_front.Moments.{IsOkRefusedOrOutputFault, IsDurableAndLeavesFiles, MustOutcomeBeDurable}
+use Rattle.run_lists.specs.apk_front.Moments.{IsOkRefusedOrOutputFault, IsDurableAndLeavesFiles, CommitsRecoversIntentOrCrashesLeaveAsRead}
 use Rattle.base_core.specs.Calls.{HoldsNow}
 use Rattle.base_core.specs.Undone.{IsDurable, IsCrashImage}
 use Rattle.base_core.specs.Faults.{CountsNewFaultWithCause}
@@ -12,11 +12,11 @@ use Rattle.base_core.specs.Tree.{TreeState, files_of}
 use Rattle.command_core.specs.Command.{CommandLine}
 use Rattle.run_lists.specs.journal_core.Recovery.{EachCrashLeavesStateOf, StateDependsOn, intent_name}
 use Rattle.run_lists.specs.journal_core.Staged.{unstaged_files}
-use Rattle.refusal_laws.specs.outcome.ChangeEnd.{IsChangeEndOrIntentRefusal, TakesFirstPreferredSelection}
+use Rattle.refusal_laws.specs.outcome.ChangeEnd.{IsChangeEndAfterRecoveryOrIntentRefusal, TakesFirstPreferredSelection}
 use Rattle.refusal_laws.specs.outcome.Effect.{Changes, does_recover, effect_of_arguments, effect_of}
 use Rattle.refusal_laws.specs.outcome.Outcome.{Outcome}
 use Rattle.refusal_laws.specs.RunFaults.{IsFaultOfRun}
-use Rattle.refusal_laws.specs.RunMade.{HasFirstSelectionFaultlessExceptLimits}
+use Rattle.refusal_laws.specs.RunMade.{InstallsFirstSelectionFaultlessExceptLimits}
 use Rattle.report_core.specs.declared.refusal.Refusal.{Refusal}
 use Rattle.run_lists.specs.Events.{RootEvent, HasNoUnfinishedRunSinceCrash, ReachesWithoutCommitOrEdit, ReachesOneCrashState, IsRunWithoutCommit, IsOutcomeFrom, IsRunFrom, IsPossibleStop, Run, ignored_after, ignored_during_run, ignored_with_all_touched}
 use Rattle.run_lists.specs.Recovered.{ReachesWithNoBadIntentPutByOthers, HasStateOfSomeCrashBefore, HasStateOfCrashBeforeOrOutcome, HasSameState, RecoversToStateWithoutRefusal, EachCrashLeavesNoBadIntent}
@@ -54,14 +54,14 @@ pub record RootRecoversTo (HasState : (List ℕ → Bool) → Files → Type 0) 
 pub record EndsInTrueRefusalOrFirstSelection (command : CommandLine) (files : Files)
     (o : Outcome) : Type 0 where
   -- the outcome is one of the ends that a change can have
-  pub end : IsChangeEndOrIntentRefusal command files o
+  pub end : IsChangeEndAfterRecoveryOrIntentRefusal command files o
   -- if the outcome is a refusal, the fault that it reports is true
   pub fault : (refusal : Refusal) → o.refusal ≡ Some refusal → IsFaultOfRun command files refusal
   -- without a refusal, the first preferred selection is taken over the recovered files
   pub first : o.refusal ≡ None → TakesFirstPreferredSelection command (unstaged_files files) o
   -- without a refusal, and without `--simulate`, the packages after the change are the selected ones
   pub packages : o.refusal ≡ None → command.flags.simulate ≡ false
-      → HasFirstSelectionFaultlessExceptLimits command (unstaged_files files)
+      → InstallsFirstSelectionFaultlessExceptLimits command (unstaged_files files)
 
 -- what is promised of a run that begins in the state v, apart from the ignored names
 pub record IsAsPromised (ignored : List ℕ → Bool) (v : TreeState) (run : Run) : Type 0 where
@@ -77,7 +77,7 @@ pub record IsAsPromised (ignored : List ℕ → Bool) (v : TreeState) (run : Run
   -- then recovers to the outcome's state, if this is made durable: the outcome commits, or each crash
   -- before the run left the state of the files as read, or an intent was found.
   pub answered : IsOkRefusedOrOutputFault run.answer → (o : Outcome) → IsOutcomeFrom v run o
-      → MustOutcomeBeDurable (effect_of_arguments (command_of run.words)) ignored v o
+      → CommitsRecoversIntentOrCrashesLeaveAsRead (effect_of_arguments (command_of run.words)) ignored v o
       → HoldsNow run.now (RootRecoversTo (λ names. HasSameState names o.files) ignored)
   -- If the run is refused, runs out of memory, or commits nothing, the root recovers to a state from
   -- before the run.

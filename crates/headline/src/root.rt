@@ -2,7 +2,7 @@
 //! with those clauses of `apk` that are about every tree, or about one run alone.
 ghost use Rattle.std.specs.Prelude.{◌≡◌, IsTrue};
 ghost use Rattle.run_lists.specs.apk_front.Answers.{is_applet_help_or_version_named, AnswerTellsWhetherTreeOrSinkFailed, IsAnswerOfSomeOutcomeOrFailure, AnswersOutcomeUnlessMemory, IsFaultless, IsAnsweredInFullUnlessMemory, HasNoPlannedFailureAndCanCountMisuse, LeavesAnyFiles, LeavesFiles};
-ghost use Rattle.run_lists.specs.apk_front.Moments.{EachRecoveryChangesOnlyAcceptedNames, AreRunPathsOfCommandLineFree};
+ghost use Rattle.run_lists.specs.apk_front.Moments.{EachRecoveryDiffersOnlyInAcceptedNames, AreRunPathsOfCommandLineFree};
 ghost use Rattle.base_core.specs.Calls.{IfObservable};
 ghost use Rattle.base_core.specs.Faults.{CountsOnlyRise, CountsNewFaultWithCause};
 ghost use Rattle.base_core.specs.Files.{no_names};
@@ -64,7 +64,8 @@ pub fn apk_as_promised<T: Tree, O: Sink, E: Sink>(
     // At each moment of a change, the tree has accepted each name to which recovery would then give
     // other bytes than recovery at the start.
     ensures asked { effect_of_arguments (command_of words.now) ≡ Changes
-        → EachRecoveryChangesOnlyAcceptedNames T.accepts (T.history tree.old) (T.history tree.new) }
+        → EachRecoveryDiffersOnlyInAcceptedNames T.accepts (T.history tree.old)
+        (T.history tree.new) }
     // The counts of the tree and of the sinks explain the answer: which call failed, if any, and
     // why.
     ensures causes { AnswerTellsWhetherTreeOrSinkFailed result (T.counts tree.old)

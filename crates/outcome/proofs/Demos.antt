@@ -26,7 +26,7 @@ use Rattle.words_core.specs.Options.{applet_of_help_or_version_option}
 use Rattle.outcome.proofs.Existing.{work_within}
 use Rattle.outcome.proofs.Looking.{read_leaves}
 use Rattle.outcome.specs.Commands.{IsOutcomeWithoutDemo, IsOutcomeUnlessBadIntent, effect_outcome, reads_in}
-use Rattle.outcome.specs.Demo.{IsDemoOutcomeAfterIndexing, IsDemoOutcomeAfterInstalling, IsDemoOutcomeAfterPackaging, IsDemoOutcome, IsOutcomeOfNextRunOrEarlierRefusal, IsOutcomeOfNextRunOrBeforeIfRefused, outcome_before_first_demo_run, with_demo_file}
+use Rattle.outcome.specs.Demo.{IsDemoOutcomeAfterIndexingByPackageCount, IsDemoOutcomeAfterInstallingByPackageCount, IsDemoOutcomeAfterPackagingByPackageCount, IsDemoOutcomeByPackageCount, IsOutcomeOfNextRunAloneOrEarlierRefusal, IsOutcomeOfNextRunAloneOrBeforeIfRefused, outcome_before_demo_with_repositories_file, with_file_packed_in_demo_package}
 use Rattle.outcome.specs.Effect.{Makes, does_neither_recover_nor_write, effect_of}
 use Rattle.outcome.specs.Given.{Given}
 use Rattle.outcome.specs.Make.{files_with_output, index_report_line, make_outcome, outcome_unless_output_reserved}
@@ -154,38 +154,38 @@ HaveOutcome = (read : Result CommandLine ℕ) (files : Files) (within : List (Li
 abbrev One : (Outcome → Type 0) → Type 0
 One IsOne = (o : Outcome) × IsOne o × AreFew o.files
 
-unless_exists : HaveOutcome → (refusal : Option Refusal) (words : List (List ℕ)) (files : Files) (before : Outcome) → AreFew files → (o : Outcome) × IsOutcomeOfNextRunOrBeforeIfRefused refusal words files before o
+unless_exists : HaveOutcome → (refusal : Option Refusal) (words : List (List ℕ)) (files : Files) (before : Outcome) → AreFew files → (o : Outcome) × IsOutcomeOfNextRunAloneOrBeforeIfRefused refusal words files before o
 unless_exists have (Some refusal) words files before few = (before, refl)
 unless_exists have None words files before (names, within) = have (command_of words) files names within
 
-few_after : (refusal : Option Refusal) (words : List (List ℕ)) (files : Files) (before o : Outcome) → DoMake (command_of words) → IsOutcomeOfNextRunOrBeforeIfRefused refusal words files before o → AreFew before.files → AreFew files → AreFew o.files
+few_after : (refusal : Option Refusal) (words : List (List ℕ)) (files : Files) (before o : Outcome) → DoMake (command_of words) → IsOutcomeOfNextRunAloneOrBeforeIfRefused refusal words files before o → AreFew before.files → AreFew files → AreFew o.files
 few_after (Some refusal) words files before o makes is few few_now = subst AreFew (sym (ap (λ (p : Outcome). p.files) is)) few
 few_after None words files before o makes is few few_now = few_by (command_of words) files o makes is few_now
 
-packaged_exists : HaveOutcome → (n : ℕ) → One (IsDemoOutcomeAfterPackaging n)
+packaged_exists : HaveOutcome → (n : ℕ) → One (IsDemoOutcomeAfterPackagingByPackageCount n)
 packaged_exists have zero =
     let start : Files = put_name no_names repositories_name demo_repositories in
-    (outcome_before_first_demo_run, refl, few_put no_names repositories_name demo_repositories ([], λ q some. cc))
+    (outcome_before_demo_with_repositories_file, refl, few_put no_names repositories_name demo_repositories ([], λ q some. cc))
 packaged_exists have (suc i) =
     let (before, is, few) = packaged_exists have i in
-    let files = with_demo_file (suc i) before.files in
+    let files = with_file_packed_in_demo_package (suc i) before.files in
     let few_now : AreFew files = few_put before.files (demo_file (suc i)) (contents_of_demo_file (suc i)) few in
     let (o, is_next) = unless_exists have before.refusal (mkpkg_words (suc i)) files before few_now in
     (o, (before, is, is_next), few_after before.refusal (mkpkg_words (suc i)) files before o (mkpkg_makes _) is_next few few_now)
 
-indexed_exists : HaveOutcome → (n : ℕ) → One (IsDemoOutcomeAfterIndexing n)
+indexed_exists : HaveOutcome → (n : ℕ) → One (IsDemoOutcomeAfterIndexingByPackageCount n)
 indexed_exists have n =
     let (before, is, few) = packaged_exists have n in
     let (o, is_next) = unless_exists have before.refusal (mkndx_words n) before.files before few in
     (o, (before, is, is_next), few_after before.refusal (mkndx_words n) before.files before o (mkndx_makes _) is_next few few)
 
-installed_exists : HaveOutcome → (n : ℕ) → (o : Outcome) × IsDemoOutcomeAfterInstalling n o
+installed_exists : HaveOutcome → (n : ℕ) → (o : Outcome) × IsDemoOutcomeAfterInstallingByPackageCount n o
 installed_exists have n =
     let (before, is, few) = indexed_exists have n in
     let (o, is_next) = unless_exists have before.refusal (add_words n) before.files before few in
     (o, (before, is, is_next))
 
-pub demo_exists : HaveOutcome → (n : ℕ) (files : Files) → (o : Outcome) × IsDemoOutcome n files o
+pub demo_exists : HaveOutcome → (n : ℕ) (files : Files) → (o : Outcome) × IsDemoOutcomeByPackageCount n files o
 demo_exists have n files =
     let (last, is) = installed_exists have n in
     (just_report_unless_refusal files last.refusal (demo_line_of_count_and_add_report n last.out), (last, is, refl))
@@ -196,27 +196,27 @@ demo_exists have n files =
 abbrev pub HaveOneOutcome : Type 0
 HaveOneOutcome = (read : Result CommandLine ℕ) (files : Files) (a b : Outcome) → IsOutcomeWithoutDemo read files a → IsOutcomeWithoutDemo read files b → a ≡ b
 
-unless_one : HaveOneOutcome → (refusal : Option Refusal) (words : List (List ℕ)) (files : Files) (before a b : Outcome) → IsOutcomeOfNextRunOrBeforeIfRefused refusal words files before a → IsOutcomeOfNextRunOrBeforeIfRefused refusal words files before b → a ≡ b
+unless_one : HaveOneOutcome → (refusal : Option Refusal) (words : List (List ℕ)) (files : Files) (before a b : Outcome) → IsOutcomeOfNextRunAloneOrBeforeIfRefused refusal words files before a → IsOutcomeOfNextRunAloneOrBeforeIfRefused refusal words files before b → a ≡ b
 unless_one one (Some refusal) words files before a b x y = x ∙ sym y
 unless_one one None words files before a b x y = one (command_of words) files a b x y
 
 -- behind one outcome, over files that it gives
-behind_one : HaveOneOutcome → (words : List (List ℕ)) (next : Outcome → Files) (p q a b : Outcome) → p ≡ q → IsOutcomeOfNextRunOrEarlierRefusal words (next p) p a → IsOutcomeOfNextRunOrEarlierRefusal words (next q) q b → a ≡ b
+behind_one : HaveOneOutcome → (words : List (List ℕ)) (next : Outcome → Files) (p q a b : Outcome) → p ≡ q → IsOutcomeOfNextRunAloneOrEarlierRefusal words (next p) p a → IsOutcomeOfNextRunAloneOrEarlierRefusal words (next q) q b → a ≡ b
 behind_one one words next p q a b same x y =
-    unless_one one q.refusal words (next q) q a b (subst (λ (r : Outcome). IsOutcomeOfNextRunOrEarlierRefusal words (next r) r a) same x) y
+    unless_one one q.refusal words (next q) q a b (subst (λ (r : Outcome). IsOutcomeOfNextRunAloneOrEarlierRefusal words (next r) r a) same x) y
 
-packaged_one : HaveOneOutcome → (n : ℕ) (a b : Outcome) → IsDemoOutcomeAfterPackaging n a → IsDemoOutcomeAfterPackaging n b → a ≡ b
+packaged_one : HaveOneOutcome → (n : ℕ) (a b : Outcome) → IsDemoOutcomeAfterPackagingByPackageCount n a → IsDemoOutcomeAfterPackagingByPackageCount n b → a ≡ b
 packaged_one one zero a b x y = x ∙ sym y
 packaged_one one (suc i) a b (p, is_p, x) (q, is_q, y) =
-    behind_one one (mkpkg_words (suc i)) (λ (o : Outcome). with_demo_file (suc i) o.files) p q a b (packaged_one one i p q is_p is_q) x y
+    behind_one one (mkpkg_words (suc i)) (λ (o : Outcome). with_file_packed_in_demo_package (suc i) o.files) p q a b (packaged_one one i p q is_p is_q) x y
 
-indexed_one : HaveOneOutcome → (n : ℕ) (a b : Outcome) → IsDemoOutcomeAfterIndexing n a → IsDemoOutcomeAfterIndexing n b → a ≡ b
+indexed_one : HaveOneOutcome → (n : ℕ) (a b : Outcome) → IsDemoOutcomeAfterIndexingByPackageCount n a → IsDemoOutcomeAfterIndexingByPackageCount n b → a ≡ b
 indexed_one one n a b (p, is_p, x) (q, is_q, y) = behind_one one (mkndx_words n) (λ (o : Outcome). o.files) p q a b (packaged_one one n p q is_p is_q) x y
 
-installed_one : HaveOneOutcome → (n : ℕ) (a b : Outcome) → IsDemoOutcomeAfterInstalling n a → IsDemoOutcomeAfterInstalling n b → a ≡ b
+installed_one : HaveOneOutcome → (n : ℕ) (a b : Outcome) → IsDemoOutcomeAfterInstallingByPackageCount n a → IsDemoOutcomeAfterInstallingByPackageCount n b → a ≡ b
 installed_one one n a b (p, is_p, x) (q, is_q, y) = behind_one one (add_words n) (λ (o : Outcome). o.files) p q a b (indexed_one one n p q is_p is_q) x y
 
-pub demo_one : HaveOneOutcome → (n : ℕ) (files : Files) (a b : Outcome) → IsDemoOutcome n files a → IsDemoOutcome n files b → a ≡ b
+pub demo_one : HaveOneOutcome → (n : ℕ) (files : Files) (a b : Outcome) → IsDemoOutcomeByPackageCount n files a → IsDemoOutcomeByPackageCount n files b → a ≡ b
 demo_one one n files a b (p, is_p, x) (q, is_q, y) =
     x ∙ ap (λ (last : Outcome). just_report_unless_refusal files last.refusal (demo_line_of_count_and_add_report n last.out)) (installed_one one n p q is_p is_q) ∙ sym y
 
@@ -226,7 +226,7 @@ unless_leaves : (files : Files) (refusal : Option Refusal) (report : List ℕ) �
 unless_leaves files None report = (refl, refl)
 unless_leaves files (Some refusal) report = (refl, refl)
 
-pub demo_leaves : (n : ℕ) (files : Files) (o : Outcome) → IsDemoOutcome n files o → (o.files ≡ files) × (o.commits ≡ false)
+pub demo_leaves : (n : ℕ) (files : Files) (o : Outcome) → IsDemoOutcomeByPackageCount n files o → (o.files ≡ files) × (o.commits ≡ false)
 demo_leaves n files o (last, is_last, is) = subst (λ (p : Outcome). (p.files ≡ files) × (p.commits ≡ false)) (sym is) (unless_leaves files last.refusal (demo_line_of_count_and_add_report n last.out))
 
 unless_same : (files others : Files) (refusal : Option Refusal) (report : List ℕ)
@@ -234,6 +234,6 @@ unless_same : (files others : Files) (refusal : Option Refusal) (report : List �
 unless_same files others None report = refl
 unless_same files others (Some refusal) report = refl
 
-pub demo_everywhere : (n : ℕ) (files others : Files) (o : Outcome) → IsDemoOutcome n files o → IsDemoOutcome n others (outcome_without_commit o.refusal o.out others)
+pub demo_everywhere : (n : ℕ) (files others : Files) (o : Outcome) → IsDemoOutcomeByPackageCount n files o → IsDemoOutcomeByPackageCount n others (outcome_without_commit o.refusal o.out others)
 demo_everywhere n files others o (last, is_last, is) =
     (last, is_last, subst (λ (p : Outcome). outcome_without_commit p.refusal p.out others ≡ just_report_unless_refusal others last.refusal (demo_line_of_count_and_add_report n last.out)) (sym is) (unless_same files others last.refusal (demo_line_of_count_and_add_report n last.out)))

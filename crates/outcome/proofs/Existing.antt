@@ -7,7 +7,7 @@ use Rattle.std.proofs.lemmas.Bool.{false≢true}
 use Rattle.base_core.specs.Files.{Files, HasOnlyNamesAmong}
 use Rattle.base_core.specs.Listed.{IsSortedListOfAllNamesInMap}
 use Rattle.base_core.specs.declared.cause.Cause.{Cause}
-use Rattle.engine_core.specs.Choice.{IsPreferredChoiceUnlessRefused}
+use Rattle.engine_core.specs.Choice.{IsPreferredChoiceOrNoneIfRefused}
 use Rattle.engine_core.specs.Selecting.{pool_of_command}
 use Rattle.make_core.specs.make_info.Reads.{Reads}
 use Rattle.tell_core.specs.candidate_core.Rank.{SelectionProblem}
@@ -23,7 +23,7 @@ use Rattle.command_core.specs.declared.values.OptionValue.{OptionValue}
 use Rattle.make_core.specs.package_files.Sources.{values_of_letter}
 use Rattle.outcome.proofs.Clashes.{HaveClash, HaveOneClash, clash_exists, clash_one}
 use Rattle.outcome.proofs.Recovered.{unstaged_within}
-use Rattle.outcome.specs.Given.{Given, IsChoiceForCommand, IsFirstClashForEffect, IsListingChoiceAndClashFor, AreNamesListedForApplet}
+use Rattle.outcome.specs.Given.{Given, IsPreferredChoiceForChangeElseNone, IsFirstClashForChangeElseNone, IsListingChoiceAndClashFor, AreNamesListedForApplet}
 use Rattle.outcome.specs.Commands.{IsOutcomeWithoutDemo, IsOutcomeOverRecoveredFiles, IsOutcomeUnlessBadIntent, effect_outcome, reads_in}
 use Rattle.outcome.specs.Effect.{Effect, Computes, OnlyReadsFiles, AsksRoot, Makes, Changes, effect_of}
 use Rattle.outcome.specs.Make.{AreNamesBelowOptionFolder, files_below}
@@ -62,16 +62,16 @@ work_within Changes files within h = unstaged_within files within h
 
 -- something is chosen, whatever the candidates are, and just one thing
 abbrev pub HaveChoice : Type 0
-HaveChoice = (pool : Result SelectionProblem Refusal) → (chosen : Option (List ℕ)) × IsPreferredChoiceUnlessRefused pool chosen
+HaveChoice = (pool : Result SelectionProblem Refusal) → (chosen : Option (List ℕ)) × IsPreferredChoiceOrNoneIfRefused pool chosen
 
 abbrev pub HaveOneChoice : Type 0
-HaveOneChoice = (pool : Result SelectionProblem Refusal) (a b : Option (List ℕ)) → IsPreferredChoiceUnlessRefused pool a → IsPreferredChoiceUnlessRefused pool b → a ≡ b
+HaveOneChoice = (pool : Result SelectionProblem Refusal) (a b : Option (List ℕ)) → IsPreferredChoiceOrNoneIfRefused pool a → IsPreferredChoiceOrNoneIfRefused pool b → a ≡ b
 
-chosen_exists : HaveChoice → (effect : Effect) (command : CommandLine) (read : Reads) → (chosen : Option (List ℕ)) × IsChoiceForCommand effect command read chosen
+chosen_exists : HaveChoice → (effect : Effect) (command : CommandLine) (read : Reads) → (chosen : Option (List ℕ)) × IsPreferredChoiceForChangeElseNone effect command read chosen
 chosen_exists choose Changes command read = choose (pool_of_command command read)
 chosen_exists choose other command read = (None, refl)
 
-chosen_one : HaveOneChoice → (effect : Effect) (command : CommandLine) (read : Reads) (a b : Option (List ℕ)) → IsChoiceForCommand effect command read a → IsChoiceForCommand effect command read b → a ≡ b
+chosen_one : HaveOneChoice → (effect : Effect) (command : CommandLine) (read : Reads) (a b : Option (List ℕ)) → IsPreferredChoiceForChangeElseNone effect command read a → IsPreferredChoiceForChangeElseNone effect command read b → a ≡ b
 chosen_one one Changes command read a b x y = one (pool_of_command command read) a b x y
 chosen_one one other command read a b x y = x ∙ sym y
 
@@ -107,7 +107,7 @@ given_one one choice clashes command read files a b x y =
     let names : a.names ≡ b.names = names_one one command.applet command files a.names b.names x.names y.names in
     let chosen : a.chosen ≡ b.chosen = chosen_one choice (effect_of command.applet) command read a.chosen b.chosen x.chosen y.chosen in
     let clash : a.clash ≡ b.clash = clash_one clashes (effect_of command.applet) command read files a.chosen a.clash b.clash x.clash
-    (subst (λ (c : Option (List ℕ)). IsFirstClashForEffect (effect_of command.applet) command read files c b.clash) (sym chosen) y.clash) in
+    (subst (λ (c : Option (List ℕ)). IsFirstClashForChangeElseNone (effect_of command.applet) command read files c b.clash) (sym chosen) y.clash) in
     λ i. record { names = names i; chosen = chosen i; clash = clash i }
 
 pub over_one : HaveOneList → HaveOneChoice → HaveOneClash → (command : CommandLine) (files : Files) (a b : Outcome) → IsOutcomeOverRecoveredFiles command files a → IsOutcomeOverRecoveredFiles command files b → a ≡ b

@@ -13,7 +13,7 @@ use Rattle.engine_core.specs.change_outcome.ConfigurationLines.{lines_of_apk_new
 use Rattle.engine_core.specs.change_outcome.Triggers.{trigger_lines}
 use Rattle.command_core.specs.Command.{CommandLine}
 use Rattle.engine_core.specs.Changed.{IsFirstClashOfCommand, InputsAndReplacement, change_of_selected, change_of_command, selected_from_pool_by_choice, selected_from_inputs_by_choice, simulated_change}
-use Rattle.engine_core.specs.Choice.{IsPreferredChoiceUnlessRefused}
+use Rattle.engine_core.specs.Choice.{IsPreferredChoiceOrNoneIfRefused}
 use Rattle.engine_core.specs.Selecting.{pool_of_inputs_unless_too_many_candidates, pool_of_command, replacement_of_choice}
 use Rattle.engine_core.specs.Wishes.{names_to_reinstall, names_to_upgrade, unknown_operand_place, unless_unknown_operand, wishes_of}
 use Rattle.make_core.specs.make_info.Reads.{Reads}
@@ -27,11 +27,11 @@ use Rattle.report_core.specs.declared.refusal.Refusal.TheVariants.{NotInstalled}
 use Rattle.outcome.proofs.Applets.{change_is}
 use Rattle.outcome.proofs.Ends.{HasKnownRefusal, inputs_stated, pool_stated}
 use Rattle.outcome.proofs.PackageRefusals.{refusal_stated}
-use Rattle.outcome.specs.ChangeEnd.{IsChangeEnd, IsEndOfSelectedChange, IsChangeEndOrIntentRefusal, is_input_refusal, is_refusal_after_choice}
+use Rattle.outcome.specs.ChangeEnd.{IsChangeEnd, IsEndOfSelectedChange, IsChangeEndAfterRecoveryOrIntentRefusal, is_input_refusal, is_refusal_after_choice}
 use Rattle.outcome.specs.Changing.{change_outcome}
 use Rattle.outcome.specs.Commands.{IsOutcomeWithoutDemo, IsOutcomeOverRecoveredFiles, IsOutcomeUnlessBadIntent, reads_in}
 use Rattle.outcome.specs.Effect.{Changes, Effect, effect_of}
-use Rattle.outcome.specs.Given.{IsChoiceForCommand, IsFirstClashForEffect}
+use Rattle.outcome.specs.Given.{IsPreferredChoiceForChangeElseNone, IsFirstClashForChangeElseNone}
 use Rattle.outcome.specs.Outcome.{Outcome}
 use Rattle.outcome.specs.Work.{recovery_fault, files_recovered_if_needed}
 
@@ -101,7 +101,7 @@ module _ (known : IsMadeKnown) (command : CommandLine) (files : Files) where
 
   by_choice : (inputs : Inputs) (pool : SelectionProblem) (chosen : Option (List ℕ)) (clash : Option NamePair)
       → inputs_of command (reads_in files) ≡ Ok inputs → pool_of_inputs_unless_too_many_candidates command inputs ≡ Ok pool → unknown_operand_place command.applet inputs command.operands ≡ None
-      → IsPreferredChoiceUnlessRefused (Ok pool) chosen → IsFirstClashOfCommand command (reads_in files) files chosen clash
+      → IsPreferredChoiceOrNoneIfRefused (Ok pool) chosen → IsFirstClashOfCommand command (reads_in files) files chosen clash
       → IsChangeEnd command files (end_of clash (selected_from_pool_by_choice command inputs pool chosen))
   by_choice inputs pool None clash are is known_names choice is_clash =
       inr (inl (record { pool = pool; is_pool = ap (λ (r : Result Inputs Refusal). and_then r (pool_of_inputs_unless_too_many_candidates command)) are ∙ is; none = choice; outcome = refl }))
@@ -126,7 +126,7 @@ module _ (known : IsMadeKnown) (command : CommandLine) (files : Files) where
 
   by_place : (inputs : Inputs) (pool : SelectionProblem) (place : Option ℕ) (chosen : Option (List ℕ)) (clash : Option NamePair)
       → inputs_of command (reads_in files) ≡ Ok inputs → pool_of_inputs_unless_too_many_candidates command inputs ≡ Ok pool → unknown_operand_place command.applet inputs command.operands ≡ place
-      → IsPreferredChoiceUnlessRefused (Ok pool) chosen → IsFirstClashOfCommand command (reads_in files) files chosen clash
+      → IsPreferredChoiceOrNoneIfRefused (Ok pool) chosen → IsFirstClashOfCommand command (reads_in files) files chosen clash
       → IsChangeEnd command files (end_of clash (unless_unknown_operand place (selected_from_pool_by_choice command inputs pool chosen)))
   by_place inputs pool None chosen clash are is at choice is_clash = by_choice inputs pool chosen clash are is at choice is_clash
   by_place inputs pool (Some place) chosen clash are is at choice is_clash =
@@ -142,7 +142,7 @@ module _ (known : IsMadeKnown) (command : CommandLine) (files : Files) where
 
   by_pool : (inputs : Inputs) (pool : Result SelectionProblem Refusal) (chosen : Option (List ℕ)) (clash : Option NamePair)
       → inputs_of command (reads_in files) ≡ Ok inputs → pool_of_inputs_unless_too_many_candidates command inputs ≡ pool
-      → IsPreferredChoiceUnlessRefused pool chosen → IsFirstClashOfCommand command (reads_in files) files chosen clash
+      → IsPreferredChoiceOrNoneIfRefused pool chosen → IsFirstClashOfCommand command (reads_in files) files chosen clash
       → IsChangeEnd command files (end_of clash (and_then pool (λ pool. unless_unknown_operand (unknown_operand_place command.applet inputs command.operands) (selected_from_pool_by_choice command inputs pool chosen))))
   by_pool inputs (Ok pool) chosen clash are is choice is_clash = by_place inputs pool (unknown_operand_place command.applet inputs command.operands) chosen clash are is refl choice is_clash
   by_pool inputs (Err refusal) chosen clash are is choice is_clash =
@@ -156,13 +156,13 @@ module _ (known : IsMadeKnown) (command : CommandLine) (files : Files) where
       })
 
   by_inputs : (inputs : Result Inputs Refusal) (chosen : Option (List ℕ)) (clash : Option NamePair) → inputs_of command (reads_in files) ≡ inputs
-      → IsPreferredChoiceUnlessRefused (and_then inputs (pool_of_inputs_unless_too_many_candidates command)) chosen → IsFirstClashOfCommand command (reads_in files) files chosen clash
+      → IsPreferredChoiceOrNoneIfRefused (and_then inputs (pool_of_inputs_unless_too_many_candidates command)) chosen → IsFirstClashOfCommand command (reads_in files) files chosen clash
       → IsChangeEnd command files (end_of clash (and_then inputs (selected_from_inputs_by_choice command chosen)))
   by_inputs (Ok inputs) chosen clash are choice is_clash = by_pool inputs (pool_of_inputs_unless_too_many_candidates command inputs) chosen clash are refl choice is_clash
   by_inputs (Err refusal) chosen clash are choice is_clash =
       inl (record { refusal = refusal; stated = subst (HasKnownRefusal is_input_refusal) are (inputs_stated command (reads_in files)); outcome = refl; unchosen = λ other. ap (λ (r : Result Inputs Refusal). and_then r (selected_from_inputs_by_choice command other)) are })
 
-  change_end : (chosen : Option (List ℕ)) (clash : Option NamePair) → IsPreferredChoiceUnlessRefused (pool_of_command command (reads_in files)) chosen → IsFirstClashOfCommand command (reads_in files) files chosen clash
+  change_end : (chosen : Option (List ℕ)) (clash : Option NamePair) → IsPreferredChoiceOrNoneIfRefused (pool_of_command command (reads_in files)) chosen → IsFirstClashOfCommand command (reads_in files) files chosen clash
       → IsChangeEnd command files (change_outcome files (change_of_command command (reads_in files) files chosen clash))
   unfolding change_of_command
   change_end chosen clash choice is_clash = by_inputs (inputs_of command (reads_in files)) chosen clash refl choice is_clash
@@ -173,14 +173,14 @@ pub over_end : IsMadeKnown → (command : CommandLine) (files : Files) (o : Outc
 over_end known command files o changes (given, are, is) =
     subst (IsChangeEnd command files) (change_is command.applet command given (reads_in files) files changes ∙ sym is)
     (change_end known command files given.chosen given.clash
-    (subst (λ (e : Effect). IsChoiceForCommand e command (reads_in files) given.chosen) changes are.chosen)
-    (subst (λ (e : Effect). IsFirstClashForEffect e command (reads_in files) files given.chosen given.clash) changes are.clash))
+    (subst (λ (e : Effect). IsPreferredChoiceForChangeElseNone e command (reads_in files) given.chosen) changes are.chosen)
+    (subst (λ (e : Effect). IsFirstClashForChangeElseNone e command (reads_in files) files given.chosen given.clash) changes are.clash))
 
-unless_end : IsMadeKnown → (fault : Option Cause) (command : CommandLine) (files : Files) (o : Outcome) → effect_of command.applet ≡ Changes → recovery_fault Changes files ≡ fault → IsOutcomeUnlessBadIntent fault command files o → IsChangeEndOrIntentRefusal command files o
+unless_end : IsMadeKnown → (fault : Option Cause) (command : CommandLine) (files : Files) (o : Outcome) → effect_of command.applet ≡ Changes → recovery_fault Changes files ≡ fault → IsOutcomeUnlessBadIntent fault command files o → IsChangeEndAfterRecoveryOrIntentRefusal command files o
 unless_end known (Some cause) command files o changes at is = inl (record { cause = cause; bad = at; outcome = is })
 unless_end known None command files o changes at is =
     inr (over_end known command (files_recovered_if_needed Changes files) o changes (subst (λ (e : Effect). IsOutcomeOverRecoveredFiles command (files_recovered_if_needed e files) o) changes is))
 
-pub run_end : IsMadeKnown → (command : CommandLine) (files : Files) (o : Outcome) → effect_of command.applet ≡ Changes → IsOutcomeWithoutDemo (Ok command) files o → IsChangeEndOrIntentRefusal command files o
+pub run_end : IsMadeKnown → (command : CommandLine) (files : Files) (o : Outcome) → effect_of command.applet ≡ Changes → IsOutcomeWithoutDemo (Ok command) files o → IsChangeEndAfterRecoveryOrIntentRefusal command files o
 run_end known command files o changes is =
     unless_end known (recovery_fault Changes files) command files o changes refl (subst (λ (e : Effect). IsOutcomeUnlessBadIntent (recovery_fault e files) command files o) changes is)

@@ -35,14 +35,14 @@ use Rattle.tell_core.specs.ReportForCommand.{report_for_command}
 use Rattle.words_core.specs.Grammar.{command_of}
 use Rattle.outcome.proofs.Applets.{told_files}
 use Rattle.outcome.specs.Changing.{change_outcome}
-use Rattle.outcome.specs.Commands.{IsOutcomeWithoutDemo, IsOutcomeOverRecoveredFiles, IsOutcomeUnlessBadIntent, outcome_from_arguments_alone, effect_outcome, making_outcome, reading_outcome, reads_in}
+use Rattle.outcome.specs.Commands.{IsOutcomeWithoutDemo, IsOutcomeOverRecoveredFiles, IsOutcomeUnlessBadIntent, outcome_from_arguments_alone, effect_outcome, outcome_of_writing_one_output_file, outcome_of_only_reading_files, reads_in}
 use Rattle.outcome.specs.Dump.{adbdump, dump_of, dump_outcome, text_outcome}
 use Rattle.outcome.specs.Effect.{Effect, Changes, Computes, Makes, OnlyReadsFiles, AsksRoot, effect_of_arguments, effect_of}
 use Rattle.outcome.specs.Generate.{adbgen, container_outcome, generate_outcome}
 use Rattle.outcome.specs.Given.{Given}
 use Rattle.outcome.specs.Make.{files_with_output, index_report_line, make_outcome, outcome_unless_output_reserved}
 use Rattle.outcome.specs.Outcome.{Outcome, commit_report, just_refusal, outcome_without_commit, just_report_unless_refusal}
-use Rattle.outcome.specs.Verify.{sound_lines, verify_refusal}
+use Rattle.outcome.specs.Verify.{sound_lines, verify_refusal_from_read_number}
 use Rattle.outcome.specs.Version.{invalid_version_lines, version_order_report, version, version_refusal}
 use Rattle.outcome.specs.Work.{recovery_fault, files_recovered_if_needed}
 
@@ -92,8 +92,8 @@ computing_idle : (applet : Applet) (command : CommandLine) (files : Files) → L
 computing_idle Version command files = version_idle files command.flags command.operands
 computing_idle other command files = λ idle. refl
 
-reading_idle : (applet : Applet) (command : CommandLine) (read : Reads) (files : Files) → LeavesIdle files (reading_outcome applet command read files)
-reading_idle Verify command read files = unless_idle files (verify_refusal read 0 command.operands) (sound_lines command.operands)
+reading_idle : (applet : Applet) (command : CommandLine) (read : Reads) (files : Files) → LeavesIdle files (outcome_of_only_reading_files applet command read files)
+reading_idle Verify command read files = unless_idle files (verify_refusal_from_read_number read 0 command.operands) (sound_lines command.operands)
 reading_idle Adbdump command read files = adbdump_idle read files command.operands
 reading_idle Adbgen command read files = adbgen_idle read files command.operands
 reading_idle other command read files = λ idle. refl
@@ -117,7 +117,7 @@ made_idle files output report (Err (TooLarge bytes values)) = output_idle files 
 made_idle files output report (Err Disk) = λ idle. refl
 made_idle files output report (Err Memory) = λ idle. refl
 
-making_idle : (applet : Applet) (command : CommandLine) (names : List (List ℕ)) (read : Reads) (files : Files) → LeavesIdle files (making_outcome applet command names read files)
+making_idle : (applet : Applet) (command : CommandLine) (names : List (List ℕ)) (read : Reads) (files : Files) → LeavesIdle files (outcome_of_writing_one_output_file applet command names read files)
 making_idle Mkpkg command names read files = made_idle files (output_name command) [] (made_package command names read)
 making_idle Mkndx command names read files = made_idle files (output_name command) (index_report_line (length command.operands)) (made_index command read)
 making_idle other command names read files = λ idle. refl

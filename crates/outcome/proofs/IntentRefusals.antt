@@ -26,7 +26,7 @@ use Rattle.outcome.specs.Given.{Given}
 use Rattle.outcome.specs.Make.{make_outcome, outcome_unless_output_reserved}
 use Rattle.outcome.specs.Outcome.{Outcome, just_refusal}
 use Rattle.outcome.specs.OutcomeOfReport.{outcome_of_report}
-use Rattle.outcome.specs.Words.{IsOutcome, IsOutcomeOfApplet}
+use Rattle.outcome.specs.Words.{IsOutcome, IsOutcomeOfAppletIncludingRecovery}
 use Rattle.outcome.specs.Work.{recovery_fault, files_recovered_if_needed}
 use Rattle.outcome.proofs.Applets.{report_is}
 
@@ -114,7 +114,7 @@ module _ (refused : (c : CommandLine) (read : Reads) (refusal : Refusal) → rep
         absurd (over_other command (files_recovered_if_needed (effect_of command.applet) files) o (effect_of command.applet) refl recovers over cause refusal)
 
     -- `demo` does not recover
-    no_demo : (applet : Applet) (command : CommandLine) (files : Files) (o : Outcome) → does_recover (effect_of applet) ≡ true → IsOutcomeOfApplet applet command files o → IsOutcomeWithoutDemo (Ok command) files o
+    no_demo : (applet : Applet) (command : CommandLine) (files : Files) (o : Outcome) → does_recover (effect_of applet) ≡ true → IsOutcomeOfAppletIncludingRecovery applet command files o → IsOutcomeWithoutDemo (Ok command) files o
     no_demo Demo command files o recovers one = absurd (false≢true recovers)
     no_demo other command files o recovers one = one
 

@@ -14,13 +14,13 @@ use Rattle.gen_core.specs.declared.generate.GenFault.{GenFault}
 use Rattle.gen_core.specs.declared.generate.GenFault.TheVariants.{Bad, TooLarge, Memory}
 use Rattle.make_core.specs.make_info.Reads.{Reads}
 use Rattle.report_core.specs.declared.refusal.Refusal.{Refusal}
-use Rattle.outcome.specs.Commands.{IsOutcomeWithoutDemo, IsOutcomeOverRecoveredFiles, IsOutcomeUnlessBadIntent, outcome_from_arguments_alone, effect_outcome, reading_outcome, reads_in}
+use Rattle.outcome.specs.Commands.{IsOutcomeWithoutDemo, IsOutcomeOverRecoveredFiles, IsOutcomeUnlessBadIntent, outcome_from_arguments_alone, effect_outcome, outcome_of_only_reading_files, reads_in}
 use Rattle.outcome.specs.Dump.{adbdump, dump_of, dump_outcome, text_outcome}
 use Rattle.outcome.specs.Effect.{Effect, Changes, Computes, Makes, OnlyReadsFiles, AsksRoot, does_neither_recover_nor_write, effect_of, do_arguments_neither_recover_nor_write}
 use Rattle.outcome.specs.Generate.{adbgen, container_outcome, generate_outcome}
 use Rattle.outcome.specs.Given.{Given}
 use Rattle.outcome.specs.Outcome.{Outcome, outcome_without_commit, just_report_unless_refusal}
-use Rattle.outcome.specs.Verify.{sound_lines, verify_refusal}
+use Rattle.outcome.specs.Verify.{sound_lines, verify_refusal_from_read_number}
 use Rattle.outcome.specs.Version.{invalid_version_lines, version_order_report, version_refusal}
 use Rattle.outcome.specs.Work.{recovery_fault, files_recovered_if_needed}
 
@@ -67,8 +67,8 @@ computing_leaves Version command files =
     ]
 computing_leaves other command files = (refl, refl)
 
-pub reading_leaves : (applet : Applet) (command : CommandLine) (read : Reads) (files : Files) → LeavesFiles files (reading_outcome applet command read files)
-reading_leaves Verify command read files = unless_leaves files (verify_refusal read 0 command.operands) (sound_lines command.operands)
+pub reading_leaves : (applet : Applet) (command : CommandLine) (read : Reads) (files : Files) → LeavesFiles files (outcome_of_only_reading_files applet command read files)
+reading_leaves Verify command read files = unless_leaves files (verify_refusal_from_read_number read 0 command.operands) (sound_lines command.operands)
 reading_leaves Adbdump command read files = adbdump_leaves read files command.operands
 reading_leaves Adbgen command read files = adbgen_leaves read files command.operands
 reading_leaves other command read files = (refl, refl)

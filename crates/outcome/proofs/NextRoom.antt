@@ -7,7 +7,7 @@ use Rattle.tell_core.specs.change_inputs.Inputs.{Inputs}
 use Rattle.engine_core.specs.change_outcome.ChangeOutcome.{ChangeDone, ChangeWishes, IsFirstClashOfChange, change_or_refusal}
 use Rattle.command_core.specs.Command.{CommandLine}
 use Rattle.command_core.specs.declared.command.Applet.{Applet}
-use Rattle.engine_core.specs.Changed.{IsFirstClashOfCommand, IsFirstClashUnlessRefused, IsFirstClashUnlessSimulated, InputsAndReplacement, change_of_selected, change_of_command, selected_from_reads_by_choice, simulated_change}
+use Rattle.engine_core.specs.Changed.{IsFirstClashOfCommand, IsFirstClashOrNoneIfRefused, IsFirstClashOrNoneIfSimulated, InputsAndReplacement, change_of_selected, change_of_command, selected_from_reads_by_choice, simulated_change}
 use Rattle.engine_core.specs.Wishes.{wishes_of}
 use Rattle.engine_core.specs.journal_core.Recovery.{Intent, intent_in_file, intent_name, is_staged, recovered_files, files_after_intent}
 use Rattle.engine_core.specs.journal_core.Staged.{AreJournalPathsFreeAfterReplayIfAny, HasEmptyStageAndFreeJournalPaths, unstaged_files}
@@ -22,7 +22,7 @@ use Rattle.outcome.proofs.Recovered.{ReadSound}
 use Rattle.outcome.specs.Changing.{change_outcome}
 use Rattle.outcome.specs.Commands.{IsOutcomeWithoutDemo, IsOutcomeOverRecoveredFiles, IsOutcomeUnlessBadIntent, effect_outcome, reads_in}
 use Rattle.outcome.specs.Effect.{Changes, Effect, effect_of_arguments, effect_of}
-use Rattle.outcome.specs.Given.{Given, IsFirstClashForEffect}
+use Rattle.outcome.specs.Given.{Given, IsFirstClashForChangeElseNone}
 use Rattle.outcome.specs.Outcome.{Outcome}
 use Rattle.outcome.specs.Work.{fault_of_intent, recovery_fault, files_recovered_if_needed}
 
@@ -44,7 +44,7 @@ HasRoomNow files = (files intent_name ≡ None) × HasEmptyStageAndFreeJournalPa
 module _ (room : KeepsRoom) (gone : BringsNoIntent) where
   selected_room : (command : CommandLine) (read : Reads) (files : Files) (clash : Option NamePair) (s : InputsAndReplacement) (done : ChangeDone)
       → (simulate : Bool) → (if simulate then Ok (simulated_change s.replacement (wishes_of command) files) else change_or_refusal s.inputs s.replacement (wishes_of command) read clash files) ≡ Ok done
-      → IsFirstClashUnlessSimulated simulate (wishes_of command) read files s clash → HasRoomNow files → HasRoomNow done.files
+      → IsFirstClashOrNoneIfSimulated simulate (wishes_of command) read files s clash → HasRoomNow files → HasRoomNow done.files
   selected_room command read files clash s done true is is_clash now = subst HasRoomNow (ap (λ (r : Result ChangeDone Refusal). files_or r) is) now
     where
       files_or : Result ChangeDone Refusal → Files
@@ -58,7 +58,7 @@ module _ (room : KeepsRoom) (gone : BringsNoIntent) where
   unfolding change_of_command
   changed_room command read files chosen clash done is_clash is now =
       let (s, selected, rest) = chain_ok (selected_from_reads_by_choice command read chosen) (change_of_selected command read files clash) done is in
-      selected_room command read files clash s done command.flags.simulate rest (subst (λ (r : Result InputsAndReplacement Refusal). IsFirstClashUnlessRefused command read files r clash) selected is_clash) now
+      selected_room command read files clash s done command.flags.simulate rest (subst (λ (r : Result InputsAndReplacement Refusal). IsFirstClashOrNoneIfRefused command read files r clash) selected is_clash) now
 
   change_room : (command : CommandLine) (files : Files) (chosen : Option (List ℕ)) (clash : Option NamePair) (result : Result ChangeDone Refusal)
       → change_of_command command (reads_in files) files chosen clash ≡ result → IsFirstClashOfCommand command (reads_in files) files chosen clash
@@ -67,13 +67,13 @@ module _ (room : KeepsRoom) (gone : BringsNoIntent) where
   change_room command files chosen clash (Err refusal) is is_clash unrefused now = absurd (cc (unrefused))
 
   applet_room : (applet : Applet) (command : CommandLine) (given : Given) (files : Files) → effect_of applet ≡ Changes
-      → IsFirstClashForEffect (effect_of applet) command (reads_in files) files given.chosen given.clash
+      → IsFirstClashForChangeElseNone (effect_of applet) command (reads_in files) files given.chosen given.clash
       → (effect_outcome (effect_of applet) applet command given (reads_in files) files).refusal ≡ None → HasRoomNow files
       → HasRoomNow (effect_outcome (effect_of applet) applet command given (reads_in files) files).files
   applet_room applet command given files changes is_clash =
       subst (λ (o : Outcome). o.refusal ≡ None → HasRoomNow files → HasRoomNow o.files) (change_is applet command given (reads_in files) files changes)
       (change_room command files given.chosen given.clash (change_of_command command (reads_in files) files given.chosen given.clash) refl
-      (subst (λ (e : Effect). IsFirstClashForEffect e command (reads_in files) files given.chosen given.clash) changes is_clash))
+      (subst (λ (e : Effect). IsFirstClashForChangeElseNone e command (reads_in files) files given.chosen given.clash) changes is_clash))
 
   over_room : (command : CommandLine) (files : Files) (o : Outcome) → effect_of command.applet ≡ Changes → IsOutcomeOverRecoveredFiles command files o → o.refusal ≡ None → HasRoomNow files → HasRoomNow o.files
   over_room command files o changes (given, are, is) =

@@ -9,7 +9,7 @@ use Rattle.base_core.specs.declared.cause.Cause.{Cause}
 use Rattle.engine_core.specs.change_files.PlanLists.{first_reserved_added_path_in_byte_order}
 use Rattle.tell_core.specs.change_inputs.Chains.{and_then}
 use Rattle.tell_core.specs.change_inputs.Inputs.{Inputs}
-use Rattle.engine_core.specs.change_outcome.ChangeOutcome.{ChangeDone, ChangeWishes, intent_of_change, change_done, members_after_change, change_or_refusal, change_with_members, packages_before_and_after_with_purge, database_and_world_after_change, touched_paths, unless_clash, unless_contested, or_result_too_large, unless_overflow, unless_reserved_path, change_done_unless_too_large}
+use Rattle.engine_core.specs.change_outcome.ChangeOutcome.{ChangeDone, ChangeWishes, intent_of_change, change_done, members_after_change, change_or_refusal, change_with_members, packages_before_and_after_with_purge, database_and_world_after_change, touched_paths, unless_clash, unless_contested, or_result_too_large, unless_overflow, unless_reserved_path, change_done_unless_over_writer_limits}
 use Rattle.engine_core.specs.change_outcome.MembersAfter.{MemberFound, added_package_by_path, added_member_found, members_after, member_of_name_after, member_of_name_by_change, member_of_name_by_selected, no_member_unless_removal_needs_script, members_of_names_after}
 use Rattle.engine_core.specs.change_outcome.PackageFiles.{AddedPackage, first_script_number_of_package, package_file_path_of_candidate, added_package_or_refusal, scripts_of_change, package_unless_other_than_candidate, unless_script_number, package_unless_bad_or_different, unless_script_needed}
 use Rattle.engine_core.specs.change_outcome.Triggers.{folders_of_paths, has_due_trigger, unless_trigger_due}
@@ -118,7 +118,7 @@ overflow_stated : {A : Type 0} (counts : Option ByteAndValueCounts) (a : A) → 
 overflow_stated None a = tt
 overflow_stated (Some counts) a = refl
 
-too_large_stated : (inputs : Inputs) (r : Replacement) (wishes : ChangeWishes) (found : List MemberFound) (files : Files) → IsPackagesResult (change_done_unless_too_large inputs r wishes found files)
+too_large_stated : (inputs : Inputs) (r : Replacement) (wishes : ChangeWishes) (found : List MemberFound) (files : Files) → IsPackagesResult (change_done_unless_over_writer_limits inputs r wishes found files)
 too_large_stated inputs r wishes found files =
     let members = (packages_before_and_after_with_purge inputs wishes found).members in
     then_stated {A = List ℕ} {B = ChangeDone} is_refusal_after_choice (or_result_too_large (database_of members (owned_flags_of members)))
@@ -136,10 +136,10 @@ with_members_stated : (inputs : Inputs) (r : Replacement) (wishes : ChangeWishes
 with_members_stated inputs r wishes clash files found =
     let change = packages_before_and_after_with_purge inputs wishes found in
     let paths = touched_paths change files in
-    let rest : IsPackagesResult (and_then (unless_trigger_due wishes.no_scripts paths change.members) (λ is_allowed. change_done_unless_too_large inputs r wishes found files)) =
-    then_stated is_refusal_after_choice (unless_trigger_due wishes.no_scripts paths change.members) (λ is_allowed. change_done_unless_too_large inputs r wishes found files) (trigger_stated wishes.no_scripts paths change.members) (λ is_allowed. too_large_stated inputs r wishes found files) in
-    let owned : Result ChangeDone Refusal = unless_contested change.members (first_contested_member_path_in_byte_order change.members) (and_then (unless_trigger_due wishes.no_scripts paths change.members) (λ is_allowed. change_done_unless_too_large inputs r wishes found files)) in
-    reserved_stated (first_reserved_added_path_in_byte_order change.members) (unless_clash clash owned) (clash_stated clash owned (contested_stated change.members (first_contested_member_path_in_byte_order change.members) (and_then (unless_trigger_due wishes.no_scripts paths change.members) (λ is_allowed. change_done_unless_too_large inputs r wishes found files)) rest))
+    let rest : IsPackagesResult (and_then (unless_trigger_due wishes.no_scripts paths change.members) (λ is_allowed. change_done_unless_over_writer_limits inputs r wishes found files)) =
+    then_stated is_refusal_after_choice (unless_trigger_due wishes.no_scripts paths change.members) (λ is_allowed. change_done_unless_over_writer_limits inputs r wishes found files) (trigger_stated wishes.no_scripts paths change.members) (λ is_allowed. too_large_stated inputs r wishes found files) in
+    let owned : Result ChangeDone Refusal = unless_contested change.members (first_contested_member_path_in_byte_order change.members) (and_then (unless_trigger_due wishes.no_scripts paths change.members) (λ is_allowed. change_done_unless_over_writer_limits inputs r wishes found files)) in
+    reserved_stated (first_reserved_added_path_in_byte_order change.members) (unless_clash clash owned) (clash_stated clash owned (contested_stated change.members (first_contested_member_path_in_byte_order change.members) (and_then (unless_trigger_due wishes.no_scripts paths change.members) (λ is_allowed. change_done_unless_over_writer_limits inputs r wishes found files)) rest))
 
 pub refusal_stated : (inputs : Inputs) (r : Replacement) (wishes : ChangeWishes) (read : Reads) (clash : Option NamePair) (files : Files) → IsPackagesResult (change_or_refusal inputs r wishes read clash files)
 unfolding change_or_refusal

@@ -8,14 +8,14 @@ use Rattle.command_core.specs.declared.command.Applet.TheVariants.{Demo}
 use Rattle.demo_lines.specs.Count.{demo_count}
 use Rattle.outcome.proofs.Demos.{HaveOneOutcome, HaveOutcome, demo_everywhere, demo_exists, demo_leaves, demo_one}
 use Rattle.outcome.specs.Commands.{IsOutcomeWithoutDemo}
-use Rattle.outcome.specs.Demo.{IsDemoOutcome}
+use Rattle.outcome.specs.Demo.{IsDemoOutcomeByPackageCount}
 use Rattle.outcome.specs.Effect.{Effect, Computes, AsksRoot, Makes, Changes, ignores_files, effect_of_arguments, effect_of, output_name_of_arguments, output_name_for_effect, depends_only_on_arguments}
 use Rattle.outcome.specs.Outcome.{Outcome, outcome_without_commit}
-use Rattle.outcome.specs.Words.{IsOutcome, IsOutcomeOfApplet}
+use Rattle.outcome.specs.Words.{IsOutcome, IsOutcomeOfAppletIncludingRecovery}
 
 -- ---- there is one, and no second one
 
-applet_exists : HaveOutcome → (applet : Applet) (command : CommandLine) (files : Files) (within : List (List ℕ)) → HasOnlyNamesAmong within files → (o : Outcome) × IsOutcomeOfApplet applet command files o
+applet_exists : HaveOutcome → (applet : Applet) (command : CommandLine) (files : Files) (within : List (List ℕ)) → HasOnlyNamesAmong within files → (o : Outcome) × IsOutcomeOfAppletIncludingRecovery applet command files o
 applet_exists have Demo command files within few = demo_exists have (demo_count command.operands) files
 applet_exists have other command files within few = have (Ok command) files within few
 
@@ -23,7 +23,7 @@ pub by_exists : HaveOutcome → (read : Result CommandLine ℕ) (files : Files) 
 by_exists have (Ok command) files within few = applet_exists have command.applet command files within few
 by_exists have (Err place) files within few = have (Err place) files within few
 
-applet_one : HaveOneOutcome → (applet : Applet) (command : CommandLine) (files : Files) (a b : Outcome) → IsOutcomeOfApplet applet command files a → IsOutcomeOfApplet applet command files b → a ≡ b
+applet_one : HaveOneOutcome → (applet : Applet) (command : CommandLine) (files : Files) (a b : Outcome) → IsOutcomeOfAppletIncludingRecovery applet command files a → IsOutcomeOfAppletIncludingRecovery applet command files b → a ≡ b
 applet_one one Demo command files a b x y = demo_one one (demo_count command.operands) files a b x y
 applet_one one other command files a b x y = one (Ok command) files a b x y
 
@@ -35,10 +35,10 @@ by_one one (Err place) files a b x y = one (Err place) files a b x y
 
 -- it is that of `demo`
 abbrev pub IsOfDemo : Result CommandLine ℕ → Files → Outcome → Type 0
-IsOfDemo read files o = (n : ℕ) × IsDemoOutcome n files o × (effect_of_arguments read ≡ Computes)
+IsOfDemo read files o = (n : ℕ) × IsDemoOutcomeByPackageCount n files o × (effect_of_arguments read ≡ Computes)
 
-applet_either : (applet : Applet) (command : CommandLine) (files : Files) (o : Outcome) → IsOutcomeOfApplet applet command files o
-    → IsOutcomeWithoutDemo (Ok command) files o ⊎ ((n : ℕ) × IsDemoOutcome n files o × (effect_of applet ≡ Computes))
+applet_either : (applet : Applet) (command : CommandLine) (files : Files) (o : Outcome) → IsOutcomeOfAppletIncludingRecovery applet command files o
+    → IsOutcomeWithoutDemo (Ok command) files o ⊎ ((n : ℕ) × IsDemoOutcomeByPackageCount n files o × (effect_of applet ≡ Computes))
 applet_either Demo command files o is = inr (demo_count command.operands, is, refl)
 applet_either other command files o is = inl is
 
@@ -75,8 +75,8 @@ leaves_by P read files o of demo is = ⊎_elim of (λ d. demo (demo_leaves d.0 f
 abbrev pub SameEverywhere : Type 0
 SameEverywhere = (read : Result CommandLine ℕ) (files others : Files) (o : Outcome) → IsTrue (depends_only_on_arguments read) → IsOutcomeWithoutDemo read files o → IsOutcomeWithoutDemo read others (outcome_without_commit o.refusal o.out others)
 
-applet_everywhere : SameEverywhere → (applet : Applet) (command : CommandLine) (files others : Files) (o : Outcome) → IsTrue (ignores_files (effect_of command.applet)) → IsOutcomeOfApplet applet command files o
-    → IsOutcomeOfApplet applet command others (outcome_without_commit o.refusal o.out others)
+applet_everywhere : SameEverywhere → (applet : Applet) (command : CommandLine) (files others : Files) (o : Outcome) → IsTrue (ignores_files (effect_of command.applet)) → IsOutcomeOfAppletIncludingRecovery applet command files o
+    → IsOutcomeOfAppletIncludingRecovery applet command others (outcome_without_commit o.refusal o.out others)
 applet_everywhere same Demo command files others o rests is = demo_everywhere (demo_count command.operands) files others o is
 applet_everywhere same other command files others o rests is = same (Ok command) files others o rests is
 

@@ -158,6 +158,6 @@ pub record IsIntentRefused (files : Files) (o : Outcome) : Type 0 where
 
 -- each end of a change that recovers first: a bad intent (journal entry) is refused, or the change ends over the files
 -- that recovery leaves
-abbrev pub IsChangeEndOrIntentRefusal : CommandLine → Files → Outcome → Type 0
-IsChangeEndOrIntentRefusal command files o =
+abbrev pub IsChangeEndAfterRecoveryOrIntentRefusal : CommandLine → Files → Outcome → Type 0
+IsChangeEndAfterRecoveryOrIntentRefusal command files o =
     IsIntentRefused files o ⊎ IsChangeEnd command (files_recovered_if_needed Changes files) o

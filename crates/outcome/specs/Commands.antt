@@ -11,7 +11,7 @@ use Rattle.report_core.specs.declared.refusal.Refusal.TheVariants.{IntentBad, Us
 use Rattle.command_core.specs.Command.{CommandLine}
 use Rattle.command_core.specs.declared.command.Applet.{Applet}
 use Rattle.command_core.specs.declared.command.Applet.TheVariants.{Adbdump, Adbgen, Help, Mkndx, Mkpkg, ProgramVersion, Verify, Version}
-use Rattle.engine_core.specs.ChangeRun.{IsRefusalOfSpoiledPackage}
+use Rattle.engine_core.specs.ChangeRun.{IsRefusalOfPackageSpoiledSinceTested}
 use Rattle.engine_core.specs.Changed.{change_of_command, packages_found_after_change, selected_from_reads_by_choice}
 use Rattle.tell_core.specs.ReportForCommand.{report_for_command}
 use Rattle.words_core.specs.HelpTexts.{help_text, version_line}
@@ -39,18 +39,19 @@ outcome_from_arguments_alone other command files = just_report files []
 
 -- the outcome of an applet that only reads files, by what its reads find; the last line is for other applets, for which
 -- it is not used
-abbrev pub reading_outcome : Applet → CommandLine → Reads → Files → Outcome
-reading_outcome Verify command read files = verify read files command.operands
-reading_outcome Adbdump command read files = adbdump read files command.operands
-reading_outcome Adbgen command read files = adbgen read files command.operands
-reading_outcome other command read files = just_report files []
+abbrev pub outcome_of_only_reading_files : Applet → CommandLine → Reads → Files → Outcome
+outcome_of_only_reading_files Verify command read files = verify read files command.operands
+outcome_of_only_reading_files Adbdump command read files = adbdump read files command.operands
+outcome_of_only_reading_files Adbgen command read files = adbgen read files command.operands
+outcome_of_only_reading_files other command read files = just_report files []
 
 -- the outcome of an applet that makes a file, given the names below the folder of `mkpkg -F`; the last line is for
 -- other applets, for which it is not used
-abbrev pub making_outcome : Applet → CommandLine → List (List ℕ) → Reads → Files → Outcome
-making_outcome Mkpkg command names read files = mkpkg read files command names
-making_outcome Mkndx command names read files = mkndx read files command
-making_outcome other command names read files = just_report files []
+abbrev pub outcome_of_writing_one_output_file : Applet → CommandLine → List (List ℕ) → Reads → Files
+    → Outcome
+outcome_of_writing_one_output_file Mkpkg command names read files = mkpkg read files command names
+outcome_of_writing_one_output_file Mkndx command names read files = mkndx read files command
+outcome_of_writing_one_output_file other command names read files = just_report files []
 
 -- The outcome of a command, by its effect and its applet. It depends on `given` (listed names, chosen
 -- candidates, first clash), on what the reads find, and on the files. All commands that only report
@@ -58,11 +59,11 @@ making_outcome other command names read files = just_report files []
 abbrev pub effect_outcome : Effect → Applet → CommandLine → Given → Reads → Files → Outcome
 effect_outcome Computes applet command given read files = outcome_from_arguments_alone applet command files
 effect_outcome OnlyReadsFiles applet command given read files =
-    reading_outcome applet command read files
+    outcome_of_only_reading_files applet command read files
 effect_outcome AsksRoot applet command given read files = outcome_of_report files (report_for_command
     command read)
 effect_outcome Makes applet command given read files =
-    making_outcome applet command given.names read files
+    outcome_of_writing_one_output_file applet command given.names read files
 effect_outcome Changes applet command given read files =
     change_outcome files (change_of_command command read files given.chosen given.clash)
 
@@ -100,7 +101,8 @@ IsOutcomeWithoutDemo (Ok command) files outcome =
 -- The file of an added package is read once more when a change is committed. The change is refused if the file is no
 -- longer what was tested. The refusal has the cause of some file with the length and the values that the first read
 -- found, and with other contents.
-pub record IsRefusedForSpoiledPackage (command : CommandLine) (read : Reads) (given : Given) (files :
+pub record IsRefusedForPackageSpoiledSinceTested (command : CommandLine) (read : Reads) (given : Given)
+    (files :
     Files)
     (outcome : Outcome) : Type 0 where
   -- the command changes what is installed
@@ -112,7 +114,7 @@ pub record IsRefusedForSpoiledPackage (command : CommandLine) (read : Reads) (gi
   -- the refusal
   pub refusal : Refusal
   -- the refusal is that of a spoiled package among those that the reads find
-  pub spoiled : IsRefusalOfSpoiledPackage
+  pub spoiled : IsRefusalOfPackageSpoiledSinceTested
       (packages_found_after_change command read
       (selected_from_reads_by_choice command read given.chosen)) refusal
   -- the outcome is this refusal, and the files are unchanged
@@ -128,7 +130,7 @@ IsPossibleOutcomeAfterRecovery command outcome =
     × (files : Files)
     × IsPossibleListingChoiceAndClash command read files given
     × ((outcome ≡ effect_outcome (effect_of command.applet) command.applet command given read files)
-    ⊎ IsRefusedForSpoiledPackage command read given files outcome)
+    ⊎ IsRefusedForPackageSpoiledSinceTested command read given files outcome)
 
 -- the outcome is the refusal of some file that is no sound intent (journal entry); nothing is said of the tree's files
 abbrev pub IsPossibleIntentRefusal : Outcome → Type 0

@@ -14,57 +14,60 @@ use Rattle.outcome.specs.Outcome.{Outcome, just_report, just_report_unless_refus
 -- The outcome of the next run, given the outcome `before` of the run before it, and the refusal of that run, if there
 -- is one. After a refusal nothing more is run, and the outcome is `before`; otherwise the command line `words` is run
 -- over `files`.
-abbrev pub IsOutcomeOfNextRunOrBeforeIfRefused : Option Refusal → List (List ℕ) → Files → Outcome → Outcome
+abbrev pub IsOutcomeOfNextRunAloneOrBeforeIfRefused : Option Refusal → List (List ℕ) → Files → Outcome
+    → Outcome
     → Type 0
-IsOutcomeOfNextRunOrBeforeIfRefused (Some refusal) words files before outcome = outcome ≡ before
-IsOutcomeOfNextRunOrBeforeIfRefused None words files before outcome =
+IsOutcomeOfNextRunAloneOrBeforeIfRefused (Some refusal) words files before outcome = outcome ≡ before
+IsOutcomeOfNextRunAloneOrBeforeIfRefused None words files before outcome =
     IsOutcomeWithoutDemo (command_of words) files outcome
 
 -- the outcome of the command line `words` over `files`; if the run before it was refused, its outcome `before` instead
-abbrev pub IsOutcomeOfNextRunOrEarlierRefusal : List (List ℕ) → Files → Outcome → Outcome → Type 0
-IsOutcomeOfNextRunOrEarlierRefusal words files before outcome =
-    IsOutcomeOfNextRunOrBeforeIfRefused before.refusal words files before outcome
+abbrev pub IsOutcomeOfNextRunAloneOrEarlierRefusal : List (List ℕ) → Files → Outcome → Outcome → Type 0
+IsOutcomeOfNextRunAloneOrEarlierRefusal words files before outcome =
+    IsOutcomeOfNextRunAloneOrBeforeIfRefused before.refusal words files before outcome
 
 -- ---- the runs
 
 -- the outcome before the first run: the tree has only the list of repositories
-abbrev pub outcome_before_first_demo_run : Outcome
-outcome_before_first_demo_run = just_report (put_name no_names repositories_name demo_repositories) []
+abbrev pub outcome_before_demo_with_repositories_file : Outcome
+outcome_before_demo_with_repositories_file =
+    just_report (put_name no_names repositories_name demo_repositories) []
 
 -- the files, with the one file that package i will contain added under its name
-abbrev pub with_demo_file : ℕ → Files → Files
-with_demo_file i files = put_name files (demo_file i) (contents_of_demo_file i)
+abbrev pub with_file_packed_in_demo_package : ℕ → Files → Files
+with_file_packed_in_demo_package i files = put_name files (demo_file i) (contents_of_demo_file i)
 
 -- the outcome after packages 1 to n are made; the one file of each is written before its run of `mkpkg`
-abbrev pub IsDemoOutcomeAfterPackaging : ℕ → Outcome → Type 0
-IsDemoOutcomeAfterPackaging zero outcome = outcome ≡ outcome_before_first_demo_run
-IsDemoOutcomeAfterPackaging (suc i) outcome =
+abbrev pub IsDemoOutcomeAfterPackagingByPackageCount : ℕ → Outcome → Type 0
+IsDemoOutcomeAfterPackagingByPackageCount zero outcome =
+    outcome ≡ outcome_before_demo_with_repositories_file
+IsDemoOutcomeAfterPackagingByPackageCount (suc i) outcome =
     (before : Outcome)
-    × IsDemoOutcomeAfterPackaging i before
-    × IsOutcomeOfNextRunOrEarlierRefusal (mkpkg_words (suc i))
-    (with_demo_file (suc i) before.files) before outcome
+    × IsDemoOutcomeAfterPackagingByPackageCount i before
+    × IsOutcomeOfNextRunAloneOrEarlierRefusal (mkpkg_words (suc i))
+    (with_file_packed_in_demo_package (suc i) before.files) before outcome
 
 -- the outcome after packages 1 to n are made, and then their index
-abbrev pub IsDemoOutcomeAfterIndexing : ℕ → Outcome → Type 0
-IsDemoOutcomeAfterIndexing n outcome =
+abbrev pub IsDemoOutcomeAfterIndexingByPackageCount : ℕ → Outcome → Type 0
+IsDemoOutcomeAfterIndexingByPackageCount n outcome =
     (before : Outcome)
-    × IsDemoOutcomeAfterPackaging n before
-    × IsOutcomeOfNextRunOrEarlierRefusal (mkndx_words n) before.files before outcome
+    × IsDemoOutcomeAfterPackagingByPackageCount n before
+    × IsOutcomeOfNextRunAloneOrEarlierRefusal (mkndx_words n) before.files before outcome
 
 -- the outcome after packages 1 to n are made and indexed, and those on which no other depends are added
-abbrev pub IsDemoOutcomeAfterInstalling : ℕ → Outcome → Type 0
-IsDemoOutcomeAfterInstalling n outcome =
+abbrev pub IsDemoOutcomeAfterInstallingByPackageCount : ℕ → Outcome → Type 0
+IsDemoOutcomeAfterInstallingByPackageCount n outcome =
     (before : Outcome)
-    × IsDemoOutcomeAfterIndexing n before
-    × IsOutcomeOfNextRunOrEarlierRefusal (add_words n) before.files before outcome
+    × IsDemoOutcomeAfterIndexingByPackageCount n before
+    × IsOutcomeOfNextRunAloneOrEarlierRefusal (add_words n) before.files before outcome
 
 -- ---- the report
 
 -- the outcome of `demo N`: a line with the last line of the last run's report, or the first refusal; no file of the
 -- tree (`files`) is read or changed
-abbrev pub IsDemoOutcome : ℕ → Files → Outcome → Type 0
-IsDemoOutcome n files outcome =
+abbrev pub IsDemoOutcomeByPackageCount : ℕ → Files → Outcome → Type 0
+IsDemoOutcomeByPackageCount n files outcome =
     (last : Outcome)
-    × IsDemoOutcomeAfterInstalling n last
+    × IsDemoOutcomeAfterInstallingByPackageCount n last
     × (outcome ≡ just_report_unless_refusal files last.refusal
     (demo_line_of_count_and_add_report n last.out))

@@ -23,10 +23,10 @@ use Rattle.make_core.specs.pkg_core.Whole.{table_of_schema}
 use Rattle.outcome.specs.Outcome.{Outcome, just_refusal, just_report}
 
 -- the first fault of the framing of the remaining blocks; their payloads are not tested
-abbrev pub framing_fault : Reading → Option Cause
-framing_fault done = None
-framing_fault (fault c) = Some c
-framing_fault (more b at r) = framing_fault r
+abbrev pub framing_fault_of_blocks : Reading → Option Cause
+framing_fault_of_blocks done = None
+framing_fault_of_blocks (fault c) = Some c
+framing_fault_of_blocks (more b at r) = framing_fault_of_blocks r
 
 -- the first fault of the head of a payload, and then of the shape of its values by the table `which`; texts are not
 -- tested
@@ -40,7 +40,7 @@ abbrev pub dump_fault_of_blocks : Which → Reading → Option Cause
 dump_fault_of_blocks which done = None
 dump_fault_of_blocks which (fault c) = Some c
 dump_fault_of_blocks which (more b at r) =
-    option_or (payload_head_or_shape_fault which b.payload) (framing_fault r)
+    option_or (payload_head_or_shape_fault which b.payload) (framing_fault_of_blocks r)
 
 -- the text of a container, unless a test failed with a cause
 abbrev pub text_unless_fault : Option Cause → List ℕ → Result (List ℕ) Cause
@@ -49,28 +49,30 @@ text_unless_fault (Some cause) text = Err cause
 
 -- the dump text of the blocks of a file, whose root object has the fields of the table `which`; or the first failed
 -- test
-abbrev pub dump_of_blocks : Which → Reading → Result (List ℕ) Cause
-dump_of_blocks which r =
+abbrev pub dump_of_first_block_unless_fault_of_blocks : Which → Reading → Result (List ℕ) Cause
+dump_of_first_block_unless_fault_of_blocks which r =
     text_unless_fault (dump_fault_of_blocks which r)
     (dump_text which (root_value_of_payload which (first_block_payload r)))
 
 -- the dump text of the blocks of a file with this schema, given the table of the schema; None means that the schema is
 -- none of a root, which is refused
-abbrev pub dump_by_root_table : ℕ → Reading → Option Which → Result (List ℕ) Cause
-dump_by_root_table schema r None = Err (WrongSchema schema)
-dump_by_root_table schema r (Some which) = dump_of_blocks which r
+abbrev pub dump_by_schema_number_and_table_if_any : ℕ → Reading → Option Which → Result (List ℕ) Cause
+dump_by_schema_number_and_table_if_any schema r None = Err (WrongSchema schema)
+dump_by_schema_number_and_table_if_any schema r (Some which) =
+    dump_of_first_block_unless_fault_of_blocks which r
 
 -- the text of a file by the schema in its header, or the header's fault
-abbrev pub dump_by_schema : List ℕ → Result ℕ Cause → Result (List ℕ) Cause
-dump_by_schema file (Err c) = Err c
-dump_by_schema file (Ok schema) =
-    dump_by_root_table schema (block_stream_from (first_block_position_of_schema_and_file schema file))
+abbrev pub dump_by_schema_unless_header_fault : List ℕ → Result ℕ Cause → Result (List ℕ) Cause
+dump_by_schema_unless_header_fault file (Err c) = Err c
+dump_by_schema_unless_header_fault file (Ok schema) =
+    dump_by_schema_number_and_table_if_any schema
+    (block_stream_from (first_block_position_of_schema_and_file schema file))
     (table_of_schema schema)
 
 -- the text of a file, or the first test that it fails: of its header, of its schema (one of four), of its
 -- first block, and of the framing of the later blocks
 unfoldable pub dump_of : List ℕ → Result (List ℕ) Cause
-dump_of file = dump_by_schema file (schema_of_header file)
+dump_of file = dump_by_schema_unless_header_fault file (schema_of_header file)
 
 -- the outcome with the dump text as its report; or the refusal of the operand at this place, whose file has this fault
 abbrev pub text_outcome : Files → ℕ → Result (List ℕ) Cause → Outcome

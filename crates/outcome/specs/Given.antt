@@ -9,7 +9,7 @@ use Rattle.command_core.specs.declared.command.Applet.{Applet}
 use Rattle.command_core.specs.declared.command.Applet.TheVariants.{Mkpkg}
 use Rattle.command_core.specs.declared.values.TheConstants.{FILES}
 use Rattle.engine_core.specs.Changed.{IsFirstClashOfCommand, IsFirstClashOfCommandAmong}
-use Rattle.engine_core.specs.Choice.{IsPreferredChoiceUnlessRefused}
+use Rattle.engine_core.specs.Choice.{IsPreferredChoiceOrNoneIfRefused}
 use Rattle.engine_core.specs.Selecting.{pool_of_command}
 use Rattle.make_core.specs.make_info.Reads.{Reads}
 use Rattle.make_core.specs.package_files.Sources.{AreSortedAndEachBelowFirstFolder, values_of_letter}
@@ -34,10 +34,10 @@ no_listing_choice_or_clash = record { names = []; chosen = None; clash = None }
 -- ---- the choice
 
 -- the places of the candidates that a command chooses, given what reads find; only a change chooses
-abbrev pub IsChoiceForCommand : Effect → CommandLine → Reads → Option (List ℕ) → Type 0
-IsChoiceForCommand Changes command read chosen =
-    IsPreferredChoiceUnlessRefused (pool_of_command command read) chosen
-IsChoiceForCommand other command read chosen = chosen ≡ None
+abbrev pub IsPreferredChoiceForChangeElseNone : Effect → CommandLine → Reads → Option (List ℕ) → Type 0
+IsPreferredChoiceForChangeElseNone Changes command read chosen =
+    IsPreferredChoiceOrNoneIfRefused (pool_of_command command read) chosen
+IsPreferredChoiceForChangeElseNone other command read chosen = chosen ≡ None
 
 -- ---- over these files
 
@@ -49,11 +49,11 @@ AreNamesListedForApplet other command files names = names ≡ []
 
 -- `clash` is the first clash of names that a command with this effect makes over these files, or None; only a change
 -- has one
-abbrev pub IsFirstClashForEffect :
+abbrev pub IsFirstClashForChangeElseNone :
     Effect → CommandLine → Reads → Files → Option (List ℕ) → Option NamePair → Type 0
-IsFirstClashForEffect Changes command read files chosen clash =
+IsFirstClashForChangeElseNone Changes command read files chosen clash =
     IsFirstClashOfCommand command read files chosen clash
-IsFirstClashForEffect other command read files chosen clash = clash ≡ None
+IsFirstClashForChangeElseNone other command read files chosen clash = clash ≡ None
 
 -- `given` are the names listed, the candidates chosen and the first clash of a command over these files, by what its
 -- reads find
@@ -62,10 +62,10 @@ pub record IsListingChoiceAndClashFor (command : CommandLine) (read : Reads) (fi
   -- the names that the command lists are those of the files
   pub names : AreNamesListedForApplet command.applet command files given.names
   -- for a change: the chosen candidates are the preferred selection; None if no selection satisfies world
-  pub chosen : IsChoiceForCommand (effect_of command.applet) command read given.chosen
+  pub chosen : IsPreferredChoiceForChangeElseNone (effect_of command.applet) command read given.chosen
   -- the clash is the first one of the change over these files, if there is one
   pub clash :
-      IsFirstClashForEffect (effect_of command.applet) command read files given.chosen given.clash
+      IsFirstClashForChangeElseNone (effect_of command.applet) command read files given.chosen given.clash
 
 -- ---- over a tree that is not observable
 
@@ -78,11 +78,11 @@ ArePossibleNamesListedForApplet other command names = names ≡ []
 
 -- `clash` is the first clash of names that a command makes among some present files, or None; only a change has one.
 -- `files` decide which configuration files are kept
-abbrev pub IsPossibleFirstClashForEffect :
+abbrev pub IsPossibleFirstClashForChangeElseNone :
     Effect → CommandLine → Reads → Files → Option (List ℕ) → Option NamePair → Type 0
-IsPossibleFirstClashForEffect Changes command read files chosen clash =
+IsPossibleFirstClashForChangeElseNone Changes command read files chosen clash =
     (present_files : Files) × IsFirstClashOfCommandAmong command read files present_files chosen clash
-IsPossibleFirstClashForEffect other command read files chosen clash = clash ≡ None
+IsPossibleFirstClashForChangeElseNone other command read files chosen clash = clash ≡ None
 
 -- `given` are names that a command may list, the candidates that it chooses, and a clash that it may find, on a tree
 -- that is not observable
@@ -92,7 +92,8 @@ pub record IsPossibleListingChoiceAndClash (command : CommandLine) (read : Reads
   -- some names that a tree may list
   pub names : ArePossibleNamesListedForApplet command.applet command given.names
   -- for a change: the chosen candidates are the preferred selection; None if no selection satisfies world
-  pub chosen : IsChoiceForCommand (effect_of command.applet) command read given.chosen
+  pub chosen : IsPreferredChoiceForChangeElseNone (effect_of command.applet) command read given.chosen
   -- a clash that is the first one over some files, if there is one
   pub clash :
-      IsPossibleFirstClashForEffect (effect_of command.applet) command read files given.chosen given.clash
+      IsPossibleFirstClashForChangeElseNone
+      (effect_of command.applet) command read files given.chosen given.clash

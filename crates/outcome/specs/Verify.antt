@@ -23,11 +23,11 @@ file_refusal place None = Some (FileMissing place)
 file_refusal place (Some bytes) = refusal_if_file_bad place (container_fault bytes)
 
 -- the refusal of the first missing or bad file, operand by operand; the file of the first operand is read number `n`
-abbrev pub verify_refusal : Reads → ℕ → List Operand → Option Refusal
-verify_refusal read n [] = None
-verify_refusal read n (o ∷ operands) =
+abbrev pub verify_refusal_from_read_number : Reads → ℕ → List Operand → Option Refusal
+verify_refusal_from_read_number read n [] = None
+verify_refusal_from_read_number read n (o ∷ operands) =
     option_or (file_refusal o.place (read n (without_one_leading_dot_slash o.text)))
-    (verify_refusal read (n + 1) operands)
+    (verify_refusal_from_read_number read (n + 1) operands)
 
 -- the line `FILE: OK` that is printed for a sound file with this name
 abbrev pub sound_line : List ℕ → List ℕ
@@ -41,4 +41,5 @@ sound_lines (o ∷ operands) = sound_line (without_one_leading_dot_slash o.text)
 -- the outcome of `verify`: a line for each file, unless one is refused
 abbrev pub verify : Reads → Files → List Operand → Outcome
 verify read files operands =
-    just_report_unless_refusal files (verify_refusal read 0 operands) (sound_lines operands)
+    just_report_unless_refusal files (verify_refusal_from_read_number read 0 operands)
+    (sound_lines operands)

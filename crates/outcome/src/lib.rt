@@ -30,7 +30,7 @@ ghost use Rattle.engine_core.specs.journal_core.Recovery.{intent_name};
 ghost use Rattle.engine_core.specs.journal_core.Staged.{AreJournalPathsFreeAfterReplayIfAny, HasEmptyStageAndFreeJournalPaths, unstaged_files};
 ghost use Rattle.tell_core.specs.installed_info.declared.telling.ReportAndRefusal.{ReportAndRefusal};
 ghost use Rattle.make_core.specs.make_info.Reads.{Reads};
-ghost use Rattle.outcome.specs.ChangeEnd.{IsChangeEnd, IsChangeEndOrIntentRefusal, is_input_refusal};
+ghost use Rattle.outcome.specs.ChangeEnd.{IsChangeEnd, IsChangeEndAfterRecoveryOrIntentRefusal, is_input_refusal};
 ghost use Rattle.outcome.specs.Commands.{IsOutcomeWithoutDemo, IsOutcomeOverRecoveredFiles, reads_in};
 ghost use Rattle.outcome.specs.Effect.{Changes, Makes, AsksRoot, does_recover, effect_of_arguments, effect_of, output, do_arguments_neither_recover_nor_write, depends_only_on_arguments};
 ghost use Rattle.outcome.specs.Make.{files_below};
@@ -252,7 +252,8 @@ pub fn a_change_takes_the_first_selection_or_is_refused()
     // For a command line, whose run first recovers.
     ensures words { (words : List (List ℕ)) (command : CommandLine) (files : Files) (o : Outcome)
         → command_of words ≡ Ok command → effect_of command.applet ≡ Changes
-        → IsOutcome (command_of words) files o → IsChangeEndOrIntentRefusal command files o }
+        → IsOutcome (command_of words) files o
+        → IsChangeEndAfterRecoveryOrIntentRefusal command files o }
 {
     // A law that the proof needs; it has no effect at run time.
     a_change_that_is_made_passes_each_test();

@@ -16,7 +16,7 @@ use Rattle.dep_core.specs.World.{is_line_end}
 use Rattle.outcome.specs.demo_lines.Count.{demo_count}
 use Rattle.outcome.specs.demo_lines.Lines.{demo_package_name, name_if_unneeded_by_first_n_at, names_unneeded_by_first_n_up_to}
 use Rattle.outcome.specs.demo_lines.Report.{demo_line_of_count_and_add_report, last_line}
-use Rattle.outcome_laws.specs.DemoLines.{AreWholeLines, IsDemoPackageNeededByNone, HasNoLineEnd}
+use Rattle.outcome_laws.specs.DemoLines.{AreWholeLines, IsUnneededAmongFirstDemoPackages, HasNoLineEnd}
 use Rattle.report_core.specs.Reports.{report_line}
 
 -- ---- the last line
@@ -144,10 +144,10 @@ found n (suc k) name (i, least, most, is, top) = elim (cases_Bool (nat_lt k i)) 
       in_left (names_unneeded_by_first_n_up_to n k) (name_if_unneeded_by_first_n_at n (suc k)) name (found n k name (i, least, omega (arith, high), is, top))
 ]
 
-pub added : (n : ℕ) (name : List ℕ) → IsIn name (names_unneeded_by_first_n_up_to n n) ↔ IsDemoPackageNeededByNone n name
+pub added : (n : ℕ) (name : List ℕ) → IsIn name (names_unneeded_by_first_n_up_to n n) ↔ IsUnneededAmongFirstDemoPackages n name
 added n name = (there, back)
   where
-    there : IsIn name (names_unneeded_by_first_n_up_to n n) → IsDemoPackageNeededByNone n name
+    there : IsIn name (names_unneeded_by_first_n_up_to n n) → IsUnneededAmongFirstDemoPackages n name
     there h =
         let (i, least, most, is, top) = told n n name h in
         let low = ltb-true n (2 * i) top in
@@ -159,7 +159,7 @@ added n name = (there, back)
           none = λ j two below half. half_below n i low j below half;
         }
 
-    back : IsDemoPackageNeededByNone n name → IsIn name (names_unneeded_by_first_n_up_to n n)
+    back : IsUnneededAmongFirstDemoPackages n name → IsIn name (names_unneeded_by_first_n_up_to n n)
     back x = elim (cases_Bool (nat_lt n (2 * x.number))) [
       | inl e ↦ found n n name (x.number, x.least, x.most, x.named, e)
       | inr e ↦

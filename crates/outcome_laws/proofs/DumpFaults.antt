@@ -18,7 +18,7 @@ use Rattle.command_core.specs.declared.operands.Operand.{Operand}
 use Rattle.container_laws.specs.TestsInOrder.{IsFirstFailing}
 use Rattle.container_laws.specs.adb_schema.Soundness.{first_block_payload, root_value_of_payload}
 use Rattle.container_laws.specs.pkg_core.Whole.{table_of_schema}
-use Rattle.outcome.specs.Dump.{adbdump, dump_fault_of_blocks, dump_of, dump_outcome, dump_by_root_table, dump_by_schema, framing_fault, text_unless_fault, text_outcome}
+use Rattle.outcome.specs.Dump.{adbdump, dump_fault_of_blocks, dump_of, dump_outcome, dump_by_schema_number_and_table_if_any, dump_by_schema_unless_header_fault, framing_fault_of_blocks, text_unless_fault, text_outcome}
 use Rattle.outcome.specs.adb_dump.Dump.{dump_text}
 use Rattle.outcome.specs.make_info.Reads.{Reads}
 use Rattle.outcome_laws.specs.DumpedFiles.{IsDumpRefusalCause, IsFaultOfPrinted}
@@ -76,7 +76,7 @@ blocks_told : (which : Which) (r : Reading) (c : Cause) → dump_fault_of_blocks
 blocks_told which done c e = absurd (cc (e))
 blocks_told which (fault d) c e = let same : d ≡ c = cc (e) in inl (ap fault same)
 blocks_told which (more b at r) c e =
-    inr (b, at, r, refl, first_of (payload_head_fault b.payload) (shape_fault b.payload (shape_of (Obj which)) (root_word_of_payload b.payload)) (framing_fault r) c e)
+    inr (b, at, r, refl, first_of (payload_head_fault b.payload) (shape_fault b.payload (shape_of (Obj which)) (root_word_of_payload b.payload)) (framing_fault_of_blocks r) c e)
 
 blocks_refused : (which : Which) (r : Reading) (c : Cause) → IsFaultOfPrinted which r c → dump_fault_of_blocks which r ≡ Some c
 blocks_refused which r c f =
@@ -85,7 +85,7 @@ blocks_refused which r c f =
       | inr f ↦
           let (b, at, behind, e, first) = f in
           ap (dump_fault_of_blocks which) e
-          ∙ failing (payload_head_fault b.payload) (shape_fault b.payload (shape_of (Obj which)) (root_word_of_payload b.payload)) (framing_fault behind) c first
+          ∙ failing (payload_head_fault b.payload) (shape_fault b.payload (shape_of (Obj which)) (root_word_of_payload b.payload)) (framing_fault_of_blocks behind) c first
     ]
 
 -- ---- the file
@@ -95,7 +95,7 @@ no_text None text c e = absurd (cc (e))
 no_text (Some d) text c e = let same : d ≡ c = cc (e) in ap Some same
 
 by_root : (file : List ℕ) (c : Cause) (schema : ℕ) (root : Option Which) → schema_of_header file ≡ Ok schema → table_of_schema schema ≡ root
-    → dump_by_root_table schema (block_stream_from (first_block_position_of_schema_and_file schema file)) root ≡ Err c → IsDumpRefusalCause file c
+    → dump_by_schema_number_and_table_if_any schema (block_stream_from (first_block_position_of_schema_and_file schema file)) root ≡ Err c → IsDumpRefusalCause file c
 by_root file c schema None header root e =
     let same : WrongSchema schema ≡ c = cc (e) in
     inr (schema, header, inl (root, sym same))
@@ -103,7 +103,7 @@ by_root file c schema (Some which) header root e =
     let r = block_stream_from (first_block_position_of_schema_and_file schema file) in
     inr (schema, header, inr (which, root, blocks_told which r c (no_text (dump_fault_of_blocks which r) (dump_text which (root_value_of_payload which (first_block_payload r))) c e)))
 
-by_header : (file : List ℕ) (c : Cause) (h : Result ℕ Cause) → schema_of_header file ≡ h → dump_by_schema file h ≡ Err c → IsDumpRefusalCause file c
+by_header : (file : List ℕ) (c : Cause) (h : Result ℕ Cause) → schema_of_header file ≡ h → dump_by_schema_unless_header_fault file h ≡ Err c → IsDumpRefusalCause file c
 by_header file c (Err d) header e =
     let same : d ≡ c = cc (e) in
     inl (header ∙ ap Err same)
@@ -117,16 +117,16 @@ file_refused : (file : List ℕ) (c : Cause) → IsDumpRefusalCause file c → d
 unfolding dump_of
 file_refused file c f =
     elim f [
-      | inl e ↦ ap (dump_by_schema file) e
+      | inl e ↦ ap (dump_by_schema_unless_header_fault file) e
       | inr f ↦
           let (schema, header, rest) = f in
-          ap (dump_by_schema file) header
+          ap (dump_by_schema_unless_header_fault file) header
           ∙ elim rest [
-            | inl x ↦ ap (dump_by_root_table schema (block_stream_from (first_block_position_of_schema_and_file schema file))) x.0 ∙ ap Err (sym x.1)
+            | inl x ↦ ap (dump_by_schema_number_and_table_if_any schema (block_stream_from (first_block_position_of_schema_and_file schema file))) x.0 ∙ ap Err (sym x.1)
             | inr x ↦
                 let (which, root, blocks) = x in
                 let r = block_stream_from (first_block_position_of_schema_and_file schema file) in
-                ap (dump_by_root_table schema r) root
+                ap (dump_by_schema_number_and_table_if_any schema r) root
                 ∙ ap (λ (o : Option Cause). text_unless_fault o (dump_text which (root_value_of_payload which (first_block_payload r)))) (blocks_refused which r c blocks)
           ]
     ]

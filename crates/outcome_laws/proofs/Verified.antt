@@ -11,7 +11,7 @@ use Rattle.container_laws.proofs.EveryTest.{every_test}
 use Rattle.container_laws.proofs.FirstTests.{any_told}
 use Rattle.outcome.specs.make_info.Reads.{Reads}
 use Rattle.outcome.specs.Outcome.{just_report_unless_refusal}
-use Rattle.outcome.specs.Verify.{file_refusal, sound_lines, refusal_if_file_bad, verify, verify_refusal}
+use Rattle.outcome.specs.Verify.{file_refusal, sound_lines, refusal_if_file_bad, verify, verify_refusal_from_read_number}
 use Rattle.container_laws.specs.pkg_core.Whole.{container_fault}
 use Rattle.report_core.specs.Reports.{report_line, report_lines}
 use Rattle.report_core.specs.declared.refusal.Refusal.{Refusal}
@@ -76,7 +76,7 @@ no_number n = omega arith
 from_zero : (i : ℕ) → 0 + i ≡ i
 from_zero i = omega arith
 
-all_sound : (read : Reads) (n : ℕ) (operands : List Operand) → verify_refusal read n operands ≡ None → AreSoundFrom read n operands
+all_sound : (read : Reads) (n : ℕ) (operands : List Operand) → verify_refusal_from_read_number read n operands ≡ None → AreSoundFrom read n operands
 all_sound read n [] e i o is = absurd cc
 all_sound read n (p ∷ operands) e zero o is =
     let same : p ≡ o = cc in
@@ -87,18 +87,18 @@ all_sound read n (p ∷ operands) e (suc i) o is =
     subst (λ (k : ℕ). IsFoundSound (read k (without_one_leading_dot_slash o.text))) (sym (same_number n i))
     (all_sound read (n + 1) operands (both_none _ _ e).1 i o is)
 
-sound_all : (read : Reads) (n : ℕ) (operands : List Operand) → AreSoundFrom read n operands → verify_refusal read n operands ≡ None
+sound_all : (read : Reads) (n : ℕ) (operands : List Operand) → AreSoundFrom read n operands → verify_refusal_from_read_number read n operands ≡ None
 sound_all read n [] each = refl
 sound_all read n (p ∷ operands) each =
     let here : IsFoundSound (read n (without_one_leading_dot_slash p.text)) = subst (λ (k : ℕ). IsFoundSound (read k (without_one_leading_dot_slash p.text))) (no_number n) (each 0 p refl) in
-    ap (λ (o : Option Refusal). option_or o (verify_refusal read (n + 1) operands)) (found_sound p.place (read n (without_one_leading_dot_slash p.text)) here)
+    ap (λ (o : Option Refusal). option_or o (verify_refusal_from_read_number read (n + 1) operands)) (found_sound p.place (read n (without_one_leading_dot_slash p.text)) here)
     ∙ sound_all read (n + 1) operands (λ i o is. subst (λ (k : ℕ). IsFoundSound (read k (without_one_leading_dot_slash o.text))) (same_number n i) (each (suc i) o is))
 
 pub sound_exactly : (read : Reads) (files : Files) (operands : List Operand) → ((verify read files operands).refusal ≡ None) ↔ AreFilesSound read operands
 sound_exactly read files operands = (
   λ e i o is. subst (λ (k : ℕ). IsFoundSound (read k (without_one_leading_dot_slash o.text))) (from_zero i)
-      (all_sound read 0 operands (sym (refusal_is files (verify_refusal read 0 operands) (sound_lines operands)) ∙ e) i o is),
-  λ each. refusal_is files (verify_refusal read 0 operands) (sound_lines operands)
+      (all_sound read 0 operands (sym (refusal_is files (verify_refusal_from_read_number read 0 operands) (sound_lines operands)) ∙ e) i o is),
+  λ each. refusal_is files (verify_refusal_from_read_number read 0 operands) (sound_lines operands)
       ∙ sound_all read 0 operands (λ i o is. subst (λ (k : ℕ). IsFoundSound (read k (without_one_leading_dot_slash o.text))) (sym (from_zero i)) (each i o is)),
 )
 
@@ -112,7 +112,7 @@ record IsFirstFrom (read : Reads) (n : ℕ) (operands : List Operand) (refusal :
   refused : IsFileRefusal (read (n + number) (without_one_leading_dot_slash operand.text)) operand.place refusal
   earlier : (i : ℕ) → i < number → (o : Operand) → slice_get operands i ≡ Some o → IsFoundSound (read (n + i) (without_one_leading_dot_slash o.text))
 
-first_from : (read : Reads) (n : ℕ) (operands : List Operand) (refusal : Refusal) → verify_refusal read n operands ≡ Some refusal → IsFirstFrom read n operands refusal
+first_from : (read : Reads) (n : ℕ) (operands : List Operand) (refusal : Refusal) → verify_refusal_from_read_number read n operands ≡ Some refusal → IsFirstFrom read n operands refusal
 first_from read n [] refusal e = absurd cc
 first_from read n (p ∷ operands) refusal e =
     go (file_refusal p.place (read n (without_one_leading_dot_slash p.text))) refl e (first_from read (n + 1) operands refusal)
@@ -125,8 +125,8 @@ first_from read n (p ∷ operands) refusal e =
     later here f (suc i) below o is =
         subst (λ (k : ℕ). IsFoundSound (read k (without_one_leading_dot_slash o.text))) (sym (same_number n i)) (f.earlier i (omega (arith, below)) o is)
 
-    go : (o : Option Refusal) → file_refusal p.place (read n (without_one_leading_dot_slash p.text)) ≡ o → option_or o (verify_refusal read (n + 1) operands) ≡ Some refusal
-        → (verify_refusal read (n + 1) operands ≡ Some refusal → IsFirstFrom read (n + 1) operands refusal) → IsFirstFrom read n (p ∷ operands) refusal
+    go : (o : Option Refusal) → file_refusal p.place (read n (without_one_leading_dot_slash p.text)) ≡ o → option_or o (verify_refusal_from_read_number read (n + 1) operands) ≡ Some refusal
+        → (verify_refusal_from_read_number read (n + 1) operands ≡ Some refusal → IsFirstFrom read (n + 1) operands refusal) → IsFirstFrom read n (p ∷ operands) refusal
     go (Some r) is e more =
         let same : r ≡ refusal = cc in
         record {
@@ -148,7 +148,7 @@ first_from read n (p ∷ operands) refusal e =
 
 pub first_unsound : (read : Reads) (files : Files) (operands : List Operand) (refusal : Refusal) → (verify read files operands).refusal ≡ Some refusal → IsRefusalOfFirstUnsoundFile read operands refusal
 first_unsound read files operands refusal e =
-    let f = first_from read 0 operands refusal (sym (refusal_is files (verify_refusal read 0 operands) (sound_lines operands)) ∙ e) in
+    let f = first_from read 0 operands refusal (sym (refusal_is files (verify_refusal_from_read_number read 0 operands) (sound_lines operands)) ∙ e) in
     record {
       number = f.number;
       operand = f.operand;
@@ -168,9 +168,9 @@ ok_lines (o ∷ operands) =
 pub ok_printed : (read : Reads) (files : Files) (operands : List Operand) → (verify read files operands).refusal ≡ None
     → (verify read files operands).out ≡ report_lines (map (λ (o : Operand). without_one_leading_dot_slash o.text ++ codes ": OK") operands)
 ok_printed read files operands e =
-    printed_by files (verify_refusal read 0 operands) (sound_lines operands) (sym (refusal_is files (verify_refusal read 0 operands) (sound_lines operands)) ∙ e)
+    printed_by files (verify_refusal_from_read_number read 0 operands) (sound_lines operands) (sym (refusal_is files (verify_refusal_from_read_number read 0 operands) (sound_lines operands)) ∙ e)
     ∙ ok_lines operands
 
 pub nothing_printed : (read : Reads) (files : Files) (operands : List Operand) → is_some (verify read files operands).refusal ≡ true → (verify read files operands).out ≡ []
 nothing_printed read files operands e =
-    silent_by files (verify_refusal read 0 operands) (sound_lines operands) (ap is_some (sym (refusal_is files (verify_refusal read 0 operands) (sound_lines operands))) ∙ e)
+    silent_by files (verify_refusal_from_read_number read 0 operands) (sound_lines operands) (ap is_some (sym (refusal_is files (verify_refusal_from_read_number read 0 operands) (sound_lines operands))) ∙ e)

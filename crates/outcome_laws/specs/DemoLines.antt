@@ -15,7 +15,7 @@ AreWholeLines text = (text ≡ []) ⊎ ((before : List ℕ) × (text ≡ before 
 
 -- The name is that of one of n packages, on which no other of these packages depends. Package j, from the second on,
 -- depends on package j / 2 (rounded down).
-pub record IsDemoPackageNeededByNone (n : ℕ) (name : List ℕ) : Type 0 where
+pub record IsUnneededAmongFirstDemoPackages (n : ℕ) (name : List ℕ) : Type 0 where
   -- the number of the package, from 1 to n
   pub number : ℕ
   -- the number is at least 1

@@ -12,14 +12,14 @@ use Rattle.adb_view.specs.Schema.{shape_of}
 use Rattle.adb_view.specs.Walk.{shape_fault}
 use Rattle.adb_view.specs.declared.tables.Kind.TheVariants.{Obj}
 use Rattle.container_laws.specs.TestsInOrder.{IsFirstFailing}
-use Rattle.outcome.specs.Dump.{framing_fault}
+use Rattle.outcome.specs.Dump.{framing_fault_of_blocks}
 use Rattle.outcome.specs.adb_dump.Dump.{dump_text}
 use Rattle.container_laws.specs.adb_schema.Soundness.{payload_in, root_value_of_payload}
 use Rattle.adb_view.specs.declared.tables.Which.{Which}
 use Rattle.container_laws.specs.pkg_core.Whole.{table_of_schema}
 
 -- `text` is the dump text of the value of a file, by the table that the schema in the file's header has at its root
-pub record HasDumpTextOfRootValue (file text : List ℕ) : Type 0 where
+pub record HasDumpTextByHeaderSchema (file text : List ℕ) : Type 0 where
   -- the schema number in the header of the file
   pub schema : ℕ
   -- the header has this schema
@@ -39,7 +39,7 @@ abbrev pub tests_of_printed : Which → List ℕ → Reading → List (Option Ca
 tests_of_printed which payload behind =
     payload_head_fault payload
     ∷ (shape_fault payload (shape_of (Obj which)) (root_word_of_payload payload)
-    ∷ (framing_fault behind ∷ []))
+    ∷ (framing_fault_of_blocks behind ∷ []))
 
 -- `c` is the fault of the blocks of a file: the framing of the first block has this fault; or it has none, and `c` is
 -- the cause of the first failed test of the three

@@ -8,7 +8,7 @@ ghost use Rattle.command_core.specs.declared.operands.Operand.{Operand};
 ghost use Rattle.outcome.specs.demo_lines.Count.{demo_count};
 ghost use Rattle.outcome.specs.demo_lines.Lines.{names_unneeded_by_first_n_up_to};
 ghost use Rattle.outcome.specs.demo_lines.Report.{demo_line_of_count_and_add_report};
-ghost use Rattle.outcome_laws.specs.DemoLines.{AreWholeLines, IsDemoPackageNeededByNone, HasNoLineEnd};
+ghost use Rattle.outcome_laws.specs.DemoLines.{AreWholeLines, IsUnneededAmongFirstDemoPackages, HasNoLineEnd};
 ghost use Rattle.report_core.specs.Reports.{report_line};
 
 /// `demo` prints one line: `demo N: ` and then the last line of a report. `front` are the lines of
@@ -27,5 +27,5 @@ pub fn demo_makes_as_many_packages_as_its_operand_says()
 /// Of n packages, `demo` adds exactly those on which no other package depends.
 pub fn demo_adds_the_packages_on_which_no_other_depends()
     ensures { (n : ℕ) (name : List ℕ) → IsIn name (names_unneeded_by_first_n_up_to n n)
-        ↔ IsDemoPackageNeededByNone n name }
+        ↔ IsUnneededAmongFirstDemoPackages n name }
 {}

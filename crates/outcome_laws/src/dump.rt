@@ -9,7 +9,7 @@ ghost use Rattle.command_core.specs.declared.operands.Operand.{Operand};
 ghost use Rattle.container_laws.specs.TestsInOrder.{PassesEveryContainerTest};
 ghost use Rattle.outcome.specs.make_info.Reads.{Reads};
 ghost use Rattle.outcome.specs.Dump.{adbdump};
-ghost use Rattle.outcome_laws.specs.DumpedFiles.{HasDumpTextOfRootValue, IsDumpRefusalCause};
+ghost use Rattle.outcome_laws.specs.DumpedFiles.{HasDumpTextByHeaderSchema, IsDumpRefusalCause};
 ghost use Rattle.report_core.specs.declared.refusal.Refusal.{Refusal};
 ghost use Rattle.report_core.specs.declared.refusal.Refusal.TheVariants.{FileBad, FileMissing};
 
@@ -19,7 +19,7 @@ pub fn adbdump_prints_the_text_of_the_value()
     ensures { (read : Reads) (files : Files) (o : Operand) (file : List ℕ)
         → read 0 (without_one_leading_dot_slash o.text) ≡ Some file
         → (adbdump read files (o ∷ [])).refusal ≡ None
-        → HasDumpTextOfRootValue file (adbdump read files (o ∷ [])).out }
+        → HasDumpTextByHeaderSchema file (adbdump read files (o ∷ [])).out }
 {}
 
 /// `adbdump` is not refused for a file that passes every test of a container, and refused for an

@@ -11,8 +11,8 @@ use Rattle.solve_core.specs.candidate_core.Candidates.{Candidate}
 use Rattle.solve_core.specs.candidate_core.Rank.{SelectionProblem, candidate_at, candidate_at_passes}
 use Rattle.report_core.specs.Reports.{Change}
 use Rattle.package_changes.specs.Changes.{change_between, change_of_name, changes_of, is_candidate_named, names_before_and_selected}
-use Rattle.package_changes.specs.Placed.{PlacedChange, PlacedName, ReplacementWithSelectionAsPlaces, candidates_at, change_in, candidate_at_new_place, package_at_old_place, placed_change_of, placed_changes_of, placed_name_of, placed_name_with, placed_names_of, replacement_of, selected_place}
-use Rattle.package_changes.specs.SelectedNames.{place_paired_with_name, placed_name_at}
+use Rattle.package_changes.specs.Placed.{PlacedChange, PlacedName, ReplacementWithSelectionAsPlaces, candidates_at, change_in, candidate_at_new_place, package_at_old_place, placed_change_of, placed_changes_of, name_with_change_and_old_and_pool_place, name_with_change_and_given_places, names_with_change_and_old_and_pool_place, replacement_of, selected_place}
+use Rattle.package_changes.specs.SelectedNames.{place_paired_with_name, name_with_change_and_places_by_table}
 
 -- ---- the first by its place
 
@@ -88,19 +88,19 @@ changes_alone p = mapped (λ (c : PlacedChange). c.change) (placed_change_of p) 
 -- ---- names with their places
 
 -- the table leads to the places of the selected candidates
-pub by_table : (p : ReplacementWithSelectionAsPlaces) (table : List (List ℕ × ℕ)) → ((name : List ℕ) → place_paired_with_name name table ≡ selected_place p.pool p.trace name) → (names : List (List ℕ)) → map (placed_name_at p.before p.pool p.again table) names ≡ map (placed_name_of p) names
-unfolding placed_name_of
+pub by_table : (p : ReplacementWithSelectionAsPlaces) (table : List (List ℕ × ℕ)) → ((name : List ℕ) → place_paired_with_name name table ≡ selected_place p.pool p.trace name) → (names : List (List ℕ)) → map (name_with_change_and_places_by_table p.before p.pool p.again table) names ≡ map (name_with_change_and_old_and_pool_place p) names
+unfolding name_with_change_and_old_and_pool_place
 by_table p table leads [] = refl
 by_table p table leads (name ∷ names) =
-    ap (λ o. placed_name_with p.before p.pool p.again name (position_from (is_package_named name) 0 p.before) o ∷ map (placed_name_at p.before p.pool p.again table) names) (leads name)
-    ∙ ap (λ z. placed_name_of p name ∷ z) (by_table p table leads names)
+    ap (λ o. name_with_change_and_given_places p.before p.pool p.again name (position_from (is_package_named name) 0 p.before) o ∷ map (name_with_change_and_places_by_table p.before p.pool p.again table) names) (leads name)
+    ∙ ap (λ z. name_with_change_and_old_and_pool_place p name ∷ z) (by_table p table leads names)
 
 -- the order of the names that are to be installed again does not matter
-pub by_sorted : (before : List Plain) (pool : SelectionProblem) (again sorted : List (List ℕ)) (table : List (List ℕ × ℕ)) → IsPermutation again sorted → (names : List (List ℕ)) → map (placed_name_at before pool sorted table) names ≡ map (placed_name_at before pool again table) names
+pub by_sorted : (before : List Plain) (pool : SelectionProblem) (again sorted : List (List ℕ)) (table : List (List ℕ × ℕ)) → IsPermutation again sorted → (names : List (List ℕ)) → map (name_with_change_and_places_by_table before pool sorted table) names ≡ map (name_with_change_and_places_by_table before pool again table) names
 by_sorted before pool again sorted table same [] = refl
 by_sorted before pool again sorted table same (name ∷ names) =
-    ap (λ t. made t ∷ map (placed_name_at before pool sorted table) names) (sym (list_any-IsPermutation (bytes_eq name) again sorted same))
-    ∙ ap (λ z. placed_name_at before pool again table name ∷ z) (by_sorted before pool again sorted table same names)
+    ap (λ t. made t ∷ map (name_with_change_and_places_by_table before pool sorted table) names) (sym (list_any-IsPermutation (bytes_eq name) again sorted same))
+    ∙ ap (λ z. name_with_change_and_places_by_table before pool again table name ∷ z) (by_sorted before pool again sorted table same names)
   where
     made : Bool → PlacedName
     made is_again = record {
@@ -115,31 +115,31 @@ changes_of_map f g h same [] = refl
 changes_of_map f g h same (a ∷ xs) =
     ap (λ o. cons_option o (filter_map f (map g xs))) (same a) ∙ ap (cons_option (h a)) (changes_of_map f g h same xs)
 
-change_in_name : (p : ReplacementWithSelectionAsPlaces) (name : List ℕ) → change_in (placed_name_of p name) ≡ placed_change_of p name
-unfolding placed_name_of placed_change_of
+change_in_name : (p : ReplacementWithSelectionAsPlaces) (name : List ℕ) → change_in (name_with_change_and_old_and_pool_place p name) ≡ placed_change_of p name
+unfolding name_with_change_and_old_and_pool_place placed_change_of
 change_in_name p name = refl
 
 -- the changes among the names are the changes
-pub changes_among : (p : ReplacementWithSelectionAsPlaces) → filter_map change_in (placed_names_of p) ≡ placed_changes_of p
-unfolding placed_names_of placed_changes_of
-changes_among p = changes_of_map change_in (placed_name_of p) (placed_change_of p) (change_in_name p) (names_before_and_selected (replacement_of p))
+pub changes_among : (p : ReplacementWithSelectionAsPlaces) → filter_map change_in (names_with_change_and_old_and_pool_place p) ≡ placed_changes_of p
+unfolding names_with_change_and_old_and_pool_place placed_changes_of
+changes_among p = changes_of_map change_in (name_with_change_and_old_and_pool_place p) (placed_change_of p) (change_in_name p) (names_before_and_selected (replacement_of p))
 
 -- ---- what the places of a name lead to
 
-pub own_name : (p : ReplacementWithSelectionAsPlaces) (name : List ℕ) → (placed_name_of p name).name ≡ name
-unfolding placed_name_of
+pub own_name : (p : ReplacementWithSelectionAsPlaces) (name : List ℕ) → (name_with_change_and_old_and_pool_place p name).name ≡ name
+unfolding name_with_change_and_old_and_pool_place
 own_name p name = refl
 
-pub own_change : (p : ReplacementWithSelectionAsPlaces) (name : List ℕ) → (placed_name_of p name).change ≡ change_of_name (replacement_of p) name
-unfolding placed_name_of change_of_name
+pub own_change : (p : ReplacementWithSelectionAsPlaces) (name : List ℕ) → (name_with_change_and_old_and_pool_place p name).change ≡ change_of_name (replacement_of p) name
+unfolding name_with_change_and_old_and_pool_place change_of_name
 own_change p name =
     ap (λ o. change_between (list_any (bytes_eq name) p.again) name o (option_and_then (candidate_at p.pool) (selected_place p.pool p.trace name))) (found_at_position (is_package_named name) p.before)
     ∙ ap (λ o. change_between (list_any (bytes_eq name) p.again) name (find (is_package_named name) p.before) o) (found_at_place p.pool (is_candidate_named name) p.trace)
 
-pub own_package : (p : ReplacementWithSelectionAsPlaces) (name : List ℕ) → package_at_old_place p.before (placed_name_of p name) ≡ find (is_package_named name) p.before
-unfolding placed_name_of
+pub own_package : (p : ReplacementWithSelectionAsPlaces) (name : List ℕ) → package_at_old_place p.before (name_with_change_and_old_and_pool_place p name) ≡ find (is_package_named name) p.before
+unfolding name_with_change_and_old_and_pool_place
 own_package p name = found_at_position (is_package_named name) p.before
 
-pub own_candidate : (p : ReplacementWithSelectionAsPlaces) (name : List ℕ) → candidate_at_new_place p.pool (placed_name_of p name) ≡ find (is_candidate_named name) (candidates_at p.pool p.trace)
-unfolding placed_name_of
+pub own_candidate : (p : ReplacementWithSelectionAsPlaces) (name : List ℕ) → candidate_at_new_place p.pool (name_with_change_and_old_and_pool_place p name) ≡ find (is_candidate_named name) (candidates_at p.pool p.trace)
+unfolding name_with_change_and_old_and_pool_place
 own_candidate p name = found_at_place p.pool (is_candidate_named name) p.trace

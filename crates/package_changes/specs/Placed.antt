@@ -78,9 +78,9 @@ pub record PlacedName : Type 0 where
 
 -- what happens to the package with this name, even if it is kept. The package has the place `old` among the packages
 -- before, and its candidate has the place `new`
-abbrev pub placed_name_with :
+abbrev pub name_with_change_and_given_places :
     List Plain → SelectionProblem → List (List ℕ) → List ℕ → Option ℕ → Option ℕ → PlacedName
-placed_name_with before pool again name old new = record {
+name_with_change_and_given_places before pool again name old new = record {
   name = name;
   change = change_between (list_any (bytes_eq name) again) name
       (option_and_then (slice_get before) old) (option_and_then (candidate_at pool) new);
@@ -90,14 +90,16 @@ placed_name_with before pool again name old new = record {
 
 -- what happens to the package with this name, even if it is kept, with its places among the packages before and among
 -- the candidates
-unfoldable pub placed_name_of : ReplacementWithSelectionAsPlaces → List ℕ → PlacedName
-placed_name_of p name =
-    placed_name_with p.before p.pool p.again name
+unfoldable pub name_with_change_and_old_and_pool_place : ReplacementWithSelectionAsPlaces → List ℕ
+    → PlacedName
+name_with_change_and_old_and_pool_place p name =
+    name_with_change_and_given_places p.before p.pool p.again name
     (position_from (is_package_named name) 0 p.before) (selected_place p.pool p.trace name)
 
 -- each name of a package before or of a selected candidate, with its change, in byte order of the names
-unfoldable pub placed_names_of : ReplacementWithSelectionAsPlaces → List PlacedName
-placed_names_of p = map (placed_name_of p) (names_before_and_selected (replacement_of p))
+unfoldable pub names_with_change_and_old_and_pool_place : ReplacementWithSelectionAsPlaces → List PlacedName
+names_with_change_and_old_and_pool_place p =
+    map (name_with_change_and_old_and_pool_place p) (names_before_and_selected (replacement_of p))
 
 -- the package before the change at the old place of a name, if there is one
 abbrev pub package_at_old_place : List Plain → PlacedName → Option Plain

@@ -6,7 +6,7 @@ use Rattle.std.specs.List.{position_from}
 use Rattle.adb_view.specs.Plain.{Plain}
 use Rattle.change_files.specs.db_core.Packages.{is_package_named}
 use Rattle.solve_core.specs.candidate_core.Rank.{SelectionProblem}
-use Rattle.package_changes.specs.Placed.{PlacedName, placed_name_with}
+use Rattle.package_changes.specs.Placed.{PlacedName, name_with_change_and_given_places}
 
 -- the table as contracts see it: each name with the place of its candidate
 abbrev pub names_and_places : List (Bor (List ℕ) × ℕ) → List (List ℕ × ℕ)
@@ -19,8 +19,9 @@ place_paired_with_name name (e ∷ es) =
     if bytes_eq e.0 name then Some e.1 else place_paired_with_name name es
 
 -- what happens to the package of a name, if `selected` is the table of the names and places of the selected candidates
-abbrev pub placed_name_at :
+abbrev pub name_with_change_and_places_by_table :
     List Plain → SelectionProblem → List (List ℕ) → List (List ℕ × ℕ) → List ℕ → PlacedName
-placed_name_at before pool again selected name =
-    placed_name_with before pool again name (position_from (is_package_named name) 0 before)
+name_with_change_and_places_by_table before pool again selected name =
+    name_with_change_and_given_places before pool again name
+    (position_from (is_package_named name) 0 before)
     (place_paired_with_name name selected)

@@ -8,9 +8,9 @@ ghost use Rattle.change_files.specs.PlanLists.{sorted_distinct_names};
 ghost use Rattle.change_files.specs.db_core.Packages.{is_package_named};
 ghost use Rattle.change_files.specs.db_core.Seen.{packages_of};
 ghost use Rattle.package_changes.specs.Changes.{change_between};
-ghost use Rattle.package_changes.specs.Placed.{candidates_at, candidate_at_new_place, placed_name_with, placed_names_of};
+ghost use Rattle.package_changes.specs.Placed.{candidates_at, candidate_at_new_place, name_with_change_and_given_places, names_with_change_and_old_and_pool_place};
 ghost use Rattle.package_changes.specs.Seen.{change_seen, placed_name_seen, placed_names_seen, placed_replacement_from_parts};
-ghost use Rattle.package_changes.specs.SelectedNames.{placed_name_at};
+ghost use Rattle.package_changes.specs.SelectedNames.{name_with_change_and_places_by_table};
 ghost use Rattle.solve_core.specs.candidate_core.Candidates.{Candidate as CandidateValue};
 ghost use Rattle.solve_core.specs.candidate_core.Rank.{candidate_at};
 ghost use Rattle.solve_core.specs.candidate_core.Values.{candidate_value};
@@ -73,7 +73,8 @@ impl<'a> PlacedNames<'a> {
         again: &Words,
     ) -> Result<PlacedNames<'a>, AllocError>
         ensures { IfOk result (λ names. placed_names_seen names
-            ≡ placed_names_of (placed_replacement_from_parts db.now pool.now trace.now again.now)) }
+            ≡ names_with_change_and_old_and_pool_place
+            (placed_replacement_from_parts db.now pool.now trace.now again.now)) }
     {
         // The selected candidates by their names, all names, and the names of `again`, sorted.
         let selected = SelectedNames::of(alloc, pool, trace)?;
@@ -207,7 +208,8 @@ fn placed_names<'a>(
 ) -> Result<Vec<PlacedName<'a>>, AllocError>
     // Each name with its change and its two places.
     ensures { IfOk result (λ list. map placed_name_seen list.items
-        ≡ map (placed_name_at (packages_of db.now) pool.now again.now selected.now)
+        ≡ map (name_with_change_and_places_by_table
+        (packages_of db.now) pool.now again.now selected.now)
         (map (λ n. n.now) names.now)) }
 {
     let mut list = Vec::new(alloc);
@@ -229,7 +231,7 @@ fn placed_name<'a>(
     // The result is that of the definition, in which the old place is that of the first package
     // with this name in the database.
     ensures { placed_name_seen result
-        ≡ placed_name_with (packages_of db.now) pool.now again.now name.entry.now
+        ≡ name_with_change_and_given_places (packages_of db.now) pool.now again.now name.entry.now
         (position_from (is_package_named name.entry.now) 0 (packages_of db.now)) new }
 {
     let old = db.find(name);

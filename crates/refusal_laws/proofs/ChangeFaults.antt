@@ -11,7 +11,7 @@ use Rattle.outcome.specs.change_files.PlanLists.{first_reserved_added_path_in_by
 use Rattle.outcome.proofs.change_files.InOrder.{from_order}
 use Rattle.outcome.specs.change_inputs.Chains.{and_then}
 use Rattle.outcome.specs.change_inputs.Inputs.{Inputs}
-use Rattle.outcome.specs.change_outcome.ChangeOutcome.{ChangeDone, ChangeWishes, IsFirstClashUnlessMembersRefused, IsFirstClashOfChange, intent_of_change, change_done, members_after_change, change_or_refusal, change_with_members, packages_before_and_after_with_purge, member_name_at_place, database_and_world_after_change, touched_paths, unless_clash, unless_contested, or_result_too_large, unless_overflow, unless_reserved_path, change_done_unless_too_large}
+use Rattle.outcome.specs.change_outcome.ChangeOutcome.{ChangeDone, ChangeWishes, IsFirstClashUnlessMembersRefused, IsFirstClashOfChange, intent_of_change, change_done, members_after_change, change_or_refusal, change_with_members, packages_before_and_after_with_purge, member_name_at_place, database_and_world_after_change, touched_paths, unless_clash, unless_contested, or_result_too_large, unless_overflow, unless_reserved_path, change_done_unless_over_writer_limits}
 use Rattle.outcome.specs.change_outcome.MembersAfter.{MemberFound}
 use Rattle.outcome.specs.change_outcome.PackageFiles.{has_script_with_number}
 use Rattle.report_core.specs.Numbers.{TRIGGER_SCRIPT}
@@ -28,14 +28,14 @@ use Rattle.outcome.specs.path_claims.Claims.{ContestedPath}
 use Rattle.outcome.specs.path_clashes.Clash.{NamePair}
 use Rattle.report_core.specs.declared.refusal.Refusal.{Refusal}
 use Rattle.report_core.specs.declared.refusal.Refusal.TheVariants.{Owned, PathClash, Reserved, ResultTooLarge, TriggerNeeded}
-use Rattle.refusal_laws.specs.ChangeFaults.{IsFaultOfChange, IsFaultOfFiles, IsDatabaseOrIntentTooLarge, IsTooLarge, IsTriggerDueAndNotSkipped, HasPatternOfTouchedFolder}
+use Rattle.refusal_laws.specs.ChangeFaults.{IsFaultOfChange, IsFaultOfFiles, IsDatabaseOrIntentTooLargeFirstAtCounts, IsTooLargeFirstAtCounts, IsTriggerDueAndNotSkipped, HasPatternOfTouchedFolder}
 use Rattle.refusal_laws.proofs.Lists.{and_then_err, any_in, found_in, in_names, mapped_in}
 use Rattle.refusal_laws.proofs.PackageFaults.{members_fault}
 use Rattle.refusal_laws.proofs.Paths.{contested_is, first_reserved_is}
 
 -- ---- limits
 
-pub too_large : (v : Plain) (counts : ByteAndValueCounts) → counts_at_first_overflow v ≡ Some counts → IsTooLarge v counts.0 counts.1
+pub too_large : (v : Plain) (counts : ByteAndValueCounts) → counts_at_first_overflow v ≡ Some counts → IsTooLargeFirstAtCounts v counts.0 counts.1
 too_large v counts e = (e, (found_in exceeds_a_limit (counts_after_values v empty_layout_counting_root) counts e).1)
 
 database_err : (members : List Member) (flags : List Bool) (counts : ByteAndValueCounts) → database_of members flags ≡ Err counts → payload_or_counts_at_overflow (database_value members flags) ≡ Err counts
@@ -112,7 +112,7 @@ module _ (inputs : Inputs) (r : Replacement) (wishes : ChangeWishes) (files : Fi
   change = packages_before_and_after_with_purge inputs wishes found
 
   -- it tells of counts
-  pub large_told : (refusal : Refusal) → change_done_unless_too_large inputs r wishes found files ≡ Err refusal → (bytes : ℕ) × (values : ℕ) × (ResultTooLarge bytes values ≡ refusal)
+  pub large_told : (refusal : Refusal) → change_done_unless_over_writer_limits inputs r wishes found files ≡ Err refusal → (bytes : ℕ) × (values : ℕ) × (ResultTooLarge bytes values ≡ refusal)
   large_told refusal e =
       elim (and_then_err (or_result_too_large (database_of change.members (owned_flags_of change.members))) (λ database.
       unless_overflow (counts_at_first_overflow (value_of_intent (intent_of_lists (intent_of_change inputs change files (database_and_world_after_change inputs database)).removals (intent_of_change inputs change files (database_and_world_after_change inputs database)).writes)))
@@ -123,10 +123,10 @@ module _ (inputs : Inputs) (r : Replacement) (wishes : ChangeWishes) (files : Fi
             (over.0.0, over.0.1, over.2))
       ]
 
-  result_fault : (bytes values : ℕ) (refusal : Refusal) → IsDatabaseOrIntentTooLarge inputs change files bytes values → ResultTooLarge bytes values ≡ refusal → IsSo refusal
+  result_fault : (bytes values : ℕ) (refusal : Refusal) → IsDatabaseOrIntentTooLargeFirstAtCounts inputs change files bytes values → ResultTooLarge bytes values ≡ refusal → IsSo refusal
   result_fault bytes values refusal is same = subst IsSo same is
 
-  large_fault : (refusal : Refusal) → change_done_unless_too_large inputs r wishes found files ≡ Err refusal → IsSo refusal
+  large_fault : (refusal : Refusal) → change_done_unless_over_writer_limits inputs r wishes found files ≡ Err refusal → IsSo refusal
   large_fault refusal e =
       elim (and_then_err (or_result_too_large (database_of change.members (owned_flags_of change.members))) (λ database.
       unless_overflow (counts_at_first_overflow (value_of_intent (intent_of_lists (intent_of_change inputs change files (database_and_world_after_change inputs database)).removals (intent_of_change inputs change files (database_and_world_after_change inputs database)).writes)))
@@ -141,15 +141,15 @@ module _ (inputs : Inputs) (r : Replacement) (wishes : ChangeWishes) (files : Fi
             (inr (record { database = next.0; fits = large_ok (database_of change.members (owned_flags_of change.members)) next.0 next.1; passes = too_large intent over.0 over.1 })) over.2)
       ]
 
-  trigger_fault : (refusal : Refusal) → and_then (unless_trigger_due wishes.no_scripts (touched_paths change files) change.members) (λ is_allowed. change_done_unless_too_large inputs r wishes found files) ≡ Err refusal → IsSo refusal
+  trigger_fault : (refusal : Refusal) → and_then (unless_trigger_due wishes.no_scripts (touched_paths change files) change.members) (λ is_allowed. change_done_unless_over_writer_limits inputs r wishes found files) ≡ Err refusal → IsSo refusal
   trigger_fault refusal e =
-      elim (and_then_err (unless_trigger_due wishes.no_scripts (touched_paths change files) change.members) (λ is_allowed. change_done_unless_too_large inputs r wishes found files) refusal e) [
+      elim (and_then_err (unless_trigger_due wishes.no_scripts (touched_paths change files) change.members) (λ is_allowed. change_done_unless_over_writer_limits inputs r wishes found files) refusal e) [
         | inl first ↦ (let needed = trigger_err wishes change files wishes.no_scripts refusal refl first in subst IsSo needed.2 needed.1)
         | inr next ↦ large_fault refusal next.2
       ]
 
   abbrev after_owners : Result ChangeDone Refusal
-  after_owners = and_then (unless_trigger_due wishes.no_scripts (touched_paths change files) change.members) (λ is_allowed. change_done_unless_too_large inputs r wishes found files)
+  after_owners = and_then (unless_trigger_due wishes.no_scripts (touched_paths change files) change.members) (λ is_allowed. change_done_unless_over_writer_limits inputs r wishes found files)
 
   owned_fault : (o : Option ContestedPath) (refusal : Refusal) → first_contested_member_path_in_byte_order change.members ≡ o → unless_contested change.members o after_owners ≡ Err refusal → IsSo refusal
   owned_fault None refusal is e = trigger_fault refusal e

@@ -13,8 +13,8 @@ use Rattle.command_core.specs.declared.command.Applet.{Applet}
 use Rattle.command_core.specs.declared.command.Applet.TheVariants.{Del, Fix, Upgrade}
 use Rattle.command_core.specs.declared.operands.Operand.{Operand}
 use Rattle.dep_core.specs.World.{has_dependency_named}
-use Rattle.outcome.specs.engine_core.Changed.{IsFirstClashOfCommand, IsFirstClashUnlessRefused, IsFirstClashUnlessSimulated, InputsAndReplacement, change_of_selected, change_of_command, selected_from_pool_by_choice, selected_from_reads_by_choice, selected_from_inputs_by_choice, simulated_change}
-use Rattle.outcome.specs.engine_core.Choice.{IsPreferredChoiceUnlessRefused}
+use Rattle.outcome.specs.engine_core.Changed.{IsFirstClashOfCommand, IsFirstClashOrNoneIfRefused, IsFirstClashOrNoneIfSimulated, InputsAndReplacement, change_of_selected, change_of_command, selected_from_pool_by_choice, selected_from_reads_by_choice, selected_from_inputs_by_choice, simulated_change}
+use Rattle.outcome.specs.engine_core.Choice.{IsPreferredChoiceOrNoneIfRefused}
 use Rattle.outcome.specs.engine_core.Selecting.{pool_of_inputs_unless_too_many_candidates, pool_of_command}
 use Rattle.outcome.specs.engine_core.Wishes.{place_of_first_unknown_operand, is_installed_name, is_name_in_world_or_installed, names_to_upgrade, unknown_operand_place, unless_unknown_operand, wishes_of}
 use Rattle.outcome.specs.make_info.Reads.{Reads}
@@ -69,17 +69,17 @@ unknown_fault applet inputs operands place e = absurd (cc (e))
 
 -- ---- the selection
 
-module _ (command : CommandLine) (read : Reads) (chosen : Option (List ℕ)) (choice : IsPreferredChoiceUnlessRefused (pool_of_command command read) chosen) where
+module _ (command : CommandLine) (read : Reads) (chosen : Option (List ℕ)) (choice : IsPreferredChoiceOrNoneIfRefused (pool_of_command command read) chosen) where
   abbrev IsSo : Inputs → Refusal → Type 0
   IsSo inputs refusal = IsFaultOfSelection command inputs refusal
 
-  none_chosen : (inputs : Inputs) (pool : SelectionProblem) (o : Option (List ℕ)) (refusal : Refusal) → pool_of_inputs_unless_too_many_candidates command inputs ≡ Ok pool → IsPreferredChoiceUnlessRefused (Ok pool) o → selected_from_pool_by_choice command inputs pool o ≡ Err refusal → IsSo inputs refusal
+  none_chosen : (inputs : Inputs) (pool : SelectionProblem) (o : Option (List ℕ)) (refusal : Refusal) → pool_of_inputs_unless_too_many_candidates command inputs ≡ Ok pool → IsPreferredChoiceOrNoneIfRefused (Ok pool) o → selected_from_pool_by_choice command inputs pool o ≡ Err refusal → IsSo inputs refusal
   none_chosen inputs pool None refusal is none e =
       let same : Unsatisfied ≡ refusal = cc in
       subst (IsSo inputs) same (record { pool = pool; is_pool = is; none = none })
   none_chosen inputs pool (Some trace) refusal is none e = absurd (cc (e))
 
-  place_fault : (inputs : Inputs) (pool : SelectionProblem) (o : Option ℕ) (refusal : Refusal) → pool_of_inputs_unless_too_many_candidates command inputs ≡ Ok pool → IsPreferredChoiceUnlessRefused (Ok pool) chosen → unknown_operand_place command.applet inputs command.operands ≡ o
+  place_fault : (inputs : Inputs) (pool : SelectionProblem) (o : Option ℕ) (refusal : Refusal) → pool_of_inputs_unless_too_many_candidates command inputs ≡ Ok pool → IsPreferredChoiceOrNoneIfRefused (Ok pool) chosen → unknown_operand_place command.applet inputs command.operands ≡ o
       → unless_unknown_operand o (selected_from_pool_by_choice command inputs pool chosen) ≡ Err refusal → IsSo inputs refusal
   place_fault inputs pool None refusal is from known e = none_chosen inputs pool chosen refusal is from e
   place_fault inputs pool (Some place) refusal is from unknown e =
@@ -87,10 +87,10 @@ module _ (command : CommandLine) (read : Reads) (chosen : Option (List ℕ)) (ch
       let same : NotInstalled place ≡ refusal = cc in
       subst (IsSo inputs) same (record { operand = found.0; given = found.1; at = found.2; unknown = found.3 })
 
-  choice_of : (inputs : Inputs) (pool : SelectionProblem) → inputs_of command read ≡ Ok inputs → pool_of_inputs_unless_too_many_candidates command inputs ≡ Ok pool → IsPreferredChoiceUnlessRefused (Ok pool) chosen
+  choice_of : (inputs : Inputs) (pool : SelectionProblem) → inputs_of command read ≡ Ok inputs → pool_of_inputs_unless_too_many_candidates command inputs ≡ Ok pool → IsPreferredChoiceOrNoneIfRefused (Ok pool) chosen
   choice_of inputs pool is has =
       let same : pool_of_command command read ≡ Ok pool = ap (λ (x : Result Inputs Refusal). and_then x (pool_of_inputs_unless_too_many_candidates command)) is ∙ has in
-      subst (λ (x : Result SelectionProblem Refusal). IsPreferredChoiceUnlessRefused x chosen) same choice
+      subst (λ (x : Result SelectionProblem Refusal). IsPreferredChoiceOrNoneIfRefused x chosen) same choice
 
   selection_fault : (inputs : Inputs) (refusal : Refusal) → inputs_of command read ≡ Ok inputs → selected_from_inputs_by_choice command chosen inputs ≡ Err refusal → IsSo inputs refusal
   selection_fault inputs refusal is e =
@@ -101,7 +101,7 @@ module _ (command : CommandLine) (read : Reads) (chosen : Option (List ℕ)) (ch
 
   -- ---- the change
 
-  done_or_refused : (files : Files) (clash : Option NamePair) (s : InputsAndReplacement) (refusal : Refusal) → selected_from_reads_by_choice command read chosen ≡ Ok s → IsFirstClashUnlessRefused command read files (Ok s) clash
+  done_or_refused : (files : Files) (clash : Option NamePair) (s : InputsAndReplacement) (refusal : Refusal) → selected_from_reads_by_choice command read chosen ≡ Ok s → IsFirstClashOrNoneIfRefused command read files (Ok s) clash
       → change_of_selected command read files clash s ≡ Err refusal → IsFaultOfUnsimulatedChangeByCandidatePlaces command read files chosen refusal
   done_or_refused files clash s refusal is clashes e = by_flag command.flags.simulate refl e
     where
@@ -109,7 +109,7 @@ module _ (command : CommandLine) (read : Reads) (chosen : Option (List ℕ)) (ch
           → kept_done (if b then Ok (simulated_change s.replacement (wishes_of command) files) else change_or_refusal s.inputs s.replacement (wishes_of command) read clash files) ≡ Err refusal → IsFaultOfUnsimulatedChangeByCandidatePlaces command read files chosen refusal
       by_flag true on e = absurd (cc (e))
       by_flag false off e =
-          (s, is, off, change_fault s.inputs s.replacement (wishes_of command) read clash files refusal e (subst (λ b. IsFirstClashUnlessSimulated b (wishes_of command) read files s clash) off clashes))
+          (s, is, off, change_fault s.inputs s.replacement (wishes_of command) read clash files refusal e (subst (λ b. IsFirstClashOrNoneIfSimulated b (wishes_of command) read files s clash) off clashes))
 
   pub command_fault : (files : Files) (clash : Option NamePair) (refusal : Refusal) → IsFirstClashOfCommand command read files chosen clash → change_of_command command read files chosen clash ≡ Err refusal → IsFaultOfCommandByCandidatePlaces command read files chosen refusal
   unfolding change_of_command
@@ -120,5 +120,5 @@ module _ (command : CommandLine) (read : Reads) (chosen : Option (List ℕ)) (ch
           | inr next ↦ inr (inl (next.0, next.1, selection_fault next.0 refusal next.1 next.2))
         ]
         | inr next ↦ inr (inr (done_or_refused files clash next.0 refusal next.1
-            (subst (λ (x : Result InputsAndReplacement Refusal). IsFirstClashUnlessRefused command read files x clash) next.1 clashes) next.2))
+            (subst (λ (x : Result InputsAndReplacement Refusal). IsFirstClashOrNoneIfRefused command read files x clash) next.1 clashes) next.2))
       ]

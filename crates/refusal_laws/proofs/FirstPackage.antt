@@ -30,7 +30,7 @@ use Rattle.report_core.specs.declared.refusal.Refusal.{Refusal}
 use Rattle.report_core.specs.declared.refusal.Refusal.TheVariants.{PackageBad, PackageDiffers, PackageMissing, ScriptNeeded}
 use Rattle.refusal_laws.specs.ChangeFaults.{IsFaultOfPackage}
 use Rattle.refusal_laws.specs.AddedPackages.{IsSoundFileWithIdNameAndVersionOf, IsFileReadForAddedPackage, selected_candidate_of_name}
-use Rattle.refusal_laws.specs.FirstPackage.{HasNoEarlierFaultyPackageOrOtherFault, refused_name}
+use Rattle.refusal_laws.specs.FirstPackage.{HasNoOtherFaultInSameOrEarlierPackage, refused_name}
 use Rattle.refusal_laws.specs.PackageFaults.{IsAddedOrRemoved, IsFirstOfIdNameVersionThatDiffers}
 use Rattle.refusal_laws.proofs.Coming.{by_fields, different_err, path_is, script_err}
 use Rattle.refusal_laws.proofs.FoundPackages.{member_name_at_place}
@@ -280,7 +280,7 @@ module _ (inputs : Inputs) (r : Replacement) (wishes : ChangeWishes) (read : Rea
             ∙ (ap (precedes at.name) (name ∙ told_here) ∙ precedes_itself at.name))))
             (λ more. (same_place other told (omega arith)).1) (cases_lt at.place told.place)) (cases_lt told.place at.place)
 
-  pub first_refused : (refusal : Refusal) → members_after_change inputs r wishes read ≡ Err refusal → HasNoEarlierFaultyPackageOrOtherFault inputs r wishes read refusal
+  pub first_refused : (refusal : Refusal) → members_after_change inputs r wishes read ≡ Err refusal → HasNoOtherFaultInSameOrEarlierPackage inputs r wishes read refusal
   unfolding members_after
   first_refused refusal e =
       let at = refused_in first_read (names_before_and_selected r) refusal e in

@@ -16,7 +16,7 @@ use Rattle.root_names.specs.RootNames.{database_name, text_database_name}
 use Rattle.outcome.specs.v2_core.Payload.{payload_of_text}
 use Rattle.outcome.specs.v2_core.declared.read.V2Fault.{V2Fault}
 use Rattle.outcome.specs.v2_core.declared.read.V2Fault.TheVariants.{Bad, Memory, TooLarge}
-use Rattle.refusal_laws.specs.InfoFaults.{AreOperandsFoundInstalled, IsFaultOfDatabase, IsFaultOfInfo, IsFaultOfOperandNotInstalled}
+use Rattle.refusal_laws.specs.InfoFaults.{AreOperandsFoundInstalled, IsFaultOfDatabase, IsFaultOfInfo, IsFaultOfFirstOperandNotFoundInstalled}
 use Rattle.refusal_laws.proofs.InputFaults.{cause_err}
 use Rattle.refusal_laws.proofs.InfoOperands.{operand_late, operand_refused, operands_told}
 use Rattle.refusal_laws.proofs.Lists.{and_then_err, and_then_ok}
@@ -58,7 +58,7 @@ module _ (command : CommandLine) (read : Reads) where
         | inr next ↦ inr (record { database = next.0; is_database = next.1; first = operand_refused command next.0.packages refusal next.2 })
       ]
 
-  pub info_late : (done : ReportAndRefusal) (refusal : Refusal) → info_result command read ≡ Ok done → done.following_refusal ≡ Some refusal → (command.flags.installed ≡ true) × IsFaultOfOperandNotInstalled command read refusal
+  pub info_late : (done : ReportAndRefusal) (refusal : Refusal) → info_result command read ≡ Ok done → done.following_refusal ≡ Some refusal → (command.flags.installed ≡ true) × IsFaultOfFirstOperandNotFoundInstalled command read refusal
   info_late done refusal e following_refusal =
       let found = and_then_ok (database_for command read) (λ database. info_of command database.packages) done e in
       let is = operand_late command found.0.packages done refusal found.2 following_refusal in

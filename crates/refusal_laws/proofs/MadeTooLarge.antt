@@ -18,7 +18,7 @@ use Rattle.outcome.specs.make_package.Making.{container_unless_too_large, made_p
 use Rattle.outcome.specs.package_files.Package.{Script, SourceFileNameAndBytes, SourceFolder, contents_of_folders, installed_size, value_of_package}
 use Rattle.outcome.specs.package_files.Sources.{results_from_read, source_file_at_place_by_read, source_folder_at_place_by_read, source_folders_of_first_option_only, found_bytes_or_missing, and_then, script_at, script_with, scripts_from_read, source_file_named_by_last_part, source_files_at_place_from_read, texts_of, values_of_letter}
 use Rattle.outcome.specs.pkg_core.Contents.{Contents}
-use Rattle.refusal_laws.specs.MadeTooLarge.{IsPackageToBeMadeTooLarge}
+use Rattle.refusal_laws.specs.MadeTooLarge.{IsPackageToBeMadeTooLargeFirstAtCounts}
 use Rattle.refusal_laws.proofs.ChangeFaults.{too_large}
 
 -- ---- nothing that is read is too large
@@ -88,7 +88,7 @@ module _ (bytes values : ℕ) where
   unfolding package_container
   container_counts v contents e = counts_of (counts_at_first_overflow v) v contents e
 
-  pub made_too_large : (command : CommandLine) (names : List (List ℕ)) (read : Reads) → made_package command names read ≡ Err (TooLarge bytes values) → IsPackageToBeMadeTooLarge command names read bytes values
+  pub made_too_large : (command : CommandLine) (names : List (List ℕ)) (read : Reads) → made_package command names read ≡ Err (TooLarge bytes values) → IsPackageToBeMadeTooLargeFirstAtCounts command names read bytes values
   unfolding made_package
   made_too_large command names read e =
       elim (success_err scripts then_scripts (TooLarge bytes values) e) [

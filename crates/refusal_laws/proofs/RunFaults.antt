@@ -5,14 +5,14 @@ use Rattle.base_core.specs.declared.cause.Cause.{Cause}
 use Rattle.outcome.specs.change_outcome.ChangeOutcome.{ChangeDone}
 use Rattle.command_core.specs.Command.{CommandLine}
 use Rattle.outcome.specs.engine_core.Changed.{IsFirstClashOfCommand, change_of_command}
-use Rattle.outcome.specs.engine_core.Choice.{IsPreferredChoiceUnlessRefused}
+use Rattle.outcome.specs.engine_core.Choice.{IsPreferredChoiceOrNoneIfRefused}
 use Rattle.outcome.specs.engine_core.Selecting.{pool_of_command}
 use Rattle.outcome.specs.journal_core.Recovery.{intent_name}
 use Rattle.outcome.specs.journal_core.Staged.{unstaged_files}
 use Rattle.outcome.specs.Changing.{change_outcome}
 use Rattle.outcome.specs.Commands.{IsOutcomeOverRecoveredFiles, reads_in}
 use Rattle.outcome.specs.Effect.{Changes, Effect, effect_of}
-use Rattle.outcome.specs.Given.{IsChoiceForCommand, IsFirstClashForEffect}
+use Rattle.outcome.specs.Given.{IsPreferredChoiceForChangeElseNone, IsFirstClashForChangeElseNone}
 use Rattle.outcome.specs.Outcome.{Outcome, just_refusal}
 use Rattle.outcome.specs.Work.{fault_of_intent}
 use Rattle.outcome.proofs.Applets.{change_is}
@@ -29,8 +29,8 @@ refused_is files (Err first) refusal e = ap (λ (r : Refusal). Err r) (some_same
 
 pub over_fault : (command : CommandLine) (files : Files) (o : Outcome) (refusal : Refusal) → effect_of command.applet ≡ Changes → IsOutcomeOverRecoveredFiles command files o → o.refusal ≡ Some refusal → IsFaultOfCommandOverFiles command files refusal
 over_fault command files o refusal changes (given, is, outcome) e =
-    let choice : IsPreferredChoiceUnlessRefused (pool_of_command command (reads_in files)) given.chosen = subst (λ (x : Effect). IsChoiceForCommand x command (reads_in files) given.chosen) changes is.chosen in
-    let clash : IsFirstClashOfCommand command (reads_in files) files given.chosen given.clash = subst (λ (x : Effect). IsFirstClashForEffect x command (reads_in files) files given.chosen given.clash) changes is.clash in
+    let choice : IsPreferredChoiceOrNoneIfRefused (pool_of_command command (reads_in files)) given.chosen = subst (λ (x : Effect). IsPreferredChoiceForChangeElseNone x command (reads_in files) given.chosen) changes is.chosen in
+    let clash : IsFirstClashOfCommand command (reads_in files) files given.chosen given.clash = subst (λ (x : Effect). IsFirstClashForChangeElseNone x command (reads_in files) files given.chosen given.clash) changes is.clash in
     let same : change_outcome files (change_of_command command (reads_in files) files given.chosen given.clash) ≡ o = change_is command.applet command given (reads_in files) files changes ∙ sym outcome in
     record {
       chosen = given.chosen;

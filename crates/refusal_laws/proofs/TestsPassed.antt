@@ -10,7 +10,7 @@ use Rattle.outcome.specs.change_files.PlanLists.{first_reserved_added_path_in_by
 use Rattle.outcome.proofs.change_files.InOrder.{in_order}
 use Rattle.outcome.specs.change_inputs.Chains.{and_then}
 use Rattle.outcome.specs.change_inputs.Inputs.{Inputs}
-use Rattle.outcome.specs.change_outcome.ChangeOutcome.{ChangeDone, ChangeWishes, IsFirstClashUnlessMembersRefused, IsFirstClashOfChange, members_after_change, change_or_refusal, change_with_members, packages_before_and_after_with_purge, member_name_at_place, touched_paths, unless_clash, unless_contested, unless_reserved_path, change_done_unless_too_large}
+use Rattle.outcome.specs.change_outcome.ChangeOutcome.{ChangeDone, ChangeWishes, IsFirstClashUnlessMembersRefused, IsFirstClashOfChange, members_after_change, change_or_refusal, change_with_members, packages_before_and_after_with_purge, member_name_at_place, touched_paths, unless_clash, unless_contested, unless_reserved_path, change_done_unless_over_writer_limits}
 use Rattle.outcome.specs.change_outcome.MembersAfter.{MemberFound}
 use Rattle.outcome.specs.change_outcome.PackageFiles.{has_script_with_number}
 use Rattle.report_core.specs.Numbers.{TRIGGER_SCRIPT}
@@ -65,7 +65,7 @@ module _ (inputs : Inputs) (r : Replacement) (wishes : ChangeWishes) (files : Fi
   IsSo refusal = HasPassedFileTestsBeforeRefusal wishes change files refusal
 
   abbrev with_triggers : Result ChangeDone Refusal
-  with_triggers = and_then (unless_trigger_due wishes.no_scripts (touched_paths change files) change.members) (λ is_allowed. change_done_unless_too_large inputs r wishes found files)
+  with_triggers = and_then (unless_trigger_due wishes.no_scripts (touched_paths change files) change.members) (λ is_allowed. change_done_unless_over_writer_limits inputs r wishes found files)
 
   -- ---- refused
 
@@ -79,7 +79,7 @@ module _ (inputs : Inputs) (r : Replacement) (wishes : ChangeWishes) (files : Fi
 
   triggers_passed : (refusal : Refusal) → HasNoReservedClashingOrUnownedPath change files → with_triggers ≡ Err refusal → IsSo refusal
   triggers_passed refusal owners e =
-      elim (and_then_err (unless_trigger_due wishes.no_scripts (touched_paths change files) change.members) (λ is_allowed. change_done_unless_too_large inputs r wishes found files) refusal e) [
+      elim (and_then_err (unless_trigger_due wishes.no_scripts (touched_paths change files) change.members) (λ is_allowed. change_done_unless_over_writer_limits inputs r wishes found files) refusal e) [
         | inl first ↦ trigger_passed wishes.no_scripts refusal owners first
         | inr next ↦ (let told = large_told inputs r wishes files found refusal next.2 in
             subst IsSo told.2 (owners, no_trigger wishes change files next.0 next.1))
@@ -107,7 +107,7 @@ module _ (inputs : Inputs) (r : Replacement) (wishes : ChangeWishes) (files : Fi
 
   owners_made : (o : Option ContestedPath) (done : ChangeDone) → first_contested_member_path_in_byte_order change.members ≡ o → HasNoReservedOrClashingPath change files → unless_contested change.members o with_triggers ≡ Ok done → PassesChangeTestsExceptLimits wishes change files
   owners_made None done is names e =
-      let triggers = and_then_ok (unless_trigger_due wishes.no_scripts (touched_paths change files) change.members) (λ is_allowed. change_done_unless_too_large inputs r wishes found files) done e in
+      let triggers = and_then_ok (unless_trigger_due wishes.no_scripts (touched_paths change files) change.members) (λ is_allowed. change_done_unless_over_writer_limits inputs r wishes found files) done e in
       ((names, have_owners change.members is), no_trigger wishes change files triggers.0 triggers.1)
   owners_made (Some c) done is names e = absurd (cc (e))
 

@@ -26,7 +26,7 @@ use Rattle.outcome.specs.package_changes.Changes.{Replacement}
 use Rattle.outcome.specs.path_clashes.Clash.{IsFirstClash}
 use Rattle.report_core.specs.declared.refusal.Refusal.{Refusal}
 use Rattle.report_core.specs.declared.refusal.Refusal.TheVariants.{Owned, PackageBad, PackageDiffers, PackageMissing, PathClash, Reserved, ResultTooLarge, ScriptNeeded, TriggerNeeded}
-use Rattle.refusal_laws.specs.PackageFaults.{IsAddedPackageFileBad, IsAddedPackageFileMissing, IsFileOfOtherPackage, IsFirstUnskippedScriptOfPackage}
+use Rattle.refusal_laws.specs.PackageFaults.{IsAddedPackageFileBad, IsAddedPackageFileMissing, IsFileOfOtherPackage, IsFirstScriptToRunForPackageChange}
 
 -- ---- paths
 
@@ -104,18 +104,18 @@ pub record IsTriggerDueAndNotSkipped (wishes : ChangeWishes) (change : FileChang
 -- ---- limits
 
 -- the payload of a value exceeds a limit of the writer, first at these numbers of bytes and values
-abbrev pub IsTooLarge : Plain → ℕ → ℕ → Type 0
-IsTooLarge v bytes values =
+abbrev pub IsTooLargeFirstAtCounts : Plain → ℕ → ℕ → Type 0
+IsTooLargeFirstAtCounts v bytes values =
     (counts_at_first_overflow v ≡ Some (bytes, values)) × (exceeds_a_limit (bytes, values) ≡ true)
 
 -- the database after the change, with these members, exceeds a limit of the writer at these numbers of bytes and values
-abbrev pub IsDatabaseTooLarge : List Member → ℕ → ℕ → Type 0
-IsDatabaseTooLarge members bytes values =
-    IsTooLarge (database_value members (owned_flags_of members)) bytes values
+abbrev pub IsDatabaseTooLargeFirstAtCounts : List Member → ℕ → ℕ → Type 0
+IsDatabaseTooLargeFirstAtCounts members bytes values =
+    IsTooLargeFirstAtCounts (database_value members (owned_flags_of members)) bytes values
 
 -- the new database fits the limits of the writer, and the intent of the change exceeds one at these numbers of bytes
 -- and values
-pub record IsOnlyIntentTooLarge (inputs : Inputs) (change : FileChange) (files : Files)
+pub record IsOnlyIntentTooLargeFirstAtCounts (inputs : Inputs) (change : FileChange) (files : Files)
     (bytes values : ℕ) : Type 0 where
   -- the bytes of the new database, which fits the limits
   pub database : List ℕ
@@ -123,13 +123,13 @@ pub record IsOnlyIntentTooLarge (inputs : Inputs) (change : FileChange) (files :
   -- the value of the intent exceeds a limit, at these numbers of bytes and values
   pub passes : (let actions =
       intent_of_change inputs change files (database_and_world_after_change inputs database) in
-      IsTooLarge (value_of_intent actions) bytes values)
+      IsTooLargeFirstAtCounts (value_of_intent actions) bytes values)
 
 -- what a change writes exceeds a limit of the writer: the new database, or, if that fits, the intent
-abbrev pub IsDatabaseOrIntentTooLarge : Inputs → FileChange → Files → ℕ → ℕ → Type 0
-IsDatabaseOrIntentTooLarge inputs change files bytes values =
-    IsDatabaseTooLarge change.members bytes values
-    ⊎ IsOnlyIntentTooLarge inputs change files bytes values
+abbrev pub IsDatabaseOrIntentTooLargeFirstAtCounts : Inputs → FileChange → Files → ℕ → ℕ → Type 0
+IsDatabaseOrIntentTooLargeFirstAtCounts inputs change files bytes values =
+    IsDatabaseTooLargeFirstAtCounts change.members bytes values
+    ⊎ IsOnlyIntentTooLargeFirstAtCounts inputs change files bytes values
 
 -- ---- each refusal
 
@@ -145,7 +145,7 @@ IsFaultOfFiles inputs wishes files found (Owned path first second) =
 IsFaultOfFiles inputs wishes files found (TriggerNeeded name) =
     IsTriggerDueAndNotSkipped wishes (packages_before_and_after_with_purge inputs wishes found) files name
 IsFaultOfFiles inputs wishes files found (ResultTooLarge bytes values) =
-    IsDatabaseOrIntentTooLarge inputs
+    IsDatabaseOrIntentTooLargeFirstAtCounts inputs
     (packages_before_and_after_with_purge inputs wishes found) files bytes values
 IsFaultOfFiles inputs wishes files found other = ⊥
 
@@ -158,7 +158,7 @@ IsFaultOfPackage inputs r wishes read (PackageBad name version cause) =
 IsFaultOfPackage inputs r wishes read (PackageDiffers name version field wanted found) =
     IsFileOfOtherPackage inputs r read name version field wanted found
 IsFaultOfPackage inputs r wishes read (ScriptNeeded name script) =
-    IsFirstUnskippedScriptOfPackage inputs r wishes read name script
+    IsFirstScriptToRunForPackageChange inputs r wishes read name script
 IsFaultOfPackage inputs r wishes read other = ⊥
 
 -- a refusal of a change is true: of an added or removed package; or no such package is refused, and the files that the

@@ -32,7 +32,7 @@ IsNameUnknownToDelUpgradeOrFix Fix inputs name = is_installed_name inputs name �
 IsNameUnknownToDelUpgradeOrFix applet inputs name = ⊥
 
 -- the operand at this place of the command line is a name that the command does not know
-pub record IsOperandRefusedAsNotInstalled (command : CommandLine) (inputs : Inputs)
+pub record IsOperandUnknownToDelUpgradeOrFix (command : CommandLine) (inputs : Inputs)
     (place : ℕ) : Type 0 where
   -- an operand of the command
   pub operand : Operand
@@ -54,15 +54,16 @@ pub record IsNewWorldUnsatisfiable (command : CommandLine) (inputs : Inputs) : T
 -- operand, or the new world
 abbrev pub IsFaultOfSelection : CommandLine → Inputs → Refusal → Type 0
 IsFaultOfSelection command inputs (TooMany count) = AreTooManyAndCountIsLimitPlusOne inputs count
-IsFaultOfSelection command inputs (NotInstalled place) = IsOperandRefusedAsNotInstalled command inputs place
+IsFaultOfSelection command inputs (NotInstalled place) =
+    IsOperandUnknownToDelUpgradeOrFix command inputs place
 IsFaultOfSelection command inputs Unsatisfied = IsNewWorldUnsatisfiable command inputs
 IsFaultOfSelection command inputs other = ⊥
 
 -- ---- a command
 
 -- the inputs of the command are read, and the refusal is true of the candidates, an operand or the new world
-abbrev pub IsSelectionRefused : CommandLine → Reads → Refusal → Type 0
-IsSelectionRefused command read refusal =
+abbrev pub IsFaultOfSelectionOverReads : CommandLine → Reads → Refusal → Type 0
+IsFaultOfSelectionOverReads command read refusal =
     (inputs : Inputs) × (inputs_of command read ≡ Ok inputs)
     × IsFaultOfSelection command inputs refusal
 
@@ -81,5 +82,5 @@ abbrev pub IsFaultOfCommandByCandidatePlaces : CommandLine → Reads → Files �
     → Type 0
 IsFaultOfCommandByCandidatePlaces command read files chosen refusal =
     IsFaultOfInput command read refusal
-    ⊎ (IsSelectionRefused command read refusal
+    ⊎ (IsFaultOfSelectionOverReads command read refusal
     ⊎ IsFaultOfUnsimulatedChangeByCandidatePlaces command read files chosen refusal)

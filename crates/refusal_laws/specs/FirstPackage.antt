@@ -20,7 +20,7 @@ refused_name other = []
 
 -- the package that a refusal refuses is the first with a fault: no package with a fault precedes it in byte order of
 -- the names, and it has no other fault
-pub record HasNoEarlierFaultyPackageOrOtherFault (inputs : Inputs) (r : Replacement) (wishes : ChangeWishes)
+pub record HasNoOtherFaultInSameOrEarlierPackage (inputs : Inputs) (r : Replacement) (wishes : ChangeWishes)
     (read : Reads) (refusal : Refusal) : Type 0 where
   -- no package with a fault has a name that precedes the name of the refused package
   pub first : (other : Refusal) → IsFaultOfPackage inputs r wishes read other

@@ -62,7 +62,7 @@ pub record IsFirstNotInstalled (command : CommandLine) (packages : List Plain)
 -- ---- a refusal
 
 -- the database is read, and the refusal is that of an operand which asks for what the database does not have
-pub record IsFaultOfOperandNotInstalled (command : CommandLine) (read : Reads)
+pub record IsFaultOfFirstOperandNotFoundInstalled (command : CommandLine) (read : Reads)
     (refusal : Refusal) : Type 0 where
   -- the database that the command reads
   pub database : Database
@@ -73,7 +73,7 @@ pub record IsFaultOfOperandNotInstalled (command : CommandLine) (read : Reads)
 -- a refusal of `info` is true: of the database; or, if the database is read, of an operand
 abbrev pub IsFaultOfInfo : CommandLine → Reads → Refusal → Type 0
 IsFaultOfInfo command read refusal =
-    IsFaultOfDatabase command read refusal ⊎ IsFaultOfOperandNotInstalled command read refusal
+    IsFaultOfDatabase command read refusal ⊎ IsFaultOfFirstOperandNotFoundInstalled command read refusal
 
 -- the database is read, and what each operand of the command asks for is in it
 pub record AreOperandsFoundInstalled (command : CommandLine) (read : Reads) : Type 0 where

@@ -16,7 +16,7 @@ abbrev pub AreKnownOperands : CommandLine → Inputs → List Operand → Type 0
 AreKnownOperands command inputs operands =
     (o : Operand) → IsIn o operands → IsNameUnknownToDelUpgradeOrFix command.applet inputs o.text → ⊥
 
--- each operand of the command before the one at this place is known to the command (*IsOperandRefusedAsNotInstalled* says that this
+-- each operand of the command before the one at this place is known to the command (*IsOperandUnknownToDelUpgradeOrFix* says that this
 -- one is not)
 pub record IsFirstUnknown (command : CommandLine) (inputs : Inputs) (place : ℕ) : Type 0 where
   -- the operands of the command: those before the one at this place, this one, and those after it

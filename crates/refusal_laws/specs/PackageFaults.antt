@@ -95,7 +95,7 @@ IsAddedOrRemoved inputs r read name pkg =
 -- The change would have to run the script with this number of the package of this name, and `--no-scripts` is not
 -- given. The script is the first that the package has of those that would have to run. `script` is its number in table
 -- 6 of `docs/formats.md`, "Schemas".
-pub record IsFirstUnskippedScriptOfPackage (inputs : Inputs) (r : Replacement) (wishes : ChangeWishes)
+pub record IsFirstScriptToRunForPackageChange (inputs : Inputs) (r : Replacement) (wishes : ChangeWishes)
     (read : Reads) (name : List ℕ) (script : ℕ) : Type 0 where
   -- `--no-scripts` is not given
   pub asked : wishes.no_scripts ≡ false

@@ -4,7 +4,7 @@ use Rattle.std.specs.Prelude.{◌≡◌, ◌⊎◌, ℕ, List, Option, Some, Non
 use Rattle.base_core.specs.Files.{Files}
 use Rattle.base_core.specs.declared.cause.Cause.{Cause}
 use Rattle.command_core.specs.Command.{CommandLine}
-use Rattle.outcome.specs.engine_core.Choice.{IsPreferredChoiceUnlessRefused}
+use Rattle.outcome.specs.engine_core.Choice.{IsPreferredChoiceOrNoneIfRefused}
 use Rattle.outcome.specs.engine_core.Selecting.{pool_of_command}
 use Rattle.outcome.specs.journal_core.Recovery.{intent_name}
 use Rattle.outcome.specs.journal_core.Staged.{unstaged_files}
@@ -20,7 +20,7 @@ pub record IsFaultOfCommandOverFiles (command : CommandLine) (files : Files)
     (refusal : Refusal) : Type 0 where
   -- the places of the candidates of the first preferred selection, if there is one
   pub chosen : Option (List ℕ)
-  pub choice : IsPreferredChoiceUnlessRefused (pool_of_command command (reads_in files)) chosen
+  pub choice : IsPreferredChoiceOrNoneIfRefused (pool_of_command command (reads_in files)) chosen
   -- the refusal of the command is true for these candidates
   pub fault : IsFaultOfCommandByCandidatePlaces command (reads_in files) files chosen refusal
 

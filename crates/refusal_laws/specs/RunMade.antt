@@ -17,7 +17,8 @@ use Rattle.refusal_laws.specs.TestsPassed.{PassesChangeTestsExceptLimits}
 
 -- a run has taken the first preferred selection: there is one, the packages after the change are exactly the selected
 -- ones, and the files that they leave have no fault
-pub record HasFirstSelectionFaultlessExceptLimits (command : CommandLine) (files : Files) : Type 0 where
+pub record InstallsFirstSelectionFaultlessExceptLimits (command : CommandLine)
+    (files : Files) : Type 0 where
   -- the candidates of the command, under its new world
   pub pool : SelectionProblem
   pub is_pool : pool_of_command command (reads_in files) ≡ Ok pool

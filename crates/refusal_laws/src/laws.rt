@@ -9,7 +9,7 @@ ghost use Rattle.outcome.specs.change_outcome.ChangeOutcome.{ChangeDone, ChangeW
 ghost use Rattle.outcome.specs.change_outcome.MembersAfter.{MemberFound};
 ghost use Rattle.command_core.specs.Command.{CommandLine};
 ghost use Rattle.outcome.specs.engine_core.Changed.{IsFirstClashOfCommand, change_of_command, selected_from_inputs_by_choice};
-ghost use Rattle.outcome.specs.engine_core.Choice.{IsPreferredChoiceUnlessRefused};
+ghost use Rattle.outcome.specs.engine_core.Choice.{IsPreferredChoiceOrNoneIfRefused};
 ghost use Rattle.outcome.specs.engine_core.Selecting.{pool_of_command};
 ghost use Rattle.outcome.specs.installed_info.declared.telling.ReportAndRefusal.{ReportAndRefusal};
 ghost use Rattle.outcome.specs.make_info.Reads.{Reads};
@@ -24,16 +24,16 @@ ghost use Rattle.outcome.specs.path_clashes.Clash.{NamePair};
 ghost use Rattle.report_core.specs.declared.refusal.Refusal.{Refusal};
 ghost use Rattle.refusal_laws.specs.ChangeFaults.{IsFaultOfChange, IsFaultOfPackage};
 ghost use Rattle.refusal_laws.specs.CommandFaults.{IsFaultOfCommandByCandidatePlaces};
-ghost use Rattle.refusal_laws.specs.FirstPackage.{HasNoEarlierFaultyPackageOrOtherFault};
-ghost use Rattle.refusal_laws.specs.InfoFaults.{AreOperandsFoundInstalled, IsFaultOfDatabase, IsFaultOfInfo, IsFaultOfOperandNotInstalled};
+ghost use Rattle.refusal_laws.specs.FirstPackage.{HasNoOtherFaultInSameOrEarlierPackage};
+ghost use Rattle.refusal_laws.specs.InfoFaults.{AreOperandsFoundInstalled, IsFaultOfDatabase, IsFaultOfInfo, IsFaultOfFirstOperandNotFoundInstalled};
 ghost use Rattle.refusal_laws.specs.InputFaults.{IsFaultOfInput};
-ghost use Rattle.refusal_laws.specs.MadeTooLarge.{IsPackageToBeMadeTooLarge};
+ghost use Rattle.refusal_laws.specs.MadeTooLarge.{IsPackageToBeMadeTooLargeFirstAtCounts};
 ghost use Rattle.refusal_laws.specs.OperandsKnown.{HasPassedTestsBeforeSelectionRefusal};
 ghost use Rattle.refusal_laws.specs.PackagesAfter.{AreSelectedMembers};
 ghost use Rattle.refusal_laws.specs.QueryFaults.{IsFaultOfInputOrTooManyCandidates};
 ghost use Rattle.refusal_laws.specs.ReadBefore.{HasPassedTestsBeforeInputRefusal};
 ghost use Rattle.refusal_laws.specs.RunFaults.{IsFaultOfRun, IsFaultOfCommandOverFiles};
-ghost use Rattle.refusal_laws.specs.RunMade.{HasFirstSelectionFaultlessExceptLimits};
+ghost use Rattle.refusal_laws.specs.RunMade.{InstallsFirstSelectionFaultlessExceptLimits};
 ghost use Rattle.refusal_laws.specs.TestsPassed.{HasPassedFileTestsBeforeRefusal, PassesChangeTestsExceptLimits};
 ghost use Rattle.outcome.specs.tell_core.AuditResult.{audit_result, manifest_result};
 ghost use Rattle.outcome.specs.tell_core.InfoResult.{info_result};
@@ -65,7 +65,8 @@ pub fn a_refused_info_has_its_fault()
     ensures following_refusal { (command : CommandLine) (read : Reads) (done : ReportAndRefusal)
         (refusal : Refusal)
         → info_result command read ≡ Ok done → done.following_refusal ≡ Some refusal
-        → (command.flags.installed ≡ true) × IsFaultOfOperandNotInstalled command read refusal }
+        → (command.flags.installed ≡ true)
+        × IsFaultOfFirstOperandNotFoundInstalled command read refusal }
     // Without a refusal, the database has what each operand asks for.
     ensures told { (command : CommandLine) (read : Reads) (done : ReportAndRefusal)
         → info_result command read ≡ Ok done → done.following_refusal ≡ None
@@ -127,7 +128,7 @@ pub fn a_refused_command_has_its_fault()
     ensures { (command : CommandLine) (read : Reads) (files : Files) (chosen : Option (List ℕ))
         (clash : Option NamePair) (refusal : Refusal)
         → change_of_command command read files chosen clash ≡ Err refusal
-        → IsPreferredChoiceUnlessRefused (pool_of_command command read) chosen
+        → IsPreferredChoiceOrNoneIfRefused (pool_of_command command read) chosen
         → IsFirstClashOfCommand command read files chosen clash
         → IsFaultOfCommandByCandidatePlaces command read files chosen refusal }
 {}
@@ -178,7 +179,7 @@ pub fn a_change_that_is_made_has_no_fault()
 pub fn a_refused_package_is_the_first_with_a_fault()
     ensures { (inputs : Inputs) (r : Replacement) (wishes : ChangeWishes) (read : Reads)
         (refusal : Refusal) → members_after_change inputs r wishes read ≡ Err refusal
-        → HasNoEarlierFaultyPackageOrOtherFault inputs r wishes read refusal }
+        → HasNoOtherFaultInSameOrEarlierPackage inputs r wishes read refusal }
 {}
 
 /// The packages after a change are the selected ones. An added one is as in its file, with the
@@ -196,7 +197,8 @@ pub fn the_packages_after_a_run_are_those_of_the_first_selection()
     ensures { (command : CommandLine) (files : Files) (o : Outcome)
         → effect_of command.applet ≡ Changes → IsOutcomeOverRecoveredFiles command files o
         → o.refusal ≡ None
-        → command.flags.simulate ≡ false → HasFirstSelectionFaultlessExceptLimits command files }
+        → command.flags.simulate ≡ false
+        → InstallsFirstSelectionFaultlessExceptLimits command files }
 {
     // A law that the proof needs; it has no effect at run time.
     a_change_takes_the_first_selection_or_is_refused();
@@ -207,5 +209,5 @@ pub fn the_packages_after_a_run_are_those_of_the_first_selection()
 pub fn a_package_that_is_too_large_is_refused_with_its_counts()
     ensures { (command : CommandLine) (names : List (List ℕ)) (read : Reads) (bytes values : ℕ)
         → made_package command names read ≡ Err (TooLarge bytes values)
-        → IsPackageToBeMadeTooLarge command names read bytes values }
+        → IsPackageToBeMadeTooLargeFirstAtCounts command names read bytes values }
 {}

@@ -20,7 +20,7 @@ use Rattle.report_core.specs.declared.refusal.Refusal.{Refusal}
 use Rattle.report_core.specs.declared.refusal.Refusal.TheVariants.{IndexBad, RepositoriesBad}
 use Rattle.root_names.specs.RootNames.{repositories_name, world_name}
 use Rattle.root_laws.specs.NextInputs.{HasDatabaseAndWorldOfRootLeft, IsRefusalOfRepositoriesOrIndex}
-use Rattle.root_laws.specs.RootLeft.{IsRootLeftToLaterCommandsByChange, ReadsDatabaseAndWorldOfFiles, database_of_members}
+use Rattle.root_laws.specs.RootLeft.{LaterCommandsFindMembersAndNewWorld, ReadsDatabaseAndWorldOfFiles, database_of_members}
 use Rattle.root_laws.proofs.SoundBefore.{inputs_parts}
 
 -- ---- inputs
@@ -29,7 +29,7 @@ one_answer : {A : Type 0} (r : Result A Refusal) (x y : A) → r ≡ Ok x → r 
 one_answer (Ok a) x y e h = (cc (e, h))
 one_answer (Err refusal) x y e h = absurd (cc (e))
 
-pub begins : (command later : CommandLine) (read next : Reads) (chosen : Option (List ℕ)) (done : ChangeDone) (left : IsRootLeftToLaterCommandsByChange command read chosen done) (inputs : Inputs)
+pub begins : (command later : CommandLine) (read next : Reads) (chosen : Option (List ℕ)) (done : ChangeDone) (left : LaterCommandsFindMembersAndNewWorld command read chosen done) (inputs : Inputs)
     → ReadsDatabaseAndWorldOfFiles done.files next → inputs_of later next ≡ Ok inputs → HasDatabaseAndWorldOfRootLeft left inputs
 begins command later read next chosen done left inputs reads e =
     let is = inputs_parts later next inputs e in
@@ -106,7 +106,7 @@ module _ (later : CommandLine) (next : Reads) (database : Database) (world : Lis
       then_fails (root_for later next) (λ root. and_then (indexes_of next root.repositories) (λ indexes. Ok (inputs_from_parts root indexes))) root_fails
       (λ root. then_fails (indexes_of next root.repositories) (λ indexes. Ok (inputs_from_parts root indexes)) (found_fail (index_reads_from next first_index_read_number root.repositories)) (λ indexes. tt))
 
-pub refused : (command later : CommandLine) (read next : Reads) (chosen : Option (List ℕ)) (done : ChangeDone) → IsRootLeftToLaterCommandsByChange command read chosen done → (refusal : Refusal)
+pub refused : (command later : CommandLine) (read next : Reads) (chosen : Option (List ℕ)) (done : ChangeDone) → LaterCommandsFindMembersAndNewWorld command read chosen done → (refusal : Refusal)
     → ReadsDatabaseAndWorldOfFiles done.files next → inputs_of later next ≡ Err refusal → IsRefusalOfRepositoriesOrIndex refusal
 refused command later read next chosen done left refusal reads e =
     subst (λ (r : Result Inputs Refusal). FailsOfRepositories r) e

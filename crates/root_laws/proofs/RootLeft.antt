@@ -21,7 +21,7 @@ use Rattle.engine_core.specs.path_clashes.Clash.{NamePair}
 use Rattle.engine_core.specs.candidate_core.Rank.{SelectionProblem}
 use Rattle.report_core.specs.declared.refusal.Refusal.{Refusal}
 use Rattle.root_names.specs.RootNames.{database_name, text_database_name, world_name}
-use Rattle.root_laws.specs.RootLeft.{AreAllReadFilesBytes, IsRootLeftToLaterCommandsByChange}
+use Rattle.root_laws.specs.RootLeft.{AreAllReadFilesBytes, LaterCommandsFindMembersAndNewWorld}
 use Rattle.root_laws.proofs.DatabaseLeft.{WrittenLaws, database_left}
 use Rattle.root_laws.proofs.MembersFound.{FilesMayCome, PackagesAreTested, members_ok}
 use Rattle.root_laws.proofs.NewWorld.{WorldsAreReadBack, root_world_left, world_text_left}
@@ -70,7 +70,7 @@ selected_ok command read chosen s e =
 -- ---- what is left
 
 module _ (laws : Laws) (command : CommandLine) (read : Reads) (files : Files) (chosen : Option (List ℕ)) (clash : Option NamePair) (done : ChangeDone) (bytes : AreAllReadFilesBytes read) where
-  with_made : (s : InputsAndReplacement) → selected_from_reads_by_choice command read chosen ≡ Ok s → IsChangeMade s.inputs s.replacement (wishes_of command) read clash files done → IsRootLeftToLaterCommandsByChange command read chosen done
+  with_made : (s : InputsAndReplacement) → selected_from_reads_by_choice command read chosen ≡ Ok s → IsChangeMade s.inputs s.replacement (wishes_of command) read clash files done → LaterCommandsFindMembersAndNewWorld command read chosen done
   with_made s is m =
       let of = selected_ok command read chosen s is in
       let root = inputs_parts command read s.inputs of.inputs in
@@ -102,7 +102,7 @@ module _ (laws : Laws) (command : CommandLine) (read : Reads) (files : Files) (c
   not_simulated s true off e = absurd (cc (off))
   not_simulated s false off e = e
 
-  pub root_left : change_of_command command read files chosen clash ≡ Ok done → command.flags.simulate ≡ false → IsRootLeftToLaterCommandsByChange command read chosen done
+  pub root_left : change_of_command command read files chosen clash ≡ Ok done → command.flags.simulate ≡ false → LaterCommandsFindMembersAndNewWorld command read chosen done
   unfolding change_of_command
   root_left e off =
       let s = and_then_ok (selected_from_reads_by_choice command read chosen) (change_of_selected command read files clash) done e in

@@ -8,12 +8,12 @@ use Rattle.command_core.specs.Command.{CommandLine}
 use Rattle.make_index.specs.make_info.Reads.{Reads}
 use Rattle.report_core.specs.declared.refusal.Refusal.{Refusal}
 use Rattle.report_core.specs.declared.refusal.Refusal.TheVariants.{IndexBad, IndexMissing, RepositoriesBad, Untrusted}
-use Rattle.root_laws.specs.RootLeft.{IsRootLeftToLaterCommandsByChange, database_of_members}
+use Rattle.root_laws.specs.RootLeft.{LaterCommandsFindMembersAndNewWorld, database_of_members}
 
 -- the inputs of a later command are those of the root that a change has left: the database is that of the packages
 -- after the change, and world is the new world of the change
 pub record HasDatabaseAndWorldOfRootLeft {command : CommandLine} {read : Reads} {chosen : Option (List ℕ)}
-    {done : ChangeDone} (left : IsRootLeftToLaterCommandsByChange command read chosen done)
+    {done : ChangeDone} (left : LaterCommandsFindMembersAndNewWorld command read chosen done)
     (inputs : Inputs) : Type 0 where
   -- the database of the later command has the packages after the earlier change
   pub database : inputs.root.database ≡ database_of_members (found_members left.found) left.bytes

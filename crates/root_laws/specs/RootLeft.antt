@@ -40,7 +40,7 @@ database_of_members members bytes =
 
 -- A change of this command, which is done with the result `done`, leaves a root in which each later command finds a
 -- database with the packages after the change, and the change's new world.
-pub record IsRootLeftToLaterCommandsByChange (command : CommandLine) (read : Reads)
+pub record LaterCommandsFindMembersAndNewWorld (command : CommandLine) (read : Reads)
     (chosen : Option (List ℕ))
     (done : ChangeDone) : Type 0 where
   -- the inputs of the change, and its replacement: the packages before, and the selected ones

@@ -11,7 +11,7 @@ ghost use Rattle.make_index.specs.make_info.Reads.{Reads};
 ghost use Rattle.engine_core.specs.path_clashes.Clash.{NamePair};
 ghost use Rattle.report_core.specs.declared.refusal.Refusal.{Refusal};
 ghost use Rattle.root_laws.specs.NextInputs.{HasDatabaseAndWorldOfRootLeft, IsRefusalOfRepositoriesOrIndex};
-ghost use Rattle.root_laws.specs.RootLeft.{AreAllReadFilesBytes, IsRootLeftToLaterCommandsByChange, ReadsDatabaseAndWorldOfFiles};
+ghost use Rattle.root_laws.specs.RootLeft.{AreAllReadFilesBytes, LaterCommandsFindMembersAndNewWorld, ReadsDatabaseAndWorldOfFiles};
 
 use adb_view::{values_have_their_shape, values_of_few_visits_have_no_fault};
 use dep_core::worlds_are_read_back;
@@ -33,7 +33,7 @@ pub fn what_a_change_leaves_is_read_by_the_next_run()
         (clash : Option NamePair) (done : ChangeDone) → AreAllReadFilesBytes read
         → change_of_command command read files chosen clash ≡ Ok done
         → command.flags.simulate ≡ false
-        → IsRootLeftToLaterCommandsByChange command read chosen done }
+        → LaterCommandsFindMembersAndNewWorld command read chosen done }
 {
     // Laws that the proof needs; they have no effect at run time.
     values_of_few_visits_have_no_fault();
@@ -57,13 +57,13 @@ pub fn a_command_begins_with_what_the_last_change_left()
     // If the inputs can be read, they are those of the root that the change has left.
     ensures inputs { (command later : CommandLine) (read next : Reads) (chosen : Option (List ℕ))
         (done : ChangeDone) (inputs : Inputs)
-        (left : IsRootLeftToLaterCommandsByChange command read chosen done)
+        (left : LaterCommandsFindMembersAndNewWorld command read chosen done)
         → ReadsDatabaseAndWorldOfFiles done.files next → inputs_of later next ≡ Ok inputs
         → HasDatabaseAndWorldOfRootLeft left inputs }
     // If the inputs cannot be read, the refusal is one of the repositories or of an index.
     ensures refused { (command later : CommandLine) (read next : Reads) (chosen : Option (List ℕ))
         (done : ChangeDone) (refusal : Refusal)
-        → IsRootLeftToLaterCommandsByChange command read chosen done
+        → LaterCommandsFindMembersAndNewWorld command read chosen done
         → ReadsDatabaseAndWorldOfFiles done.files next → inputs_of later next ≡ Err refusal
         → IsRefusalOfRepositoriesOrIndex refusal }
 {}

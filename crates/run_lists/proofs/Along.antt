@@ -1,6 +1,6 @@
 -- Along a list of runs, stops and crashes.
 use Rattle.std.proofs.Common.{◌≡◌, inl, inr, ⊎_elim, ℕ, false, List, [], ◌∷◌, Option, None, sym, subst, ◌∙◌}
-use Rattle.apk_front.specs.Moments.{IsOkRefusedOrOutputFault, IgnoresOutputScratchNameButNotIntent, IsDurableAndLeavesFiles, ignored_except_output}
+use Rattle.apk_front.specs.Moments.{IsOkRefusedOrOutputFault, IgnoresOutputScratchNameButNotIntent, IsDurableAndLeavesFiles, ignored_except_output_and_scratch}
 use Rattle.apk_front.specs.declared.answer.Answer.{Answer}
 use Rattle.apk_front.specs.declared.answer.Answer.TheVariants.{Ok as Done, Refused, TreeFault, OutFault, Memory}
 use Rattle.base_core.specs.Calls.{HoldsNow}
@@ -11,7 +11,7 @@ use Rattle.apk_front.specs.journal_core.Quiet.{EachCrashLeavesOld}
 use Rattle.apk_front.specs.journal_core.Recovery.{EachCrashLeavesStateOf, StateDependsOn, intent_name}
 use Rattle.apk_front.specs.outcome.Effect.{output}
 use Rattle.run_lists.specs.Events.{Crashes, Edits, Ends, RootEvent, HasNoUnfinishedRunSinceCrash, Reaches, ReachesOneCrashState, IsAllSynced, IsRunWithoutCommit, IsMomentOf, IsRunFrom, DiffersOnlyInUnsyncedBytes, PreservesOneCrashState, IsTransition, EnsuresOneCrashState, Run, Stops, Touches, ignored_after, ignored_after_answer, ignored_during_run, nothing_ignored, ignored_with_scratch, touched_outside_journal_or_ignored}
-use Rattle.run_lists.specs.Safety.{IsAtomic, IsSafeRun, AnswersOutcomeAndLeavesItsFiles}
+use Rattle.run_lists.specs.Safety.{IsAtomic, IsCrashSafeRun, AnswersOutcomeAndLeavesItsFiles}
 use Rattle.run_lists.proofs.AtMoments.{now_at}
 use Rattle.run_lists.proofs.Ending.{Resting, ends_at_rest, ends_so}
 use Rattle.run_lists.proofs.Facts.{Facts, Ignored}
@@ -64,7 +64,7 @@ module _ (facts : Facts) (start : Ignored) (off : start intent_name ≡ false) w
     hides (output words) (ignored_after start events) (after_hides start off events),
   )
 
-  pub seen_safe : (first v : TreeState) (events : List RootEvent) → IsDurable (StateDependsOn start) first → Reaches first events v → (run : Run) → IsRunFrom v run → IsSafeRun (ignored_after start events) v run
+  pub seen_safe : (first v : TreeState) (events : List RootEvent) → IsDurable (StateDependsOn start) first → Reaches first events v → (run : Run) → IsRunFrom v run → IsCrashSafeRun (ignored_after start events) v run
   seen_safe first v events is_durable seen run is_run = safe facts (ignored_after start events) v run is_run (after_hides start off events) (seen_durable first v events is_durable seen)
 
 -- ---- one state
@@ -87,7 +87,7 @@ by_no_output Q ignored run answer answers none q =
     by answer answers (subst (λ (o : Option (List ℕ)). Q (ignored_with_scratch o ignored)) none q)
   where
     by : (answer : Answer) → IsOkRefusedOrOutputFault answer → Q ignored → Q (ignored_after_answer answer run ignored)
-    by Done answers q = subst (λ (o : Option (List ℕ)). Q (ignored_except_output o ignored)) (sym none) q
+    by Done answers q = subst (λ (o : Option (List ℕ)). Q (ignored_except_output_and_scratch o ignored)) (sym none) q
     by (Refused r) answers q = q
     by OutFault answers q = q
     by TreeFault answers q = absurd answers

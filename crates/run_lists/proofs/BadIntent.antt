@@ -12,7 +12,7 @@ use Rattle.apk_front.specs.outcome.Effect.{Effect, Computes, OnlyReadsFiles, Ask
 use Rattle.apk_front.specs.outcome.Work.{fault_of_intent, recovery_fault}
 use Rattle.apk_front.specs.words_core.Grammar.{command_of}
 use Rattle.run_lists.specs.Events.{Crashes, Edits, Ends, RootEvent, IsRunFrom, IsTransition, Run, Stops, Touches}
-use Rattle.run_lists.specs.Reading.{HasBadIntent, ReachesByRuns, IsUnrestrictedRun, IsRunWith}
+use Rattle.run_lists.specs.Reading.{HasBadIntent, ReachesOnlyByRunsWith, IsUnrestrictedRun, IsRunWith}
 use Rattle.run_lists.proofs.AtMoments.{at_last, at_moment, now_at}
 
 fault_is_found : (files : Files) → HasBadIntent files → IsSome (fault_of_intent (files intent_name))
@@ -51,7 +51,7 @@ led_same v w Crashes bad any leads = absurd any
 led_same v w Edits bad any leads = absurd any
 led_same v w (Touches theirs) bad any leads = absurd any
 
-pub seen_same : (first w : TreeState) (events : List RootEvent) → HasBadIntent (files_of first) → ReachesByRuns IsUnrestrictedRun first events w → w ≡ first
+pub seen_same : (first w : TreeState) (events : List RootEvent) → HasBadIntent (files_of first) → ReachesOnlyByRunsWith IsUnrestrictedRun first events w → w ≡ first
 seen_same first w [] bad is = is
 seen_same first w (event ∷ earlier) bad (v, seen, any, leads) =
     let before = seen_same first v earlier bad seen in

@@ -38,7 +38,7 @@ use Rattle.apk_front.specs.outcome.Effect.{Effect, Computes, OnlyReadsFiles, Ask
 use Rattle.apk_front.specs.outcome.Given.{Given}
 use Rattle.apk_front.specs.outcome.Make.{files_with_output, index_report_line, make_outcome, outcome_unless_output_reserved}
 use Rattle.apk_front.specs.outcome.Outcome.{Outcome, commit_report, just_refusal}
-use Rattle.apk_front.specs.outcome.Words.{IsOutcome, IsOutcomeOfApplet}
+use Rattle.apk_front.specs.outcome.Words.{IsOutcome, IsOutcomeOfAppletIncludingRecovery}
 use Rattle.apk_front.specs.outcome.Work.{recovery_fault, files_recovered_if_needed}
 use Rattle.run_lists.proofs.BadIntent.{only_reads}
 use Rattle.apk_front.proofs.file_replacement.Suffix.{intent_is_no_scratch}
@@ -121,7 +121,7 @@ maker_none other command given files makes none = absurd (cc (makes))
 
 -- ---- by the words
 
-no_demo : (applet : Applet) (command : CommandLine) (files : Files) (o : Outcome) → (effect_of applet ≡ Computes → ⊥) → IsOutcomeOfApplet applet command files o → IsOutcomeWithoutDemo (Ok command) files o
+no_demo : (applet : Applet) (command : CommandLine) (files : Files) (o : Outcome) → (effect_of applet ≡ Computes → ⊥) → IsOutcomeOfAppletIncludingRecovery applet command files o → IsOutcomeWithoutDemo (Ok command) files o
 no_demo Demo command files o works is = absurd (works refl)
 no_demo other command files o works is = is
 

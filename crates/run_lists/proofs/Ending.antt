@@ -2,7 +2,7 @@
 use Rattle.std.proofs.Common.{◌≡◌, inl, inr, ℕ, Bool, true, false, List, Option, None, Some, refl, sym, ap, subst, ◌∙◌}
 use Rattle.std.specs.Prelude.{is_some, not}
 use Rattle.std.proofs.lemmas.Bool.{false≢true}
-use Rattle.apk_front.specs.Moments.{IsOkRefusedOrOutputFault, IsRefusedOutOfMemoryOrCommitsNothing, IsDurableAndLeavesFiles, ignored_except_output}
+use Rattle.apk_front.specs.Moments.{IsOkRefusedOrOutputFault, IsRefusedOutOfMemoryOrCommitsNothing, IsDurableAndLeavesFiles, ignored_except_output_and_scratch}
 use Rattle.apk_front.specs.declared.answer.Answer.{Answer}
 use Rattle.apk_front.specs.declared.answer.Answer.TheVariants.{Ok as Done, Refused, TreeFault, OutFault, Memory}
 use Rattle.apk_front.proofs.Carried.{no_refusal}
@@ -37,15 +37,15 @@ module _ (facts : Facts) (ignored : Ignored) (v : TreeState) (run : Run) (is_run
   pub leaves : IsOkRefusedOrOutputFault run.answer → AnswersOutcomeAndLeavesItsFiles ignored v run w
   leaves answers = now_at run.now (AnswersOutcomeAndLeavesItsFiles ignored v run) w (answered facts ignored v run is_run hidden is_durable answers) ends
 
-  rests_by : (answer : Answer) → IsOkRefusedOrOutputFault answer → Q (ignored_except_output (output run.words) ignored) w → Q (ignored_after_answer answer run ignored) w
+  rests_by : (answer : Answer) → IsOkRefusedOrOutputFault answer → Q (ignored_except_output_and_scratch (output run.words) ignored) w → Q (ignored_after_answer answer run ignored) w
   rests_by Done answers q = q
-  rests_by (Refused r) answers q = resting.more (ignored_except_output (output run.words) ignored) ignored w (but_fewer (output run.words) ignored) q
-  rests_by OutFault answers q = resting.more (ignored_except_output (output run.words) ignored) ignored w (but_fewer (output run.words) ignored) q
+  rests_by (Refused r) answers q = resting.more (ignored_except_output_and_scratch (output run.words) ignored) ignored w (but_fewer (output run.words) ignored) q
+  rests_by OutFault answers q = resting.more (ignored_except_output_and_scratch (output run.words) ignored) ignored w (but_fewer (output run.words) ignored) q
   rests_by TreeFault answers q = absurd answers
   rests_by Memory answers q = absurd answers
 
-  pub written : (l : AnswersOutcomeAndLeavesItsFiles ignored v run w) → l.outcome.commits ≡ true → Q (ignored_except_output (output run.words) ignored) w
-  written l commits = resting.rest (ignored_except_output (output run.words) ignored) l.outcome.files w l.reads (l.durable_state commits)
+  pub written : (l : AnswersOutcomeAndLeavesItsFiles ignored v run w) → l.outcome.commits ≡ true → Q (ignored_except_output_and_scratch (output run.words) ignored) w
+  written l commits = resting.rest (ignored_except_output_and_scratch (output run.words) ignored) l.outcome.files w l.reads (l.durable_state commits)
 
   -- an outcome that commits is at rest
   pub ends_at_rest : IsOkRefusedOrOutputFault run.answer → HasOutcomeThatCommits v run → Q (ignored_after_answer run.answer run ignored) w
@@ -60,18 +60,18 @@ module _ (facts : Facts) (ignored : Ignored) (v : TreeState) (run : Run) (is_run
     left_idle idle = is_unchanged (idle_end ignored v run is_run is_durable idle w ends)
 
     -- a maker's outcome commits where it is no refusal
-    no_output : (o : Option (List ℕ)) → output run.words ≡ o → (outcome : Outcome) → IsOutcomeFrom v run outcome → outcome.refusal ≡ None → outcome.commits ≡ false → Q ignored w → Q (ignored_except_output (output run.words) ignored) w
-    no_output None is outcome one none idle q = subst (λ (o : Option (List ℕ)). Q (ignored_except_output o ignored) w) (sym is) q
+    no_output : (o : Option (List ℕ)) → output run.words ≡ o → (outcome : Outcome) → IsOutcomeFrom v run outcome → outcome.refusal ≡ None → outcome.commits ≡ false → Q ignored w → Q (ignored_except_output_and_scratch (output run.words) ignored) w
+    no_output None is outcome one none idle q = subst (λ (o : Option (List ℕ)). Q (ignored_except_output_and_scratch o ignored) w) (sym is) q
     no_output (Some name) is outcome one none idle q =
         absurd (false≢true (sym idle ∙ facts.making run.words (files_of v) outcome (output_makes (command_of run.words) name is) one ∙ ap (λ (r : Option Refusal). not (is_some r)) none))
 
-    done_by : run.answer ≡ Done → (l : AnswersOutcomeAndLeavesItsFiles ignored v run w) → (b : Bool) → l.outcome.commits ≡ b → Q (ignored_except_output (output run.words) ignored) w
+    done_by : run.answer ≡ Done → (l : AnswersOutcomeAndLeavesItsFiles ignored v run w) → (b : Bool) → l.outcome.commits ≡ b → Q (ignored_except_output_and_scratch (output run.words) ignored) w
     done_by is l true commits = written l commits
     done_by is l false idle =
         no_output (output run.words) refl l.outcome l.is_outcome (done_not_refused l.outcome (subst (λ (a : Answer). Told a l.outcome) is l.answered)) idle (left_idle (inl (inr (l.outcome, l.is_outcome, idle))))
 
     out_by : (l : AnswersOutcomeAndLeavesItsFiles ignored v run w) → (b : Bool) → l.outcome.commits ≡ b → Q ignored w
-    out_by l true commits = resting.more (ignored_except_output (output run.words) ignored) ignored w (but_fewer (output run.words) ignored) (written l commits)
+    out_by l true commits = resting.more (ignored_except_output_and_scratch (output run.words) ignored) ignored w (but_fewer (output run.words) ignored) (written l commits)
     out_by l false idle = left_idle (inl (inr (l.outcome, l.is_outcome, idle)))
 
     ends_by : (answer : Answer) → run.answer ≡ answer → (run.answer ≡ TreeFault → Q (ignored_during_run run ignored) w) → Q (ignored_after_answer answer run ignored) w

@@ -3,7 +3,7 @@ use Rattle.std.proofs.Common.{◌≡◌, ◌⊎◌, inl, inr, ⊎_elim, ℕ, Boo
 use Rattle.std.specs.Prelude.{IsSome}
 use Rattle.std.specs.Str.{bytes_eq}
 use Rattle.std.proofs.lemmas.Bool.{false≢true, or_from}
-use Rattle.apk_front.specs.Moments.{AreStatesAsRecoveredOrOfCommittingRun, IsStateDuringRecoveryOrNext, HasFilesExceptTemporaryOnes, IsStateDuringRun, NamesAreDurableWithoutIntentExcept, is_temporary_name, output_names}
+use Rattle.apk_front.specs.Moments.{AreStatesAsRecoveredOrOfCommittingRun, IsStateDuringRecoveryOrNext, HasFilesExceptTemporaryOnes, IsStateDuringRunToNewFilesFromOld, NamesAreDurableExceptOutputIfNoIntent, is_temporary_name, output_names}
 use Rattle.base_core.specs.Calls.{HoldsNow}
 use Rattle.base_core.specs.Files.{Files, NameMap}
 use Rattle.base_core.specs.Tree.{File, TreeState, bytes_of_file_number, files_of}
@@ -21,7 +21,7 @@ use Rattle.apk_front.specs.outcome.Outcome.{Outcome}
 use Rattle.apk_front.specs.outcome.Work.{files_recovered_if_needed}
 use Rattle.apk_front.specs.words_core.Grammar.{command_of}
 use Rattle.run_lists.specs.Events.{Crashes, Edits, Ends, RootEvent, Reaches, IsMomentOf, IsOutcomeFrom, IsRunFrom, IsTransition, Run, Stops, Touches, ignored_after, ignored_during_run, ignored_with_scratch}
-use Rattle.run_lists.specs.Reading.{HasOldRecoveredOrOutcomeBytes, HasOutcomeBytes, ReachesByRuns, HasDurableRecoveredOrOutcomeBytes, IsNoJournalOutputOrIgnoredName, IsNoJournalOrTemporaryName, IsRunWith, HoldsAsReadAndAsRecovered, EachCommitPassesTestAtName}
+use Rattle.run_lists.specs.Reading.{HasOldRecoveredOrOutcomeBytes, HasOutcomeBytes, ReachesOnlyByRunsWith, HasRecoveredOrOutcomeBytesDurably, IsNoJournalOutputOrIgnoredName, IsNoJournalOrTemporaryName, IsRunWith, HoldsAsReadAndAsRecovered, EachCommitPassesTestAtName}
 use Rattle.run_lists.proofs.Along.{seen_durable}
 use Rattle.run_lists.proofs.AtMoments.{History, now_map, start_or_made}
 use Rattle.run_lists.proofs.Committed.{CommitsNoIntent}
@@ -55,7 +55,7 @@ module _ (v : TreeState) (run : Run) (m : TreeState) where
   -- an outcome's files
   abbrev pub Stands : Type 0
   Stands = (m ≡ v) ⊎ (IsStateDuringRecoveryOrNext Act (λ w. files_of w ≡ Work) v m
-      ⊎ ((o : Outcome) × IsOutcomeFrom v run o × (o.commits ≡ true) × IsStateDuringRecoveryOrNext Act (IsStateDuringRun Act (output run.words) o.files Work) v m))
+      ⊎ ((o : Outcome) × IsOutcomeFrom v run o × (o.commits ≡ true) × IsStateDuringRecoveryOrNext Act (IsStateDuringRunToNewFilesFromOld Act (output run.words) o.files Work) v m))
 
   pub located : IsRunFrom v run → IsMomentOf run m → Stands
   located is_run moment = by is_run.reads
@@ -63,7 +63,7 @@ module _ (v : TreeState) (run : Run) (m : TreeState) where
       by : AreStatesAsRecoveredOrOfCommittingRun (IsOutcomeFrom v run) Act (output run.words) v run.old run.now → Stands
       by (inl since) = ⊎_elim inl (λ p. inr (inl p)) (start_or_made (IsStateDuringRecoveryOrNext Act (λ w. files_of w ≡ Work) v) run v m is_run.begins since moment)
       by (inr (o, one, commits, since)) =
-          ⊎_elim inl (λ p. inr (inr (o, one, commits, p))) (start_or_made (IsStateDuringRecoveryOrNext Act (IsStateDuringRun Act (output run.words) o.files Work) v) run v m is_run.begins since moment)
+          ⊎_elim inl (λ p. inr (inr (o, one, commits, p))) (start_or_made (IsStateDuringRecoveryOrNext Act (IsStateDuringRunToNewFilesFromOld Act (output run.words) o.files Work) v) run v m is_run.begins since moment)
 
   -- ---- the bytes of a name
 
@@ -175,7 +175,7 @@ led_true no_intent test q stays v w Crashes at leaves leads = absurd leaves
 led_true no_intent test q stays v w Edits at leaves leads = absurd leaves
 led_true no_intent test q stays v w (Touches theirs) at leaves leads = absurd leaves
 
-pub seen_true : CommitsNoIntent → (test : Option (List ℕ) → Bool) (q : List ℕ) → (IsJournalName q → ⊥) → (first w : TreeState) (events : List RootEvent) → HoldsAsReadAndAsRecovered test q (files_of first) → ReachesByRuns (EachCommitPassesTestAtName test q) first events w → HoldsAsReadAndAsRecovered test q (files_of w)
+pub seen_true : CommitsNoIntent → (test : Option (List ℕ) → Bool) (q : List ℕ) → (IsJournalName q → ⊥) → (first w : TreeState) (events : List RootEvent) → HoldsAsReadAndAsRecovered test q (files_of first) → ReachesOnlyByRunsWith (EachCommitPassesTestAtName test q) first events w → HoldsAsReadAndAsRecovered test q (files_of w)
 seen_true no_intent test q stays first w [] at is = subst (λ (u : TreeState). HoldsAsReadAndAsRecovered test q (files_of u)) (sym is) at
 seen_true no_intent test q stays first w (event ∷ earlier) at (v, seen, leaves, leads) =
     led_true no_intent test q stays v w event (seen_true no_intent test q stays first v earlier at seen) leaves leads
@@ -251,8 +251,8 @@ module _ (v : TreeState) (run : Run) (m : TreeState) (there : IsSome (v.names in
   names_last : IsRunFrom v run → IsMomentOf run m → (map : NameMap) → IsCrashMap m map → (q : List ℕ) → (IsJournalName q → ⊥) → IsNoneOf q (output_names (output run.words)) → map q ≡ m.names q
   names_last is_run moment map is_map q stays other =
       ⊎_elim (λ is. absurd (not_first is))
-      (λ (last : NamesAreDurableWithoutIntentExcept (output run.words) m). last unread map is_map q other (λ is. stays (inl is)) (not_staged q stays))
-      (start_or_made (NamesAreDurableWithoutIntentExcept (output run.words)) run v m is_run.begins (is_run.last there) moment)
+      (λ (last : NamesAreDurableExceptOutputIfNoIntent (output run.words) m). last unread map is_map q other (λ is. stays (inl is)) (not_staged q stays))
+      (start_or_made (NamesAreDurableExceptOutputIfNoIntent (output run.words)) run v m is_run.begins (is_run.last there) moment)
 
   module _ (facts : Facts) (ignored : Ignored) (hidden : ignored intent_name ≡ false) (is_durable : IsDurable (StateDependsOn ignored) v) where
     left_as_read : IsRunFrom v run → IsMomentOf run m → (q : List ℕ) → IsNoJournalOutputOrIgnoredName ignored run q → (image : Files) → IsCrashImage m image → image q ≡ files_of m q
@@ -262,13 +262,13 @@ module _ (v : TreeState) (run : Run) (m : TreeState) (there : IsSome (v.names in
         synced_as_read m.files (map q) (image q) (λ n at. here.each map is_map q n (inr (inl counts)) at) (left q)
         ∙ ap (bytes_of_file_number m.files) (names_last is_run moment map is_map q name.waits name.other)
 
-    pub done_for_good : IsRunFrom v run → IsMomentOf run m → (q : List ℕ) → IsNoJournalOutputOrIgnoredName ignored run q → HasDurableRecoveredOrOutcomeBytes v run m q
+    pub done_for_good : IsRunFrom v run → IsMomentOf run m → (q : List ℕ) → IsNoJournalOutputOrIgnoredName ignored run q → HasRecoveredOrOutcomeBytesDurably v run m q
     done_for_good is_run moment q name = record {
       done = done_here q (not_staged q name.waits) (no_draft_by (effect_of_arguments (command_of run.words)) (output run.words) q name.other (not_staged q name.waits)) (located v run m is_run moment);
       lasts = left_as_read is_run moment q name;
     }
 
 pub seen_done : Facts → (ignored : Ignored) (first v m : TreeState) (events : List RootEvent) (run : Run) → ignored intent_name ≡ false → IsDurable (StateDependsOn ignored) first → Reaches first events v → IsRunFrom v run
-    → IsSome (v.names intent_name) → IsMomentOf run m → m.names intent_name ≡ None → (q : List ℕ) → IsNoJournalOutputOrIgnoredName (ignored_after ignored events) run q → HasDurableRecoveredOrOutcomeBytes v run m q
+    → IsSome (v.names intent_name) → IsMomentOf run m → m.names intent_name ≡ None → (q : List ℕ) → IsNoJournalOutputOrIgnoredName (ignored_after ignored events) run q → HasRecoveredOrOutcomeBytesDurably v run m q
 seen_done facts ignored first v m events run off is_durable seen is_run there moment unread q name =
     done_for_good v run m there unread facts (ignored_after ignored events) (after_hides ignored off events) (seen_durable facts ignored off first v events is_durable seen) is_run moment q name

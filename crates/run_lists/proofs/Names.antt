@@ -4,7 +4,7 @@ use Rattle.std.specs.Prelude.{IsTrue, if◌then◌else◌}
 use Rattle.std.specs.Str.{bytes_eq}
 use Rattle.std.proofs.lemmas.Bool.{false≢true, or_right, or_left}
 use Rattle.std.proofs.lemmas.Slice.Eq.{bytes_eq-Decides}
-use Rattle.apk_front.specs.Moments.{IgnoresOutputScratchNameButNotIntent, ignored_except_output}
+use Rattle.apk_front.specs.Moments.{IgnoresOutputScratchNameButNotIntent, ignored_except_output_and_scratch}
 use Rattle.apk_front.specs.declared.answer.Answer.{Answer}
 use Rattle.apk_front.specs.declared.answer.Answer.TheVariants.{Ok as Done, Refused, TreeFault, OutFault, Memory}
 use Rattle.apk_front.proofs.file_replacement.Suffix.{intent_is_no_scratch}
@@ -38,7 +38,7 @@ either_off : (a b : Bool) → b ≡ false → (if a then false else b) ≡ false
 either_off true b off = refl
 either_off false b off = off
 
-but_hides : (o : Option (List ℕ)) (ignored : Ignored) → ignored intent_name ≡ false → ignored_except_output o ignored intent_name ≡ false
+but_hides : (o : Option (List ℕ)) (ignored : Ignored) → ignored intent_name ≡ false → ignored_except_output_and_scratch o ignored intent_name ≡ false
 but_hides None ignored off = off
 but_hides (Some name) ignored off = either_off (bytes_eq intent_name name || bytes_eq intent_name (scratch_name_of name)) (ignored intent_name) off
 
@@ -89,7 +89,7 @@ less : (a b : Bool) → (if a then false else b) ≡ true → b ≡ true
 less true b is = absurd (false≢true is)
 less false b is = is
 
-pub but_fewer : (o : Option (List ℕ)) (ignored : Ignored) → AreMore (ignored_except_output o ignored) ignored
+pub but_fewer : (o : Option (List ℕ)) (ignored : Ignored) → AreMore (ignored_except_output_and_scratch o ignored) ignored
 but_fewer None ignored q is = is
 but_fewer (Some name) ignored q is = less (bytes_eq q name || bytes_eq q (scratch_name_of name)) (ignored q) is
 
@@ -98,13 +98,13 @@ same_less true b c is = is
 same_less false true c is = is
 same_less false false c is = is
 
-pub but_same : (o : Option (List ℕ)) (ignored : Ignored) → AreMore (ignored_except_output o (ignored_with_scratch o ignored)) (ignored_except_output o ignored)
+pub but_same : (o : Option (List ℕ)) (ignored : Ignored) → AreMore (ignored_except_output_and_scratch o (ignored_with_scratch o ignored)) (ignored_except_output_and_scratch o ignored)
 but_same None ignored q is = is
 but_same (Some name) ignored q is = same_less (bytes_eq q name) (bytes_eq q (scratch_name_of name)) (ignored q) is
 
 -- ---- an ordinary root
 
-but_off : (o : Option (List ℕ)) (ignored : Ignored) (q : List ℕ) → ignored q ≡ false → ignored_except_output o ignored q ≡ false
+but_off : (o : Option (List ℕ)) (ignored : Ignored) (q : List ℕ) → ignored q ≡ false → ignored_except_output_and_scratch o ignored q ≡ false
 but_off None ignored q off = off
 but_off (Some name) ignored q off = either_off (bytes_eq q name || bytes_eq q (scratch_name_of name)) (ignored q) off
 

@@ -2,7 +2,7 @@
 use Rattle.std.proofs.Common.{◌≡◌, ◌⊎◌, inl, inr, ⊎_elim, ℕ, true, false, List, Option, refl, sym, subst, ◌∙◌, arith}
 use Rattle.std.specs.Prelude.{is_some}
 use Rattle.apk_front.specs.Answers.{IsAnswerOfSomeOutcomeOrFailure, answer_of}
-use Rattle.apk_front.specs.Moments.{IsOkRefusedOrOutputFault, AreStatesOldOrLeadToOutcome, IgnoresOutputScratchNameButNotIntent, IsDurableAndLeavesFiles, LeavesDurableStateAndOutputIfCommitted, LeavesDurableFilesOnceAnsweredOrRefused, MustOutcomeBeDurable, ignored_except_output}
+use Rattle.apk_front.specs.Moments.{IsOkRefusedOrOutputFault, AreStatesOldOrLeadToOutcome, IgnoresOutputScratchNameButNotIntent, IsDurableAndLeavesFiles, LeavesDurableStateAndOutputIfCommitted, LeavesDurableFilesIfRequiredOnceAnswered, CommitsRecoversIntentOrCrashesLeaveAsRead, ignored_except_output_and_scratch}
 use Rattle.apk_front.specs.declared.answer.Answer.{Answer}
 use Rattle.apk_front.specs.declared.answer.Answer.TheVariants.{Ok as Done, Refused, TreeFault, OutFault, Memory}
 use Rattle.base_core.specs.Calls.{HoldsNow}
@@ -18,7 +18,7 @@ use Rattle.apk_front.specs.outcome.Effect.{Effect, effect_of_arguments, output}
 use Rattle.apk_front.specs.outcome.Outcome.{Outcome}
 use Rattle.apk_front.specs.words_core.Grammar.{command_of}
 use Rattle.run_lists.specs.Events.{HasOutcomeThatCommits, IsRunWithoutCommit, IsMomentOf, IsOutcomeFrom, IsRunFrom, Run, ignored_during_run, ignored_with_scratch}
-use Rattle.run_lists.specs.Safety.{HasStateAsReadOrOutcome, IsAtomic, LeavesOldOrOutcome, IsSafeRun, AnswersOutcomeAndLeavesItsFiles}
+use Rattle.run_lists.specs.Safety.{HasStateAsReadOrOutcome, IsAtomic, LeavesOldOrOutcome, IsCrashSafeRun, AnswersOutcomeAndLeavesItsFiles}
 use Rattle.run_lists.proofs.AtMoments.{History, at_last, at_moment, now_at, now_map, now_under, now_with}
 use Rattle.run_lists.proofs.Facts.{Facts, Ignored}
 use Rattle.run_lists.proofs.Names.{but_same, hides, scratch_more}
@@ -37,10 +37,10 @@ still_self ignored v is_durable = record { is_durable = is_durable; quiet = quie
 pub more_durable : Facts → (o : Option (List ℕ)) (ignored : Ignored) (v : TreeState) → IsDurable (StateDependsOn ignored) v → IsDurable (StateDependsOn (ignored_with_scratch o ignored)) v
 more_durable facts o ignored v is_durable = facts.more_order ignored (ignored_with_scratch o ignored) v (scratch_more o ignored) is_durable
 
-pub at_rest_fewer : Facts → (o : Option (List ℕ)) (ignored : Ignored) (files : Files) (w : TreeState) → IsDurableAndLeavesFiles (ignored_except_output o (ignored_with_scratch o ignored)) files w → IsDurableAndLeavesFiles (ignored_except_output o ignored) files w
+pub at_rest_fewer : Facts → (o : Option (List ℕ)) (ignored : Ignored) (files : Files) (w : TreeState) → IsDurableAndLeavesFiles (ignored_except_output_and_scratch o (ignored_with_scratch o ignored)) files w → IsDurableAndLeavesFiles (ignored_except_output_and_scratch o ignored) files w
 at_rest_fewer facts o ignored files w rest = record {
-  is_durable = facts.more_order (ignored_except_output o (ignored_with_scratch o ignored)) (ignored_except_output o ignored) w (but_same o ignored) rest.is_durable;
-  settled = facts.more_settled (ignored_except_output o (ignored_with_scratch o ignored)) (ignored_except_output o ignored) files w (but_same o ignored) rest.settled;
+  is_durable = facts.more_order (ignored_except_output_and_scratch o (ignored_with_scratch o ignored)) (ignored_except_output_and_scratch o ignored) w (but_same o ignored) rest.is_durable;
+  settled = facts.more_settled (ignored_except_output_and_scratch o (ignored_with_scratch o ignored)) (ignored_except_output_and_scratch o ignored) files w (but_same o ignored) rest.settled;
 }
 
 -- ---- a run that commits nothing
@@ -75,19 +75,19 @@ module _ (IsOne : Outcome → Type 0) (unique : (a b : Outcome) → IsOne a → 
   told Leaves failed Memory out err is answers = absurd answers
 
   module _ (effect : Effect) (ignored : Ignored) (v : TreeState) (now : History) where
-    lasts_for : (o p : Outcome) → o ≡ p → (MustOutcomeBeDurable effect ignored v o → HoldsNow now (EachCrashLeavesStateOf ignored o.files)) → MustOutcomeBeDurable effect ignored v p → HoldsNow now (EachCrashLeavesStateOf ignored p.files)
-    lasts_for o p same last = subst (λ (x : Outcome). (MustOutcomeBeDurable effect ignored v x → HoldsNow now (EachCrashLeavesStateOf ignored x.files))) same last
+    lasts_for : (o p : Outcome) → o ≡ p → (CommitsRecoversIntentOrCrashesLeaveAsRead effect ignored v o → HoldsNow now (EachCrashLeavesStateOf ignored o.files)) → CommitsRecoversIntentOrCrashesLeaveAsRead effect ignored v p → HoldsNow now (EachCrashLeavesStateOf ignored p.files)
+    lasts_for o p same last = subst (λ (x : Outcome). (CommitsRecoversIntentOrCrashesLeaveAsRead effect ignored v x → HoldsNow now (EachCrashLeavesStateOf ignored x.files))) same last
 
-    pub lasts : (answer : Answer) → LeavesDurableFilesOnceAnsweredOrRefused IsOne effect ignored v now answer → IsOkRefusedOrOutputFault answer → (p : Outcome) → IsOne p → MustOutcomeBeDurable effect ignored v p → HoldsNow now (EachCrashLeavesStateOf ignored p.files)
+    pub lasts : (answer : Answer) → LeavesDurableFilesIfRequiredOnceAnswered IsOne effect ignored v now answer → IsOkRefusedOrOutputFault answer → (p : Outcome) → IsOne p → CommitsRecoversIntentOrCrashesLeaveAsRead effect ignored v p → HoldsNow now (EachCrashLeavesStateOf ignored p.files)
     lasts Done is answers p one = lasts_for is.0 p (unique is.0 p is.1 one) is.3
     lasts (Refused r) is answers p one = lasts_for is.0 p (unique is.0 p is.1 one) is.3
     lasts OutFault is answers p one = lasts_for is.0 p (unique is.0 p is.1 one) is.2
     lasts TreeFault is answers p one = absurd answers
     lasts Memory is answers p one = absurd answers
 
-  pub rests : (o : Option (List ℕ)) (ignored : Ignored) (now : History) → LeavesDurableStateAndOutputIfCommitted IsOne o ignored now → (p : Outcome) → IsOne p → p.commits ≡ true → HoldsNow now (IsDurableAndLeavesFiles (ignored_except_output o ignored) p.files)
+  pub rests : (o : Option (List ℕ)) (ignored : Ignored) (now : History) → LeavesDurableStateAndOutputIfCommitted IsOne o ignored now → (p : Outcome) → IsOne p → p.commits ≡ true → HoldsNow now (IsDurableAndLeavesFiles (ignored_except_output_and_scratch o ignored) p.files)
   rests o ignored now is p one =
-      subst (λ (x : Outcome). (x.commits ≡ true → HoldsNow now (IsDurableAndLeavesFiles (ignored_except_output o ignored) x.files))) (unique is.0 p is.1 one) is.2
+      subst (λ (x : Outcome). (x.commits ≡ true → HoldsNow now (IsDurableAndLeavesFiles (ignored_except_output_and_scratch o ignored) x.files))) (unique is.0 p is.1 one) is.2
 
 -- ---- safe
 
@@ -129,23 +129,23 @@ module _ (facts : Facts) (ignored : Ignored) (v : TreeState) (run : Run) (is_run
       with_outcome : (o : Outcome) → IsOutcomeFrom v run o → Told run.answer o → HoldsNow run.now (λ w. files_of w ≡ o.files) → IsOkRefusedOrOutputFault run.answer → HoldsNow run.now (AnswersOutcomeAndLeavesItsFiles ignored v run)
       with_outcome o one was reads answers =
           now_with run.now (λ w. files_of w ≡ o.files)
-          (λ w. (MustOutcomeBeDurable (effect_of_arguments (command_of run.words)) Now v o → EachCrashLeavesStateOf Now o.files w) × (o.commits ≡ true → IsDurableAndLeavesFiles (ignored_except_output (output run.words) ignored) o.files w))
+          (λ w. (CommitsRecoversIntentOrCrashesLeaveAsRead (effect_of_arguments (command_of run.words)) Now v o → EachCrashLeavesStateOf Now o.files w) × (o.commits ≡ true → IsDurableAndLeavesFiles (ignored_except_output_and_scratch (output run.words) ignored) o.files w))
           (AnswersOutcomeAndLeavesItsFiles ignored v run)
           (λ w read last. record { outcome = o; is_outcome = one; answered = was; reads = read; settled = last.0; durable_state = last.1 })
           reads
           (now_with run.now
-          (λ w. MustOutcomeBeDurable (effect_of_arguments (command_of run.words)) Now v o → EachCrashLeavesStateOf Now o.files w)
-          (λ w. o.commits ≡ true → IsDurableAndLeavesFiles (ignored_except_output (output run.words) ignored) o.files w)
-          (λ w. (MustOutcomeBeDurable (effect_of_arguments (command_of run.words)) Now v o → EachCrashLeavesStateOf Now o.files w) × (o.commits ≡ true → IsDurableAndLeavesFiles (ignored_except_output (output run.words) ignored) o.files w))
+          (λ w. CommitsRecoversIntentOrCrashesLeaveAsRead (effect_of_arguments (command_of run.words)) Now v o → EachCrashLeavesStateOf Now o.files w)
+          (λ w. o.commits ≡ true → IsDurableAndLeavesFiles (ignored_except_output_and_scratch (output run.words) ignored) o.files w)
+          (λ w. (CommitsRecoversIntentOrCrashesLeaveAsRead (effect_of_arguments (command_of run.words)) Now v o → EachCrashLeavesStateOf Now o.files w) × (o.commits ≡ true → IsDurableAndLeavesFiles (ignored_except_output_and_scratch (output run.words) ignored) o.files w))
           (λ w a b. (a, b))
-          (now_under run.now (MustOutcomeBeDurable (effect_of_arguments (command_of run.words)) Now v o) (EachCrashLeavesStateOf Now o.files) (λ w. files_of w ≡ o.files) reads
+          (now_under run.now (CommitsRecoversIntentOrCrashesLeaveAsRead (effect_of_arguments (command_of run.words)) Now v o) (EachCrashLeavesStateOf Now o.files) (λ w. files_of w ≡ o.files) reads
           (lasts (IsOutcomeFrom v run) ones (effect_of_arguments (command_of run.words)) Now v run.now run.answer (is_run.settled Now now_durable now_hides) answers o one))
-          (now_under run.now (o.commits ≡ true) (IsDurableAndLeavesFiles (ignored_except_output (output run.words) ignored) o.files) (λ w. files_of w ≡ o.files) reads
-          (λ commits. now_map run.now (IsDurableAndLeavesFiles (ignored_except_output (output run.words) Now) o.files) (IsDurableAndLeavesFiles (ignored_except_output (output run.words) ignored) o.files)
+          (now_under run.now (o.commits ≡ true) (IsDurableAndLeavesFiles (ignored_except_output_and_scratch (output run.words) ignored) o.files) (λ w. files_of w ≡ o.files) reads
+          (λ commits. now_map run.now (IsDurableAndLeavesFiles (ignored_except_output_and_scratch (output run.words) Now) o.files) (IsDurableAndLeavesFiles (ignored_except_output_and_scratch (output run.words) ignored) o.files)
           (at_rest_fewer facts (output run.words) ignored o.files)
           (rests (IsOutcomeFrom v run) ones (output run.words) Now run.now (is_run.durable_state Now now_durable now_hides answers) o one commits))))
 
-  pub safe : IsSafeRun ignored v run
+  pub safe : IsCrashSafeRun ignored v run
   safe = record {
     moments = either (is_run.crash Now now_durable now_hides);
     answered = answered;

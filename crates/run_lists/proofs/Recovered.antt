@@ -12,7 +12,7 @@ use Rattle.apk_front.specs.journal_core.Staged.{unstaged_files}
 use Rattle.apk_front.specs.outcome.Commands.{IsOutcomeWithoutDemo, IsOutcomeOverRecoveredFiles, IsOutcomeUnlessBadIntent}
 use Rattle.apk_front.specs.outcome.Effect.{does_recover, effect_of_arguments, effect_of}
 use Rattle.apk_front.specs.outcome.Outcome.{Outcome}
-use Rattle.apk_front.specs.outcome.Words.{IsOutcome, IsOutcomeOfApplet}
+use Rattle.apk_front.specs.outcome.Words.{IsOutcome, IsOutcomeOfAppletIncludingRecovery}
 use Rattle.apk_front.specs.outcome.Work.{recovery_fault, files_recovered_if_needed}
 use Rattle.apk_front.proofs.outcome.Recovering.{work_is}
 use Rattle.apk_front.specs.words_core.Grammar.{command_of}
@@ -21,7 +21,7 @@ use Rattle.run_lists.proofs.AtMoments.{now_map}
 use Rattle.run_lists.proofs.OneRun.{told}
 
 -- `demo` does not recover
-other_than_demo : (applet : Applet) (command : CommandLine) (files : Files) (o : Outcome) → does_recover (effect_of applet) ≡ true → IsOutcomeOfApplet applet command files o → IsOutcomeWithoutDemo (Ok command) files o
+other_than_demo : (applet : Applet) (command : CommandLine) (files : Files) (o : Outcome) → does_recover (effect_of applet) ≡ true → IsOutcomeOfAppletIncludingRecovery applet command files o → IsOutcomeWithoutDemo (Ok command) files o
 other_than_demo Demo command files o recovers one = cc
 other_than_demo other command files o recovers one = one
 

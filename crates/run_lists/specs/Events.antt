@@ -4,7 +4,7 @@
 use Rattle.std.specs.Prelude.{◌≡◌, ◌≢◌, ◌⊎◌, ◌++◌, ◌||◌, ℕ, Bool, true, false, if◌then◌else◌, List, [], ◌∷◌, Option, Some, None, Contains, IsSome, IsTrue, is_some}
 use Rattle.std.specs.Str.{bytes_eq}
 use Rattle.apk_front.specs.Answers.{IsAnswerOfSomeOutcomeOrFailure, LeavesFiles}
-use Rattle.apk_front.specs.Moments.{IsOkRefusedOrOutputFault, AreStatesAsRecoveredOrOfCommittingRun, AreStatesOldOrLeadToOutcome, RecoversAndFindsValidIntent, IsRefusedOutOfMemoryOrCommitsNothing, HasNothingToRecover, IgnoresOutputScratchNameButNotIntent, LeavesDurableStateAndOutputIfCommitted, LeavesDurableFilesOnceAnsweredOrRefused, NamesAreDurableWithoutIntentExcept, ignored_except_output}
+use Rattle.apk_front.specs.Moments.{IsOkRefusedOrOutputFault, AreStatesAsRecoveredOrOfCommittingRun, AreStatesOldOrLeadToOutcome, RecoversAndFindsValidIntent, IsRefusedOutOfMemoryOrCommitsNothing, HasNothingToRecover, IgnoresOutputScratchNameButNotIntent, LeavesDurableStateAndOutputIfCommitted, LeavesDurableFilesIfRequiredOnceAnswered, NamesAreDurableExceptOutputIfNoIntent, ignored_except_output_and_scratch}
 use Rattle.apk_front.specs.declared.answer.Answer.{Answer}
 use Rattle.apk_front.specs.declared.answer.Answer.TheVariants.{Ok, TreeFault}
 use Rattle.base_core.specs.Calls.{HoldsNow}
@@ -75,7 +75,7 @@ pub record IsRunFrom (v : TreeState) (run : Run) : Type 0 where
   -- if the intent is present at the start: at each moment at which it is absent, a crash undoes no change of a name,
   -- except for those of the output and of staged files
   pub last : IsSome (v.names intent_name)
-      → Since (NamesAreDurableWithoutIntentExcept (output run.words)) run.old run.now
+      → Since (NamesAreDurableExceptOutputIfNoIntent (output run.words)) run.old run.now
   -- a run that is refused, runs out of memory or commits nothing leaves the state of a durable tree unchanged
   pub left : IsRefusedOutOfMemoryOrCommitsNothing (IsOutcomeFrom v run) run.answer
       → (ignored : List ℕ → Bool)
@@ -95,7 +95,7 @@ pub record IsRunFrom (v : TreeState) (run : Run) : Type 0 where
   pub settled : (ignored : List ℕ → Bool)
       → IsDurable (StateDependsOn ignored) v
       → IgnoresOutputScratchNameButNotIntent (output run.words) ignored
-      → LeavesDurableFilesOnceAnsweredOrRefused (IsOutcomeFrom v run)
+      → LeavesDurableFilesIfRequiredOnceAnswered (IsOutcomeFrom v run)
       (effect_of_arguments (command_of run.words)) ignored v
       run.now
       run.answer
@@ -275,7 +275,7 @@ ignored_during_run run ignored = ignored_with_scratch (output run.words) ignored
 -- the names that are ignored after a run that ends with this answer: after Ok no longer its output and the scratch
 -- name, after an I/O error of the tree also the scratch name
 abbrev pub ignored_after_answer : Answer → Run → (List ℕ → Bool) → List ℕ → Bool
-ignored_after_answer Ok run ignored = ignored_except_output (output run.words) ignored
+ignored_after_answer Ok run ignored = ignored_except_output_and_scratch (output run.words) ignored
 ignored_after_answer TreeFault run ignored = ignored_during_run run ignored
 ignored_after_answer other run ignored = ignored
 

@@ -53,16 +53,16 @@ IsRunWith Holds v (Touches theirs) w = ⊥
 
 -- a root that was in the state `first` has seen these events, the newest first, and is in state w; all events are runs
 -- with the property `Holds`, ended, or stopped between two calls
-abbrev pub ReachesByRuns :
+abbrev pub ReachesOnlyByRunsWith :
     (TreeState → Run → Type 0) → TreeState → List RootEvent → TreeState → Type 0
-ReachesByRuns Holds first [] w = w ≡ first
-ReachesByRuns Holds first (event ∷ earlier) w =
+ReachesOnlyByRunsWith Holds first [] w = w ≡ first
+ReachesOnlyByRunsWith Holds first (event ∷ earlier) w =
     (v : TreeState)
-    × ReachesByRuns Holds first earlier v
+    × ReachesOnlyByRunsWith Holds first earlier v
     × IsRunWith Holds v event w
     × IsTransition v event w
 
--- true of every run: the property of *ReachesByRuns*, if nothing more is required of the runs
+-- true of every run: the property of *ReachesOnlyByRunsWith*, if nothing more is required of the runs
 abbrev pub IsUnrestrictedRun : TreeState → Run → Type 0
 IsUnrestrictedRun v run = Unit {0}
 
@@ -104,7 +104,7 @@ pub record IsNoJournalOutputOrIgnoredName (ignored : List ℕ → Bool) (run : R
 
 -- At the moment m of a run that began in v, the change of the intent found in v is durable under the name q: the name
 -- has its recovered bytes, or those of an outcome of the run that commits, and each crash leaves exactly these.
-pub record HasDurableRecoveredOrOutcomeBytes (v : TreeState) (run : Run) (m : TreeState)
+pub record HasRecoveredOrOutcomeBytesDurably (v : TreeState) (run : Run) (m : TreeState)
     (q : List ℕ) : Type 0 where
   -- the file is the recovered one, or that of an outcome of the run
   pub done : (files_of m q ≡ unstaged_files (files_of v) q) ⊎ HasOutcomeBytes v run m q

@@ -2,7 +2,7 @@
 -- "Recovery": the table of what a run may leave, and its last part.
 use Rattle.std.specs.Prelude.{◌≡◌, ◌⊎◌, ℕ, Bool, true, false, List}
 use Rattle.apk_front.specs.Answers.{answer_of}
-use Rattle.apk_front.specs.Moments.{IsOkRefusedOrOutputFault, IsDurableAndLeavesFiles, MustOutcomeBeDurable, ignored_except_output}
+use Rattle.apk_front.specs.Moments.{IsOkRefusedOrOutputFault, IsDurableAndLeavesFiles, CommitsRecoversIntentOrCrashesLeaveAsRead, ignored_except_output_and_scratch}
 use Rattle.apk_front.specs.declared.answer.Answer.TheVariants.{OutFault}
 use Rattle.base_core.specs.Calls.{HoldsNow}
 use Rattle.base_core.specs.Undone.{IsDurable, IsCrashImage}
@@ -29,7 +29,7 @@ LeavesOldOrOutcome ignored v run m =
 
 -- At the moment m of a run that began in v, a crash leaves a state from before the run. The files as read
 -- have the state of v.
-pub record KeepsStateAsReadAndAtEachCrash (ignored : List ℕ → Bool) (v m : TreeState) : Type 0 where
+pub record KeepsStateAsReadAndCrashesLeaveOld (ignored : List ℕ → Bool) (v m : TreeState) : Type 0 where
   -- each crash leaves an old state
   pub quiet : EachCrashLeavesOld ignored v m
   -- the files as read have the same state as in v
@@ -49,16 +49,17 @@ pub record AnswersOutcomeAndLeavesItsFiles (ignored : List ℕ → Bool) (v : Tr
   pub reads : files_of w ≡ outcome.files
   -- each crash leaves the state of these files in three cases: the outcome commits; each crash left the files as read
   -- before the run; or an intent was found and its change completed
-  pub settled : MustOutcomeBeDurable (effect_of_arguments (command_of run.words))
+  pub settled : CommitsRecoversIntentOrCrashesLeaveAsRead (effect_of_arguments (command_of run.words))
       (ignored_during_run run ignored) v outcome
       → EachCrashLeavesStateOf (ignored_during_run run ignored) outcome.files w
   -- if the outcome commits, each crash leaves its files, also under the output's name and its scratch name
   pub durable_state : outcome.commits ≡ true
-      → IsDurableAndLeavesFiles (ignored_except_output (output run.words) ignored) outcome.files w
+      → IsDurableAndLeavesFiles
+      (ignored_except_output_and_scratch (output run.words) ignored) outcome.files w
 
 -- A run is safe: at each moment a crash leaves a state from before the run or that of the outcome. Once the outcome is
 -- answered, the files as read are the outcome's, and durable. A run that commits nothing keeps the state.
-pub record IsSafeRun (ignored : List ℕ → Bool) (v : TreeState) (run : Run) : Type 0 where
+pub record IsCrashSafeRun (ignored : List ℕ → Bool) (v : TreeState) (run : Run) : Type 0 where
   -- at each moment of the run a crash leaves an old state or that of an outcome
   pub moments : (m : TreeState) → IsMomentOf run m
       → LeavesOldOrOutcome (ignored_during_run run ignored) v run m
@@ -67,7 +68,7 @@ pub record IsSafeRun (ignored : List ℕ → Bool) (v : TreeState) (run : Run) :
       → HoldsNow run.now (AnswersOutcomeAndLeavesItsFiles ignored v run)
   -- a run without a commit keeps the state at each moment
   pub left : IsRunWithoutCommit v run
-      → (m : TreeState) → IsMomentOf run m → KeepsStateAsReadAndAtEachCrash ignored v m
+      → (m : TreeState) → IsMomentOf run m → KeepsStateAsReadAndCrashesLeaveOld ignored v m
 
 -- ---- from one state
 
@@ -98,11 +99,11 @@ pub record IsAtomic (ignored : List ℕ → Bool) (v : TreeState) (run : Run) : 
 -- ---- after every list
 
 -- a run that begins in the state v is safe, after any list of events by which a root has reached v from a durable tree
-abbrev pub IsSafeAfterAnyEvents : TreeState → Run → Type 0
-IsSafeAfterAnyEvents v run =
+abbrev pub IsCrashSafeAfterAnyEvents : TreeState → Run → Type 0
+IsCrashSafeAfterAnyEvents v run =
     (ignored : List ℕ → Bool) (first : TreeState) (events : List RootEvent)
     → ignored intent_name ≡ false → IsDurable (StateDependsOn ignored) first → Reaches first events v
-    → IsSafeRun (ignored_after ignored events) v run
+    → IsCrashSafeRun (ignored_after ignored events) v run
 
 -- Suppose that a root has reached the state v by any list of events, after which each crash leaves one state. Then a
 -- run that begins in v is all or nothing.

@@ -15,9 +15,9 @@ ghost use Rattle.apk_front.specs.outcome.Outcome.{Outcome};
 ghost use Rattle.apk_front.specs.outcome.Words.{IsOutcome};
 ghost use Rattle.apk_front.specs.outcome.Work.{recovery_fault};
 ghost use Rattle.run_lists.specs.Events.{AreNamesAmong, RootEvent, HasNoUnfinishedOutputOrTouchSinceSync, HasNoUnfinishedRunSinceCrash, Reaches, ReachesWithoutCommitOrEdit, ReachesOneCrashState, IsRunWithoutCommit, IsMomentOf, IsOutcomeFrom, IsRunFrom, IsPossibleStop, Run, ignored_after, ignored_during_run, nothing_ignored, ignored_with_all_touched, ignored_with_scratch};
-ghost use Rattle.run_lists.specs.Reading.{HasBadIntent, HasOldRecoveredOrOutcomeBytes, ReachesByRuns, IsUnrestrictedRun, HasDurableRecoveredOrOutcomeBytes, IsNoJournalOutputOrIgnoredName, IsNoJournalOrTemporaryName, HoldsAsReadAndAsRecovered, EachCommitPassesTestAtName};
+ghost use Rattle.run_lists.specs.Reading.{HasBadIntent, HasOldRecoveredOrOutcomeBytes, ReachesOnlyByRunsWith, IsUnrestrictedRun, HasRecoveredOrOutcomeBytesDurably, IsNoJournalOutputOrIgnoredName, IsNoJournalOrTemporaryName, HoldsAsReadAndAsRecovered, EachCommitPassesTestAtName};
 ghost use Rattle.run_lists.specs.Recovered.{ReachesWithNoBadIntentPutByOthers, HasStateOfCrashBeforeOrOutcome, HasSameState, RecoversToStateWithoutRefusal, IsNotRefusedForIntent, EachCrashLeavesNoBadIntent};
-ghost use Rattle.run_lists.specs.Safety.{HasStateAsReadOrOutcome, IsAtomicFromOneCrashState, IsSafeAfterAnyEvents};
+ghost use Rattle.run_lists.specs.Safety.{HasStateAsReadOrOutcome, IsAtomicFromOneCrashState, IsCrashSafeAfterAnyEvents};
 ghost use Rattle.apk_front.specs.words_core.Grammar.{command_of};
 
 use apk_front::{
@@ -59,8 +59,8 @@ pub fn a_run_is_safe_after_any_events()
         → HasNoUnfinishedOutputOrTouchSinceSync events
         → ignored_after nothing_ignored events q ≡ false }
 
-    // The next run is safe after any such list (*IsSafeRun*).
-    ensures safe { (v : TreeState) (run : Run) → IsRunFrom v run → IsSafeAfterAnyEvents v run }
+    // The next run is safe after any such list (*IsCrashSafeRun*).
+    ensures safe { (v : TreeState) (run : Run) → IsRunFrom v run → IsCrashSafeAfterAnyEvents v run }
 
     // Each crash leaves one state, that of the files as read, if each crash did so at the start.
     // Names that are ignored at the start, or become so along the list (`ignored_after`), are left
@@ -155,7 +155,7 @@ pub fn each_name_keeps_old_recovered_or_new_bytes()
     ensures along { (test : Option (List ℕ) → Bool) (q : List ℕ) (first w : TreeState)
         (events : List RootEvent) → (IsJournalName q → ⊥)
         → HoldsAsReadAndAsRecovered test q (files_of first)
-        → ReachesByRuns (EachCommitPassesTestAtName test q) first events w
+        → ReachesOnlyByRunsWith (EachCommitPassesTestAtName test q) first events w
         → HoldsAsReadAndAsRecovered test q (files_of w) }
 {
     // Laws that the proof needs; they have no effect at run time.
@@ -173,7 +173,7 @@ pub fn a_bad_intent_and_all_files_are_kept()
 
     // So runs alone, ended or stopped, leave the tree as it was.
     ensures along { (first w : TreeState) (events : List RootEvent) → HasBadIntent (files_of first)
-        → ReachesByRuns IsUnrestrictedRun first events w → w ≡ first }
+        → ReachesOnlyByRunsWith IsUnrestrictedRun first events w → w ≡ first }
 {}
 
 /// The change of an intent that a run finds is durable at each moment of this run at which no
@@ -188,7 +188,7 @@ pub fn the_actions_of_an_intent_are_durably_done()
         → Reaches first events v → IsRunFrom v run → IsSome (v.names intent_name)
         → IsMomentOf run m → m.names intent_name ≡ None
         → (q : List ℕ) → IsNoJournalOutputOrIgnoredName (ignored_after ignored events) run q
-        → HasDurableRecoveredOrOutcomeBytes v run m q }
+        → HasRecoveredOrOutcomeBytesDurably v run m q }
 {
     // Laws that the proof needs; they have no effect at run time.
     a_crash_leaves_a_durable_settled_tree();

@@ -3,7 +3,7 @@
 ghost use Rattle.base_core.specs.Calls.{IfObservable};
 ghost use Rattle.base_core.specs.Sink.{sink_before_and_after};
 ghost use Rattle.run_lists.specs.Events.{IsRunFrom, Run};
-ghost use Rattle.run_lists.specs.Safety.{IsAtomicFromOneCrashState, IsSafeAfterAnyEvents};
+ghost use Rattle.run_lists.specs.Safety.{IsAtomicFromOneCrashState, IsCrashSafeAfterAnyEvents};
 
 use crate::laws::a_run_is_safe_after_any_events;
 use apk_front::{Answer, apk};
@@ -30,7 +30,7 @@ pub fn run_on_a_root<T: Tree, O: Sink, E: Sink>(
       out = sink_before_and_after O.bytes O.counts out.old out.new;
       err = sink_before_and_after E.bytes E.counts err.old err.new;
       answer = result;
-    } in IsRunFrom v run × IsSafeAfterAnyEvents v run × IsAtomicFromOneCrashState v run) }
+    } in IsRunFrom v run × IsCrashSafeAfterAnyEvents v run × IsAtomicFromOneCrashState v run) }
 {
     // A law that the proof needs; it has no effect at run time.
     a_run_is_safe_after_any_events();

@@ -15,7 +15,7 @@ use Rattle.command_core.specs.declared.command.Applet.TheVariants as Applets
 use Rattle.command_core.specs.declared.operands.Operand.{Operand}
 use Rattle.dep_core.specs.Dependency.{Dependency}
 use Rattle.engine_core.specs.Changed.{InputsAndReplacement, selected_from_pool_by_choice, selected_from_reads_by_choice, selected_from_inputs_by_choice}
-use Rattle.engine_core.specs.Choice.{IsPreferredChoiceUnlessRefused}
+use Rattle.engine_core.specs.Choice.{IsPreferredChoiceOrNoneIfRefused}
 use Rattle.engine_core.specs.Selecting.{pool_of_inputs_unless_too_many_candidates, pool_of_command, replacement_of_choice}
 use Rattle.engine_core.specs.Wishes.{names_to_reinstall, names_to_upgrade, operand_texts, unknown_operand_place, unless_unknown_operand}
 use Rattle.engine_core.specs.make_info.Reads.{Reads}
@@ -88,7 +88,7 @@ module _ (command : CommandLine) (read : Reads) where
     pub world : pool.world ≡ s.inputs.root.new_world
 
   taken_by : (inputs : Inputs) (pool : SelectionProblem) (place : Option ℕ) (chosen : Option (List ℕ)) (s : InputsAndReplacement) → pool_of_inputs_unless_too_many_candidates command inputs ≡ Ok pool
-      → IsPreferredChoiceUnlessRefused (Ok pool) chosen → unless_unknown_operand place (selected_from_pool_by_choice command inputs pool chosen) ≡ Ok s → IsTaken s
+      → IsPreferredChoiceOrNoneIfRefused (Ok pool) chosen → unless_unknown_operand place (selected_from_pool_by_choice command inputs pool chosen) ≡ Ok s → IsTaken s
   taken_by inputs pool (Some place) chosen s is choice e = absurd (cc (e))
   taken_by inputs pool None None s is choice e = absurd (cc (e))
   taken_by inputs pool None (Some trace) s is choice e =
@@ -104,14 +104,14 @@ module _ (command : CommandLine) (read : Reads) where
         world = ap (λ (p : SelectionProblem). p.world) root.is;
       })
 
-  taken : (chosen : Option (List ℕ)) (s : InputsAndReplacement) → IsPreferredChoiceUnlessRefused (pool_of_command command read) chosen → selected_from_reads_by_choice command read chosen ≡ Ok s → IsTaken s
+  taken : (chosen : Option (List ℕ)) (s : InputsAndReplacement) → IsPreferredChoiceOrNoneIfRefused (pool_of_command command read) chosen → selected_from_reads_by_choice command read chosen ≡ Ok s → IsTaken s
   taken chosen s choice e =
       let inputs = and_then_ok (inputs_of command read) (selected_from_inputs_by_choice command chosen) s e in
       let pool = and_then_ok (pool_of_inputs_unless_too_many_candidates command inputs.0) (λ pool. unless_unknown_operand (unknown_operand_place command.applet inputs.0 command.operands) (selected_from_pool_by_choice command inputs.0 pool chosen)) s inputs.2 in
       let is : pool_of_command command read ≡ Ok pool.0 = ap (λ (r : Result Inputs Refusal). and_then r (pool_of_inputs_unless_too_many_candidates command)) inputs.1 ∙ pool.1 in
-      taken_by inputs.0 pool.0 (unknown_operand_place command.applet inputs.0 command.operands) chosen s pool.1 (subst (λ (r : Result SelectionProblem Refusal). IsPreferredChoiceUnlessRefused r chosen) is choice) pool.2
+      taken_by inputs.0 pool.0 (unknown_operand_place command.applet inputs.0 command.operands) chosen s pool.1 (subst (λ (r : Result SelectionProblem Refusal). IsPreferredChoiceOrNoneIfRefused r chosen) is choice) pool.2
 
-  pub satisfies : (chosen : Option (List ℕ)) (s : InputsAndReplacement) → IsPreferredChoiceUnlessRefused (pool_of_command command read) chosen → selected_from_reads_by_choice command read chosen ≡ Ok s
+  pub satisfies : (chosen : Option (List ℕ)) (s : InputsAndReplacement) → IsPreferredChoiceOrNoneIfRefused (pool_of_command command read) chosen → selected_from_reads_by_choice command read chosen ≡ Ok s
       → SatisfyWorld (candidates_of s.inputs) s.inputs.root.new_world s.replacement.selected
   satisfies chosen s choice e =
       let t = taken chosen s choice e in
@@ -120,7 +120,7 @@ module _ (command : CommandLine) (read : Reads) where
       (subst (λ (w : List Dependency). SatisfyWorld (candidates_of s.inputs) w (candidates_at t.pool t.trace)) t.world
       (subst (λ (cs : List Candidate). SatisfyWorld cs t.pool.world (candidates_at t.pool t.trace)) t.candidates done))
 
-  pub each_needed : (chosen : Option (List ℕ)) (s : InputsAndReplacement) (c : Candidate) → IsPreferredChoiceUnlessRefused (pool_of_command command read) chosen → selected_from_reads_by_choice command read chosen ≡ Ok s → IsIn c s.replacement.selected
+  pub each_needed : (chosen : Option (List ℕ)) (s : InputsAndReplacement) (c : Candidate) → IsPreferredChoiceOrNoneIfRefused (pool_of_command command read) chosen → selected_from_reads_by_choice command read chosen ≡ Ok s → IsIn c s.replacement.selected
       → IsNeededByWorldOrPackages (candidates_of s.inputs) s.inputs.root.new_world s.replacement.selected c
   each_needed chosen s c choice e here =
       let t = taken chosen s choice e in

@@ -11,7 +11,7 @@ use Rattle.dep_core.proofs.WorldWords.{world-words}
 use Rattle.engine_core.specs.make_info.Reads.{Reads}
 use Rattle.report_core.specs.declared.refusal.Refusal.{Refusal}
 use Rattle.root_names.specs.RootNames.{database_name, repositories_name, text_database_name, world_name}
-use Rattle.world_laws.specs.NewWorld.{HasReadAndRequestedWorld}
+use Rattle.world_laws.specs.NewWorld.{HasOldWorldAsReadAndNewWorldAsRequested}
 use Rattle.world_laws.proofs.NewWorlds.{holds_asked}
 
 pub and_then_ok : {A B : Type 0} (a : Result A Refusal) (next : A → Result B Refusal) (b : B) → and_then a next ≡ Ok b → (x : A) × (a ≡ Ok x) × (next x ≡ Ok b)
@@ -26,7 +26,7 @@ module _ (command : CommandLine) (read : Reads) where
   text : List ℕ
   text = found_text_or_empty (read world_read_number world_name)
 
-  of_root : (root : Root) → root_for command read ≡ Ok root → HasReadAndRequestedWorld command read root
+  of_root : (root : Root) → root_for command read ≡ Ok root → HasOldWorldAsReadAndNewWorldAsRequested command read root
   unfolding text
   of_root root e =
       let database = and_then_ok (root_database command.flags.initdb (read database_read_number database_name) (read text_database_read_number text_database_name)) _ root e in
@@ -34,15 +34,15 @@ module _ (command : CommandLine) (read : Reads) where
       let listed = and_then_ok (root_repositories command.flags.allow_untrusted (found_text_or_empty (read repositories_read_number repositories_name))) (λ repositories. Ok (root_with_new_world_of_command command database.0 text world.0 repositories)) root world.2 in
       let same : root_with_new_world_of_command command database.0 text world.0 listed.0 ≡ root = (let last = listed.2 in cc) in
       let is : world_of text ≡ Ok world.0 = refused_ok _ (world_of text) world.0 world.1 in
-      subst (HasReadAndRequestedWorld command read) same (record {
+      subst (HasOldWorldAsReadAndNewWorldAsRequested command read) same (record {
         file = is;
         asked = holds_asked command.applet command.operands world.0 (world-words text world.0 is).in_order;
       })
 
-  pub of_inputs : (inputs : Inputs) → inputs_of command read ≡ Ok inputs → HasReadAndRequestedWorld command read inputs.root
+  pub of_inputs : (inputs : Inputs) → inputs_of command read ≡ Ok inputs → HasOldWorldAsReadAndNewWorldAsRequested command read inputs.root
   unfolding inputs_of
   of_inputs inputs e =
       let root = and_then_ok (root_for command read) _ inputs e in
       let indexes = and_then_ok (indexes_of read root.0.repositories) (λ indexes. Ok (inputs_from_parts root.0 indexes)) inputs root.2 in
       let same : inputs_from_parts root.0 indexes.0 ≡ inputs = (let last = indexes.2 in cc) in
-      subst (λ (i : Inputs). HasReadAndRequestedWorld command read i.root) same (of_root root.0 root.1)
+      subst (λ (i : Inputs). HasOldWorldAsReadAndNewWorldAsRequested command read i.root) same (of_root root.0 root.1)

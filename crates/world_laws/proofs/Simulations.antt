@@ -12,7 +12,7 @@ use Rattle.engine_core.specs.change_outcome.ConfigurationLines.{lines_of_apk_new
 use Rattle.engine_core.specs.change_outcome.Triggers.{trigger_lines}
 use Rattle.command_core.specs.Command.{CommandLine}
 use Rattle.engine_core.specs.Changed.{InputsAndReplacement, change_of_selected, change_of_command, selected_from_reads_by_choice, simulated_change}
-use Rattle.engine_core.specs.Choice.{IsPreferredChoiceUnlessRefused}
+use Rattle.engine_core.specs.Choice.{IsPreferredChoiceOrNoneIfRefused}
 use Rattle.engine_core.specs.Selecting.{pool_of_command}
 use Rattle.engine_core.specs.Wishes.{wishes_of}
 use Rattle.engine_core.specs.make_info.Reads.{Reads}
@@ -50,7 +50,7 @@ IsMadeKnown = (inputs : Inputs) (r : Replacement) (wishes : ChangeWishes) (read 
 
 -- one thing is chosen
 abbrev pub IsOneChoice : Type 0
-IsOneChoice = (pool : Result SelectionProblem Refusal) (a b : Option (List ℕ)) → IsPreferredChoiceUnlessRefused pool a → IsPreferredChoiceUnlessRefused pool b → a ≡ b
+IsOneChoice = (pool : Result SelectionProblem Refusal) (a b : Option (List ℕ)) → IsPreferredChoiceOrNoneIfRefused pool a → IsPreferredChoiceOrNoneIfRefused pool b → a ≡ b
 
 -- both commands select alike
 selects_alike : (command : CommandLine) (read : Reads) (chosen : Option (List ℕ)) → selected_from_reads_by_choice (with_simulation command) read chosen ≡ selected_from_reads_by_choice command read chosen
@@ -75,11 +75,11 @@ by_selected known command read files other clash s simulation done real e d =
     (reports_alike s.replacement (wishes_of command) change files))
 
 module _ (one : IsOneChoice) (command : CommandLine) (read : Reads) (files : Files) (expected chosen : Option (List ℕ)) (other clash : Option NamePair) where
-  chosen_alike : IsPreferredChoiceUnlessRefused (pool_of_command (with_simulation command) read) expected → IsPreferredChoiceUnlessRefused (pool_of_command command read) chosen → expected ≡ chosen
-  chosen_alike a b = one (pool_of_command command read) expected chosen (subst (λ (p : Result SelectionProblem Refusal). IsPreferredChoiceUnlessRefused p expected) (pool_alike command read) a) b
+  chosen_alike : IsPreferredChoiceOrNoneIfRefused (pool_of_command (with_simulation command) read) expected → IsPreferredChoiceOrNoneIfRefused (pool_of_command command read) chosen → expected ≡ chosen
+  chosen_alike a b = one (pool_of_command command read) expected chosen (subst (λ (p : Result SelectionProblem Refusal). IsPreferredChoiceOrNoneIfRefused p expected) (pool_alike command read) a) b
 
   pub foretold : IsMadeKnown → (simulation done : ChangeDone) → command.flags.simulate ≡ false
-      → IsPreferredChoiceUnlessRefused (pool_of_command (with_simulation command) read) expected → IsPreferredChoiceUnlessRefused (pool_of_command command read) chosen
+      → IsPreferredChoiceOrNoneIfRefused (pool_of_command (with_simulation command) read) expected → IsPreferredChoiceOrNoneIfRefused (pool_of_command command read) chosen
       → change_of_command (with_simulation command) read files expected other ≡ Ok simulation → change_of_command command read files chosen clash ≡ Ok done → ReportBeginsWithSimulationExceptLastLine simulation.report done.report
   unfolding change_of_command
   foretold known simulation done real a b e d =
@@ -95,7 +95,7 @@ module _ (one : IsOneChoice) (command : CommandLine) (read : Reads) (files : Fil
   refused_both (Err first) y same refusal e =
       ap (λ (z : Result InputsAndReplacement Refusal). and_then z (change_of_selected command read files clash)) (sym same) ∙ (let is : first ≡ refusal = cc in ap (λ (r : Refusal). Err r) is)
 
-  pub refused_alike : (refusal : Refusal) → IsPreferredChoiceUnlessRefused (pool_of_command (with_simulation command) read) expected → IsPreferredChoiceUnlessRefused (pool_of_command command read) chosen
+  pub refused_alike : (refusal : Refusal) → IsPreferredChoiceOrNoneIfRefused (pool_of_command (with_simulation command) read) expected → IsPreferredChoiceOrNoneIfRefused (pool_of_command command read) chosen
       → change_of_command (with_simulation command) read files expected other ≡ Err refusal → change_of_command command read files chosen clash ≡ Err refusal
   unfolding change_of_command
   refused_alike refusal a b e =

@@ -17,7 +17,7 @@ use Rattle.command_core.specs.Command.{CommandLine}
 use Rattle.dep_core.specs.Repositories.{Repository, repositories_of}
 use Rattle.dep_core.specs.World.{world_of}
 use Rattle.engine_core.specs.Changed.{selected_from_pool_by_choice, selected_from_reads_by_choice, selected_from_inputs_by_choice}
-use Rattle.engine_core.specs.Choice.{IsPreferredChoice, IsPreferredChoiceUnlessRefused}
+use Rattle.engine_core.specs.Choice.{IsPreferredChoice, IsPreferredChoiceOrNoneIfRefused}
 use Rattle.engine_core.specs.Selecting.{pool_of_inputs_unless_too_many_candidates, pool_of_command}
 use Rattle.engine_core.specs.Wishes.{names_to_upgrade, unknown_operand_place, unless_unknown_operand}
 use Rattle.engine_core.specs.make_info.Reads.{Reads}
@@ -134,7 +134,7 @@ module _ (command : CommandLine) (read : Reads) where
   abbrev HasNone : Type 0
   HasNone = (inputs : Inputs) × (inputs_of command read ≡ Ok inputs) × IsUnsatisfiable (candidates_of inputs) inputs.root.new_world
 
-  pub refused : (chosen : Option (List ℕ)) → IsPreferredChoiceUnlessRefused (pool_of_command command read) chosen → selected_from_reads_by_choice command read chosen ≡ Err Unsatisfied → HasNone
+  pub refused : (chosen : Option (List ℕ)) → IsPreferredChoiceOrNoneIfRefused (pool_of_command command read) chosen → selected_from_reads_by_choice command read chosen ≡ Err Unsatisfied → HasNone
   refused chosen choice e = by (inputs_of command read) refl choice e
     where
       by_chosen : (inputs : Inputs) → inputs_of command read ≡ Ok inputs → (pool : SelectionProblem) → pool_of_inputs_unless_too_many_candidates command inputs ≡ Ok pool → (place : Option ℕ) (chosen : Option (List ℕ)) → IsPreferredChoice pool chosen
@@ -143,18 +143,18 @@ module _ (command : CommandLine) (read : Reads) where
       by_chosen inputs is pool made None (Some trace) choice e = absurd (cc (e))
       by_chosen inputs is pool made None None choice e = (inputs, is, (none_of_inputs inputs (names_to_upgrade command.applet command.operands) pool made).0 choice)
 
-      by_pool : (inputs : Inputs) → inputs_of command read ≡ Ok inputs → (made : Result SelectionProblem Refusal) → pool_of_inputs_unless_too_many_candidates command inputs ≡ made → IsPreferredChoiceUnlessRefused made chosen
+      by_pool : (inputs : Inputs) → inputs_of command read ≡ Ok inputs → (made : Result SelectionProblem Refusal) → pool_of_inputs_unless_too_many_candidates command inputs ≡ made → IsPreferredChoiceOrNoneIfRefused made chosen
           → and_then made (λ pool. unless_unknown_operand (unknown_operand_place command.applet inputs command.operands) (selected_from_pool_by_choice command inputs pool chosen)) ≡ Err Unsatisfied → HasNone
       by_pool inputs is (Err refusal) made choice e = let same : refusal ≡ Unsatisfied = cc in absurd (pool_other inputs (made ∙ ap (λ r. Err r) same))
       by_pool inputs is (Ok pool) made choice e = by_chosen inputs is pool made (unknown_operand_place command.applet inputs command.operands) chosen choice e
 
-      by : (r : Result Inputs Refusal) → inputs_of command read ≡ r → IsPreferredChoiceUnlessRefused (and_then r (pool_of_inputs_unless_too_many_candidates command)) chosen → and_then r (selected_from_inputs_by_choice command chosen) ≡ Err Unsatisfied → HasNone
+      by : (r : Result Inputs Refusal) → inputs_of command read ≡ r → IsPreferredChoiceOrNoneIfRefused (and_then r (pool_of_inputs_unless_too_many_candidates command)) chosen → and_then r (selected_from_inputs_by_choice command chosen) ≡ Err Unsatisfied → HasNone
       by (Err refusal) is choice e = let same : refusal ≡ Unsatisfied = cc in absurd (inputs_other (is ∙ ap (λ r. Err r) same))
       by (Ok inputs) is choice e = by_pool inputs is (pool_of_inputs_unless_too_many_candidates command inputs) refl choice e
 
-  pub refuses : (chosen : Option (List ℕ)) (inputs : Inputs) (pool : SelectionProblem) → IsPreferredChoiceUnlessRefused (pool_of_command command read) chosen → inputs_of command read ≡ Ok inputs → pool_of_command command read ≡ Ok pool
+  pub refuses : (chosen : Option (List ℕ)) (inputs : Inputs) (pool : SelectionProblem) → IsPreferredChoiceOrNoneIfRefused (pool_of_command command read) chosen → inputs_of command read ≡ Ok inputs → pool_of_command command read ≡ Ok pool
       → unknown_operand_place command.applet inputs command.operands ≡ None → IsUnsatisfiable (candidates_of inputs) inputs.root.new_world → selected_from_reads_by_choice command read chosen ≡ Err Unsatisfied
-  refuses chosen inputs pool choice e f known none = by chosen (subst (λ (r : Result SelectionProblem Refusal). IsPreferredChoiceUnlessRefused r chosen) f choice) refl
+  refuses chosen inputs pool choice e f known none = by chosen (subst (λ (r : Result SelectionProblem Refusal). IsPreferredChoiceOrNoneIfRefused r chosen) f choice) refl
     where
       made : pool_of_inputs_unless_too_many_candidates command inputs ≡ Ok pool
       made = sym (ap (λ (r : Result Inputs Refusal). and_then r (pool_of_inputs_unless_too_many_candidates command)) e) ∙ f

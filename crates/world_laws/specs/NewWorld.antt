@@ -72,7 +72,8 @@ IsWorldAfterApplet applet operands before after = after ≡ before
 
 -- `root` is what a change reads of a root: its world is that of the file of world, where an absent file counts as
 -- empty, and its new world has what the command asks for
-pub record HasReadAndRequestedWorld (command : CommandLine) (read : Reads) (root : Root) : Type 0 where
+pub record HasOldWorldAsReadAndNewWorldAsRequested (command : CommandLine) (read : Reads)
+    (root : Root) : Type 0 where
   -- world before the command is that of its file
   pub file : world_of (unwrap_or (read world_read_number world_name) []) ≡ Ok root.world
   -- the new world has what the command asks for

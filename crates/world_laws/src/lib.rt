@@ -19,7 +19,7 @@ ghost use Rattle.engine_core.specs.change_files.FileChange.{FileChange};
 ghost use Rattle.engine_core.specs.change_outcome.ChangeOutcome.{ChangeDone, ChangeWishes, change_report};
 ghost use Rattle.command_core.specs.Command.{CommandLine};
 ghost use Rattle.engine_core.specs.Changed.{InputsAndReplacement, change_of_command, selected_from_reads_by_choice};
-ghost use Rattle.engine_core.specs.Choice.{IsPreferredChoice, IsPreferredChoiceUnlessRefused};
+ghost use Rattle.engine_core.specs.Choice.{IsPreferredChoice, IsPreferredChoiceOrNoneIfRefused};
 ghost use Rattle.engine_core.specs.Selecting.{pool_of_command};
 ghost use Rattle.engine_core.specs.Wishes.{unknown_operand_place};
 ghost use Rattle.engine_core.specs.make_info.Reads.{Reads};
@@ -38,7 +38,7 @@ ghost use Rattle.command_core.specs.declared.operands.Operand.{Operand};
 ghost use Rattle.dep_core.specs.Dependency.{Dependency};
 ghost use Rattle.dep_core.specs.World.{IsWorldSortedByName};
 ghost use Rattle.world_laws.specs.CommandPool.{IsCommandPool};
-ghost use Rattle.world_laws.specs.NewWorld.{IsWorldAfterApplet, HasReadAndRequestedWorld};
+ghost use Rattle.world_laws.specs.NewWorld.{IsWorldAfterApplet, HasOldWorldAsReadAndNewWorldAsRequested};
 ghost use Rattle.world_laws.specs.SatisfiedWorld.{AreEqualSetsOfCandidates, IsNeededByWorldOrPackages, SatisfyWorld};
 ghost use Rattle.world_laws.specs.SatisfiedWorld.{IsUnsatisfiable};
 
@@ -72,8 +72,8 @@ pub fn a_simulation_predicts_the_change()
     ensures commands { (command : CommandLine) (read : Reads) (files : Files)
         (expected chosen : Option (List ℕ)) (other clash : Option NamePair)
         (simulation done : ChangeDone) → command.flags.simulate ≡ false
-        → IsPreferredChoiceUnlessRefused (pool_of_command (with_simulation command) read) expected
-        → IsPreferredChoiceUnlessRefused (pool_of_command command read) chosen
+        → IsPreferredChoiceOrNoneIfRefused (pool_of_command (with_simulation command) read) expected
+        → IsPreferredChoiceOrNoneIfRefused (pool_of_command command read) chosen
         → change_of_command (with_simulation command) read files expected other ≡ Ok simulation
         → change_of_command command read files chosen clash ≡ Ok done
         → ReportBeginsWithSimulationExceptLastLine simulation.report done.report }
@@ -90,8 +90,8 @@ pub fn a_refused_simulation_refuses_the_change()
     // `clash` are those of the command without `--simulate`.
     ensures { (command : CommandLine) (read : Reads) (files : Files)
         (expected chosen : Option (List ℕ)) (other clash : Option NamePair) (refusal : Refusal)
-        → IsPreferredChoiceUnlessRefused (pool_of_command (with_simulation command) read) expected
-        → IsPreferredChoiceUnlessRefused (pool_of_command command read) chosen
+        → IsPreferredChoiceOrNoneIfRefused (pool_of_command (with_simulation command) read) expected
+        → IsPreferredChoiceOrNoneIfRefused (pool_of_command command read) chosen
         → change_of_command (with_simulation command) read files expected other ≡ Err refusal
         → change_of_command command read files chosen clash ≡ Err refusal }
 {
@@ -109,7 +109,8 @@ pub fn the_new_world_has_what_was_asked()
         → IsWorldAfterApplet applet operands world (new_world applet operands world) }
     // The same holds of the new world among the inputs of a command.
     ensures read { (command : CommandLine) (read : Reads) (inputs : Inputs)
-        → inputs_of command read ≡ Ok inputs → HasReadAndRequestedWorld command read inputs.root }
+        → inputs_of command read ≡ Ok inputs
+        → HasOldWorldAsReadAndNewWorldAsRequested command read inputs.root }
     // No two different worlds have these entries.
     ensures one { (applet : Applet) (operands : List Operand) (world after other : List Dependency)
         → IsWorldAfterApplet applet operands world after
@@ -130,13 +131,13 @@ pub fn the_selected_packages_satisfy_the_new_world()
     // The selected packages satisfy the new world.
     ensures satisfied { (command : CommandLine) (read : Reads) (chosen : Option (List ℕ))
         (s : InputsAndReplacement)
-        → IsPreferredChoiceUnlessRefused (pool_of_command command read) chosen
+        → IsPreferredChoiceOrNoneIfRefused (pool_of_command command read) chosen
         → selected_from_reads_by_choice command read chosen ≡ Ok s
         → SatisfyWorld (candidates_of s.inputs) s.inputs.root.new_world s.replacement.selected }
     // Each selected package c is needed by world, by a selected package, or by an install-if.
     ensures needed { (command : CommandLine) (read : Reads) (chosen : Option (List ℕ))
         (s : InputsAndReplacement) (c : Candidate)
-        → IsPreferredChoiceUnlessRefused (pool_of_command command read) chosen
+        → IsPreferredChoiceOrNoneIfRefused (pool_of_command command read) chosen
         → selected_from_reads_by_choice command read chosen ≡ Ok s → IsIn c s.replacement.selected
         → IsNeededByWorldOrPackages
         (candidates_of s.inputs) s.inputs.root.new_world s.replacement.selected c }
@@ -163,7 +164,7 @@ pub fn a_selection_satisfies_world_exactly_if_packages_do()
         ↔ IsUnsatisfiable (candidates_of inputs) inputs.root.new_world }
     // If a command is refused as unsatisfied, no packages satisfy its new world.
     ensures refused { (command : CommandLine) (read : Reads) (chosen : Option (List ℕ))
-        → IsPreferredChoiceUnlessRefused (pool_of_command command read) chosen
+        → IsPreferredChoiceOrNoneIfRefused (pool_of_command command read) chosen
         → selected_from_reads_by_choice command read chosen ≡ Err Unsatisfied
         → (inputs : Inputs) × (inputs_of command read ≡ Ok inputs)
         × IsUnsatisfiable (candidates_of inputs) inputs.root.new_world }
@@ -171,7 +172,7 @@ pub fn a_selection_satisfies_world_exactly_if_packages_do()
     // earlier test refuses it.
     ensures refuses { (command : CommandLine) (read : Reads) (chosen : Option (List ℕ))
         (inputs : Inputs) (pool : SelectionProblem)
-        → IsPreferredChoiceUnlessRefused (pool_of_command command read) chosen
+        → IsPreferredChoiceOrNoneIfRefused (pool_of_command command read) chosen
         → inputs_of command read ≡ Ok inputs → pool_of_command command read ≡ Ok pool
         → unknown_operand_place command.applet inputs command.operands ≡ None
         → IsUnsatisfiable (candidates_of inputs) inputs.root.new_world
