@@ -7,7 +7,9 @@
 use base_core::{Disk, Name, Tree, TreeFault, Words};
 use host_files::{Host, Lock};
 use host_tree::HostTree;
-use row_lines::{Subject, add_number, add_word, add_yes_or_no, number_of, run_program, word_at};
+use row_lines::{
+    Subject, add_number, add_word, add_yes_or_no, number_of, run_program, value_named, word_at,
+};
 use std::alloc::{AllocError, Global};
 use std::os::unix::fs::symlink;
 use std::process::ExitCode;
@@ -15,6 +17,43 @@ use std::{fs, io, str};
 
 /// The most bytes that a row may read, and the greatest offset at which it may read.
 const MOST_BYTES: u128 = 1_000_000;
+
+/// The questions about a file; the README of this crate says what each question shows. `sync_names`
+/// is no such question, since it has no name of a file.
+#[derive(Clone, Copy)]
+enum Question {
+    Create,
+    Append,
+    Sync,
+    Write,
+    Remove,
+    Rename,
+    Check,
+    Size,
+    Read,
+    List,
+    Stands,
+    Link,
+    Unlink,
+}
+
+// The first word of the rows of each question.
+#[rattlefmt::skip]
+const QUESTIONS: [(&[u8], Question); 13] = [
+    (b"create", Question::Create),
+    (b"append", Question::Append),
+    (b"sync", Question::Sync),
+    (b"write", Question::Write),
+    (b"remove", Question::Remove),
+    (b"rename", Question::Rename),
+    (b"check", Question::Check),
+    (b"size", Question::Size),
+    (b"read", Question::Read),
+    (b"list", Question::List),
+    (b"stands", Question::Stands),
+    (b"link", Question::Link),
+    (b"unlink", Question::Unlink),
+];
 
 /// The folder in which the program runs, and the tree whose root is this folder.
 #[derive(Drop)]
@@ -39,28 +78,45 @@ impl<'a, R: Host> Subject for HostFolder<'a, R> {
         if question == b"sync_names".as_slice() {
             return add_outcome(answer, self.tree.sync_names());
         }
-        let Some(name) = Name::read(alloc, word_at(words, 1))? else {
-            return answer.extend_from_slice(b"no name");
+        let Some(asked) = value_named(&QUESTIONS, question) else {
+            return answer.extend_from_slice(b"no question");
         };
-        // The second word is the name of a file, and the further words are arguments of the
-        // question.
-        match question {
-            b"create" => add_outcome(answer, self.tree.create(&name)),
-            b"append" => add_outcome(answer, self.tree.append(&name, word_at(words, 2))),
-            b"sync" => add_outcome(answer, self.tree.sync(&name)),
-            b"write" => add_outcome(answer, self.write(&name, word_at(words, 2))),
-            b"remove" => add_outcome(answer, self.tree.remove(&name)),
-            b"rename" => self.add_rename(alloc, &name, word_at(words, 2), answer),
-            b"check" => self.add_check(alloc, &name, word_at(words, 2), answer),
-            b"size" => self.add_size(alloc, &name, answer),
-            b"read" => self.add_read(alloc, &name, words, answer),
-            b"list" => self.add_list(alloc, &name, answer),
-            _ => self.add_host_answer(question, &name, word_at(words, 2), answer),
+        match Name::read(alloc, word_at(words, 1))? {
+            Some(name) => self.add_answer(alloc, asked, &name, words, answer),
+            None => answer.extend_from_slice(b"no name"),
         }
     }
 }
 
 impl<'a, R: Host> HostFolder<'a, R> {
+    /// Answers a question about the file `name`, which is the second word of the row. Further words
+    /// are arguments of the question.
+    fn add_answer(
+        &mut self,
+        alloc: Global,
+        question: Question,
+        name: &Name,
+        words: &Words,
+        answer: &mut Vec<u8>,
+    ) -> Result<(), AllocError> {
+        let argument = word_at(words, 2);
+        match question {
+            Question::Create => add_outcome(answer, self.tree.create(name)),
+            Question::Append => add_outcome(answer, self.tree.append(name, argument)),
+            Question::Sync => add_outcome(answer, self.tree.sync(name)),
+            Question::Write => add_outcome(answer, self.write(name, argument)),
+            Question::Remove => add_outcome(answer, self.tree.remove(name)),
+            Question::Rename => self.add_rename(alloc, name, argument, answer),
+            Question::Check => self.add_check(alloc, name, argument, answer),
+            Question::Size => self.add_size(alloc, name, answer),
+            Question::Read => self.add_read(alloc, name, words, answer),
+            Question::List => self.add_list(alloc, name, answer),
+            Question::Stands | Question::Link | Question::Unlink => {
+                self.add_host_answer(question, name, argument, answer)
+            }
+        }
+    }
+
     /// Answers `write NAME BYTES`: makes a file with these bytes by three calls, the last of which
     /// syncs the file.
     fn write(&mut self, name: &Name, bytes: &[u8]) -> Result<(), Disk> {
@@ -157,7 +213,7 @@ impl<'a, R: Host> HostFolder<'a, R> {
     /// something, making a symbolic link, or removing a file.
     fn add_host_answer(
         &self,
-        question: &[u8],
+        question: Question,
         path: &Name,
         target: &[u8],
         answer: &mut Vec<u8>,
@@ -167,13 +223,12 @@ impl<'a, R: Host> HostFolder<'a, R> {
             return answer.extend_from_slice(b"no text");
         };
         match question {
-            // `stands PATH`: whether the path leads to something.
-            b"stands" => add_yes_or_no(answer, matches!(fs::exists(self.rt, path), Ok(true))),
             // `link PATH TARGET`: makes a symbolic link at the path, to the target.
-            b"link" => add_outcome(answer, symlink(self.rt, target, path)),
+            Question::Link => add_outcome(answer, symlink(self.rt, target, path)),
             // `unlink PATH`: removes the file at the path.
-            b"unlink" => add_outcome(answer, fs::remove_file(self.rt, path)),
-            _ => answer.extend_from_slice(b"no question"),
+            Question::Unlink => add_outcome(answer, fs::remove_file(self.rt, path)),
+            // `stands PATH`: whether the path leads to something.
+            _ => add_yes_or_no(answer, matches!(fs::exists(self.rt, path), Ok(true))),
         }
     }
 }

@@ -233,6 +233,18 @@ fn add_two_counts(
     text: &mut Vec<u8>,
 ) -> Result<(), RowFault> {
     let first = sealed(alloc, row, command.world, command.upgrade)?;
+    add_counts_with_second_pool(alloc, row, command, &first, text)
+}
+
+// Appends the number of candidates of a pool, and that of a second pool, which is made of the same
+// row.
+fn add_counts_with_second_pool(
+    alloc: Global,
+    row: &Row<'_>,
+    command: Command<'_>,
+    first: &Sealed<'_>,
+    text: &mut Vec<u8>,
+) -> Result<(), RowFault> {
     let second = sealed(alloc, row, command.world, command.upgrade)?;
     Ok(add_counts(alloc, first.len(), second.len(), text)?)
 }
