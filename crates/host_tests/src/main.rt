@@ -32,8 +32,18 @@ enum Question {
     Size,
     Read,
     List,
-    Stands,
+    /// A question that is answered by a call on the host, and not on the tree.
+    Host(HostCall),
+}
+
+/// The calls that rows make on the host itself.
+#[derive(Clone, Copy)]
+enum HostCall {
+    /// `stands PATH`: whether the path leads to something.
+    Exists,
+    /// `link PATH TARGET`: makes a symbolic link at the path, to the target.
     Link,
+    /// `unlink PATH`: removes the file at the path.
     Unlink,
 }
 
@@ -50,9 +60,9 @@ const QUESTIONS: [(&[u8], Question); 13] = [
     (b"size", Question::Size),
     (b"read", Question::Read),
     (b"list", Question::List),
-    (b"stands", Question::Stands),
-    (b"link", Question::Link),
-    (b"unlink", Question::Unlink),
+    (b"stands", Question::Host(HostCall::Exists)),
+    (b"link", Question::Host(HostCall::Link)),
+    (b"unlink", Question::Host(HostCall::Unlink)),
 ];
 
 /// The folder in which the program runs, and the tree whose root is this folder.
@@ -73,16 +83,16 @@ impl<'a, R: Host> Subject for HostFolder<'a, R> {
         words: &Words,
         answer: &mut Vec<u8>,
     ) -> Result<(), AllocError> {
-        let question = word_at(words, 0);
+        let first = word_at(words, 0);
         // This question alone has no name of a file.
-        if question == b"sync_names".as_slice() {
+        if first == b"sync_names".as_slice() {
             return add_outcome(answer, self.tree.sync_names());
         }
-        let Some(asked) = value_named(&QUESTIONS, question) else {
+        let Some(question) = value_named(&QUESTIONS, first) else {
             return answer.extend_from_slice(b"no question");
         };
         match Name::read(alloc, word_at(words, 1))? {
-            Some(name) => self.add_answer(alloc, asked, &name, words, answer),
+            Some(name) => self.add_answer(alloc, question, &name, words, answer),
             None => answer.extend_from_slice(b"no name"),
         }
     }
@@ -111,9 +121,7 @@ impl<'a, R: Host> HostFolder<'a, R> {
             Question::Size => self.add_size(alloc, name, answer),
             Question::Read => self.add_read(alloc, name, words, answer),
             Question::List => self.add_list(alloc, name, answer),
-            Question::Stands | Question::Link | Question::Unlink => {
-                self.add_host_answer(question, name, argument, answer)
-            }
+            Question::Host(call) => self.add_host_answer(call, name, argument, answer),
         }
     }
 
@@ -213,7 +221,7 @@ impl<'a, R: Host> HostFolder<'a, R> {
     /// something, making a symbolic link, or removing a file.
     fn add_host_answer(
         &self,
-        question: Question,
+        call: HostCall,
         path: &Name,
         target: &[u8],
         answer: &mut Vec<u8>,
@@ -222,13 +230,13 @@ impl<'a, R: Host> HostFolder<'a, R> {
         else {
             return answer.extend_from_slice(b"no text");
         };
-        match question {
-            // `link PATH TARGET`: makes a symbolic link at the path, to the target.
-            Question::Link => add_outcome(answer, symlink(self.rt, target, path)),
-            // `unlink PATH`: removes the file at the path.
-            Question::Unlink => add_outcome(answer, fs::remove_file(self.rt, path)),
-            // `stands PATH`: whether the path leads to something.
-            _ => add_yes_or_no(answer, matches!(fs::exists(self.rt, path), Ok(true))),
+        match call {
+            HostCall::Exists => add_yes_or_no(
+                answer,
+                matches!(fs::exists(self.rt, path), Ok(true)),
+            ),
+            HostCall::Link => add_outcome(answer, symlink(self.rt, target, path)),
+            HostCall::Unlink => add_outcome(answer, fs::remove_file(self.rt, path)),
         }
     }
 }
