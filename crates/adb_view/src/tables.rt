@@ -1,7 +1,7 @@
 //! The ten tables of the containers, as constants: the number of each table, and the names and
 //! kinds of its fields. Readers and writers of containers use them. The tables are defined in
-//! `docs/formats.md`, "Schemas". A new table needs a constant here, a variant of `Which`, and lines
-//! in `fields_of` and `number_of`.
+//! `docs/formats.md`, "Schemas". A new table needs a constant here, a variant of `Which` with the
+//! number of the table, and a line in `fields_of`.
 
 ghost use Rattle.std.specs.Prelude.{◌≡◌, ◌≤◌};
 ghost use Rattle.adb_view.specs.Schema.{table, table_number, shape_of, shapes_of};
@@ -10,7 +10,8 @@ ghost use Rattle.adb_view.specs.FormatTables.{format_table, program_table};
 ghost use Rattle.adb_view.specs.declared.tables.Which.{Which};
 ghost use Rattle.adb_view.specs.declared.tables.Kind.TheVariants as Kinds;
 
-/// One of the ten tables, by which a word is read as an object.
+/// One of the ten tables, by which a word is read as an object. The number of a variant is that of
+/// its table.
 #[derive(Clone, Copy, PartialEq, Eq)]
 pub enum Which {
     /// Table 1: a dependency.
