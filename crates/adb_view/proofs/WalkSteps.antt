@@ -1,5 +1,5 @@
 -- Steps of the walk, as the code makes them.
-use Rattle.std.proofs.Common.{◌≡◌, ℕ, zero, suc, ◌+◌, ◌<◌, ◌≤◌, true, false, ltb, List, [], ◌∷◌, length, get_or, drop, Result, Ok, Err, refl, ap, ◌∙◌, arith, lit<, inl, inr, min}
+use Rattle.std.proofs.Common.{◌≡◌, ℕ, zero, suc, ◌+◌, ◌<◌, ◌≤◌, true, false, ltb, List, [], ◌∷◌, length, get_or, drop, Some, None, Result, Ok, Err, refl, ap, ◌∙◌, arith, lit<, inl, inr, min}
 use Rattle.std.proofs.lemmas.Bool.{lt-ltb, le-ltb, eqb-true}
 use Rattle.std.proofs.lemmas.Bool.Decides.{leb_tells}
 use Rattle.std.proofs.lemmas.List.{drop_more, drop_all}
@@ -142,23 +142,31 @@ bound_ok r f x e = ap (λ r. and_then r f) e
 bound_err : {A B : Type 0} (r : Result A Cause) (f : A → Result B Cause) (c : Cause) → r ≡ Err c → (and_then r f) ≡ Err c
 bound_err r f c e = ap (λ r. and_then r f) e
 
-pub int_ok : (p : List ℕ) (n w x : ℕ) → n < MOST_VALUES → int_of p w ≡ Ok x → walk p (shape_of Int) n w ≡ Ok (n + 1)
-int_ok p n w x lt e = walk_int p n w lt ∙ bound_ok (int_of p w) _ x e
+counted : {A : Type 0} (r : Result A Cause) (n : ℕ) → result_err r ≡ None → (and_then r (λ x. Ok (n + 1))) ≡ Ok (n + 1)
+counted (Ok x) n e = refl
+counted (Err c) n e = absurd cc
 
-pub int_err : (p : List ℕ) (n w : ℕ) (c : Cause) → n < MOST_VALUES → int_of p w ≡ Err c → walk p (shape_of Int) n w ≡ Err c
-int_err p n w c lt e = walk_int p n w lt ∙ bound_err (int_of p w) _ c e
+refused : {A : Type 0} (r : Result A Cause) (n : ℕ) (c : Cause) → result_err r ≡ Some c → (and_then r (λ x. Ok (n + 1))) ≡ Err c
+refused (Ok x) n c e = absurd cc
+refused (Err b) n c e = cc
 
-pub text_ok : (p : List ℕ) (n w : ℕ) (x : List ℕ) → n < MOST_VALUES → blob_of p w ≡ Ok x → walk p (shape_of Text) n w ≡ Ok (n + 1)
-text_ok p n w x lt e = walk_text p n w lt ∙ bound_ok (blob_of p w) _ x e
+pub int_ok : (p : List ℕ) (n w : ℕ) → n < MOST_VALUES → result_err (int_of p w) ≡ None → walk p (shape_of Int) n w ≡ Ok (n + 1)
+int_ok p n w lt e = walk_int p n w lt ∙ counted (int_of p w) n e
 
-pub text_err : (p : List ℕ) (n w : ℕ) (c : Cause) → n < MOST_VALUES → blob_of p w ≡ Err c → walk p (shape_of Text) n w ≡ Err c
-text_err p n w c lt e = walk_text p n w lt ∙ bound_err (blob_of p w) _ c e
+pub int_err : (p : List ℕ) (n w : ℕ) (c : Cause) → n < MOST_VALUES → result_err (int_of p w) ≡ Some c → walk p (shape_of Int) n w ≡ Err c
+int_err p n w c lt e = walk_int p n w lt ∙ refused (int_of p w) n c e
 
-pub hash_ok : (p : List ℕ) (n w : ℕ) (x : List ℕ) → n < MOST_VALUES → blob_of p w ≡ Ok x → walk p (shape_of Hash) n w ≡ Ok (n + 1)
-hash_ok p n w x lt e = walk_hash p n w lt ∙ bound_ok (blob_of p w) _ x e
+pub text_ok : (p : List ℕ) (n w : ℕ) → n < MOST_VALUES → result_err (blob_of p w) ≡ None → walk p (shape_of Text) n w ≡ Ok (n + 1)
+text_ok p n w lt e = walk_text p n w lt ∙ counted (blob_of p w) n e
 
-pub hash_err : (p : List ℕ) (n w : ℕ) (c : Cause) → n < MOST_VALUES → blob_of p w ≡ Err c → walk p (shape_of Hash) n w ≡ Err c
-hash_err p n w c lt e = walk_hash p n w lt ∙ bound_err (blob_of p w) _ c e
+pub text_err : (p : List ℕ) (n w : ℕ) (c : Cause) → n < MOST_VALUES → result_err (blob_of p w) ≡ Some c → walk p (shape_of Text) n w ≡ Err c
+text_err p n w c lt e = walk_text p n w lt ∙ refused (blob_of p w) n c e
+
+pub hash_ok : (p : List ℕ) (n w : ℕ) → n < MOST_VALUES → result_err (blob_of p w) ≡ None → walk p (shape_of Hash) n w ≡ Ok (n + 1)
+hash_ok p n w lt e = walk_hash p n w lt ∙ counted (blob_of p w) n e
+
+pub hash_err : (p : List ℕ) (n w : ℕ) (c : Cause) → n < MOST_VALUES → result_err (blob_of p w) ≡ Some c → walk p (shape_of Hash) n w ≡ Err c
+hash_err p n w c lt e = walk_hash p n w lt ∙ refused (blob_of p w) n c e
 
 pub texts_ok : (p : List ℕ) (n w : ℕ) (ws : List ℕ) → n < MOST_VALUES → run_entries_of_kind_in_payload_at_word ARRAY p w ≡ Ok ws → walk p (shape_of TextArr) n w ≡ walk_each_word (walk p (shape_of Text)) (n + 1) ws
 texts_ok p n w ws lt e = walk_texts p n w lt ∙ bound_ok (run_entries_of_kind_in_payload_at_word ARRAY p w) _ ws e

@@ -1,7 +1,7 @@
 //! The ten tables of the containers, as constants: the number of each table, and the names and
 //! kinds of its fields. Readers and writers of containers use them. The tables are defined in
-//! `docs/formats.md`, "Schemas". A new table needs a constant here, a variant of `Which`, and lines
-//! in `fields_of` and `number_of`.
+//! `docs/formats.md`, "Schemas". A new table needs a constant here, a variant of `Which` with the
+//! number of the table, and a line in `fields_of`.
 
 ghost use Rattle.std.specs.Prelude.{◌≡◌, ◌≤◌};
 ghost use Rattle.adb_view.specs.Schema.{table, table_number, shape_of, shapes_of};
@@ -10,33 +10,34 @@ ghost use Rattle.adb_view.specs.FormatTables.{format_table, program_table};
 ghost use Rattle.adb_view.specs.declared.tables.Which.{Which};
 ghost use Rattle.adb_view.specs.declared.tables.Kind.TheVariants as Kinds;
 
-/// One of the ten tables, by which a word is read as an object.
-#[derive(Clone, Copy, Debug, PartialEq, Eq)]
+/// One of the ten tables, by which a word is read as an object. The number of a variant is that of
+/// its table.
+#[derive(Clone, Copy, PartialEq, Eq)]
 pub enum Which {
     /// Table 1: a dependency.
-    Dep,
+    Dep = 1,
     /// Table 2: an access list.
-    Acl,
+    Acl = 2,
     /// Table 3: the information of a package.
-    PkgInfo,
+    PkgInfo = 3,
     /// Table 4: a file of a folder.
-    File,
+    File = 4,
     /// Table 5: a folder of a package.
-    Dir,
+    Dir = 5,
     /// Table 6: a package's scripts.
-    Scripts,
+    Scripts = 6,
     /// Table 7: a package.
-    Package,
+    Package = 7,
     /// Table 8: an index of packages.
-    Index,
+    Index = 8,
     /// Table 9: an installed database.
-    Idb,
+    Idb = 9,
     /// Table 10: a journal entry, which names what a change will remove and write.
-    Intent,
+    Intent = 10,
 }
 
 /// The kind of a field's value.
-#[derive(Clone, Copy, Debug, PartialEq, Eq)]
+#[derive(Clone, Copy)]
 pub enum Kind {
     /// An integer.
     Int,
@@ -53,7 +54,7 @@ pub enum Kind {
 }
 
 /// A field of a table. The number of a field is its position in the table, counted from 1.
-#[derive(Clone, Copy, Debug, PartialEq, Eq)]
+#[derive(Clone, Copy)]
 pub struct Field {
     /// The name of the field, as dumps print it.
     pub name: FieldName,
@@ -72,7 +73,7 @@ pub struct Schema<const N: usize> {
 }
 
 /// The name of a field, spelled by `text`; fields of several tables may share a name.
-#[derive(Clone, Copy, Debug, PartialEq, Eq)]
+#[derive(Clone, Copy)]
 pub enum FieldName {
     Name,
     Version,
@@ -124,6 +125,58 @@ pub enum FieldName {
     Writes,
 }
 
+/// The names of all fields as the formats write them, in the order of the variants of `FieldName`.
+static FIELD_NAMES: [&str; 48] = [
+    "name",
+    "version",
+    "match",
+    "mode",
+    "user",
+    "group",
+    "xattrs",
+    "hashes",
+    "description",
+    "arch",
+    "license",
+    "origin",
+    "maintainer",
+    "url",
+    "repo-commit",
+    "build-time",
+    "installed-size",
+    "file-size",
+    "provider-priority",
+    "depends",
+    "provides",
+    "replaces",
+    "install-if",
+    "recommends",
+    "layer",
+    "tags",
+    "unused",
+    "acl",
+    "size",
+    "mtime",
+    "target",
+    "files",
+    "trigger",
+    "pre-install",
+    "post-install",
+    "pre-deinstall",
+    "post-deinstall",
+    "pre-upgrade",
+    "post-upgrade",
+    "info",
+    "paths",
+    "scripts",
+    "triggers",
+    "replaces-priority",
+    "packages",
+    "pkgname-spec",
+    "removals",
+    "writes",
+];
+
 impl FieldName {
     ghost use Rattle.adb_view.specs.Schema.{field_name_text};
 
@@ -131,56 +184,7 @@ impl FieldName {
     pub fn text(self) -> &'static str
         ensures { result.now ≡ field_name_text self }
     {
-        match self {
-            FieldName::Name => "name",
-            FieldName::Version => "version",
-            FieldName::Match => "match",
-            FieldName::Mode => "mode",
-            FieldName::User => "user",
-            FieldName::Group => "group",
-            FieldName::Xattrs => "xattrs",
-            FieldName::Hashes => "hashes",
-            FieldName::Description => "description",
-            FieldName::Arch => "arch",
-            FieldName::License => "license",
-            FieldName::Origin => "origin",
-            FieldName::Maintainer => "maintainer",
-            FieldName::Url => "url",
-            FieldName::RepoCommit => "repo-commit",
-            FieldName::BuildTime => "build-time",
-            FieldName::InstalledSize => "installed-size",
-            FieldName::FileSize => "file-size",
-            FieldName::ProviderPriority => "provider-priority",
-            FieldName::Depends => "depends",
-            FieldName::Provides => "provides",
-            FieldName::Replaces => "replaces",
-            FieldName::InstallIf => "install-if",
-            FieldName::Recommends => "recommends",
-            FieldName::Layer => "layer",
-            FieldName::Tags => "tags",
-            FieldName::Unused => "unused",
-            FieldName::Acl => "acl",
-            FieldName::Size => "size",
-            FieldName::Mtime => "mtime",
-            FieldName::Target => "target",
-            FieldName::Files => "files",
-            FieldName::Trigger => "trigger",
-            FieldName::PreInstall => "pre-install",
-            FieldName::PostInstall => "post-install",
-            FieldName::PreDeinstall => "pre-deinstall",
-            FieldName::PostDeinstall => "post-deinstall",
-            FieldName::PreUpgrade => "pre-upgrade",
-            FieldName::PostUpgrade => "post-upgrade",
-            FieldName::Info => "info",
-            FieldName::Paths => "paths",
-            FieldName::Scripts => "scripts",
-            FieldName::Triggers => "triggers",
-            FieldName::ReplacesPriority => "replaces-priority",
-            FieldName::Packages => "packages",
-            FieldName::PkgnameSpec => "pkgname-spec",
-            FieldName::Removals => "removals",
-            FieldName::Writes => "writes",
-        }
+        FIELD_NAMES[self as usize]
     }
 }
 
@@ -402,18 +406,7 @@ pub fn number_of(which: Which) -> u16
     ensures value { result ≡ table_number which }
     ensures small { result ≤ 10 }
 {
-    match which {
-        Which::Dep => DEP.number,
-        Which::Acl => ACL.number,
-        Which::PkgInfo => PKGINFO.number,
-        Which::File => FILE.number,
-        Which::Dir => DIR.number,
-        Which::Scripts => SCRIPTS.number,
-        Which::Package => PACKAGE.number,
-        Which::Index => INDEX.number,
-        Which::Idb => IDB.number,
-        Which::Intent => INTENT.number,
-    }
+    which as u16
 }
 
 /// A law: the tables have the numbers, names and kinds that the formats list.

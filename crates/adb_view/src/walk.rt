@@ -26,12 +26,12 @@ ghost use Rattle.adb_view.specs.declared.tables.Which.{Which};
 ghost use Rattle.adb_view.specs.declared.tables.Kind.TheVariants as Kinds;
 
 use crate::adb::{Adb, value_is_found_where_visits_are_sound};
-use crate::readers::{is_sound_leaf, read_array, read_blob, read_int, read_object};
+use crate::readers::{is_sound_leaf, leaf_fault, read_entries};
 use crate::run::Arr;
 use crate::shaped::Shaped;
 use crate::tables::{Field, Kind, Which, fields_of};
 use crate::visit_fault::VisitFault;
-use crate::words::Val;
+use crate::words::{Val, kind as word_kind};
 use base_core::Cause;
 
 /// All entries of the object to which the word `object` refers, also those past the fields of its
@@ -41,7 +41,7 @@ pub fn object_entries<'a>(adb: Adb<'a>, object: Val) -> Result<Arr<'a>, Cause>
     ensures { Gives array_entries result (run_entries_of_kind_in_payload_at_word OBJECT
         (payload_of adb.entry) object) }
 {
-    Ok(adb.obj::<0>(object)?.entries())
+    Arr::read(adb.payload(), word_kind::OBJECT, object)
 }
 
 /// The word of the entry with the index `i`, which counts from 0.
@@ -106,19 +106,15 @@ fn walk_value(adb: Adb<'_>, kind: Kind, before: u32, word: Val) -> Result<u32, V
         return Err(VisitFault::TooLarge { count });
     }
     match kind {
-        Kind::Int => match read_int(adb, word) {
-            Ok(_) => Ok(count),
-            Err(fault) => Err(fault),
+        Kind::Int | Kind::Text | Kind::Hash => match leaf_fault(adb, kind, word) {
+            None => Ok(count),
+            Some(fault) => Err(fault),
         },
-        Kind::Text | Kind::Hash => match read_blob(adb, word) {
-            Ok(_) => Ok(count),
-            Err(fault) => Err(fault),
-        },
-        Kind::TextArr => match read_array(adb, word) {
+        Kind::TextArr => match read_entries(adb, word_kind::ARRAY, word) {
             Ok(texts) => walk_texts(adb, count, texts),
             Err(fault) => Err(fault),
         },
-        Kind::ObjArr(which) => match read_array(adb, word) {
+        Kind::ObjArr(which) => match read_entries(adb, word_kind::ARRAY, word) {
             Ok(objects) => walk_objects(adb, which, count, objects),
             Err(fault) => Err(fault),
         },
@@ -197,7 +193,7 @@ fn walk_object(adb: Adb<'_>, which: Which, before: u32, word: Val) -> Result<u32
     if count > MOST_VALUES {
         return Err(VisitFault::TooLarge { count });
     }
-    match read_object(adb, word) {
+    match read_entries(adb, word_kind::OBJECT, word) {
         Ok(entries) => walk_each_field(adb, fields_of(which), count, entries),
         Err(fault) => Err(fault),
     }

@@ -42,7 +42,7 @@ pub(crate) mod kind {
 
 /// A value's word: its kind in the top 4 bits, and below them a number, or an offset in bytes from
 /// the start of the word's payload (apk-v3(5)).
-#[derive(Clone, Copy, Debug, PartialEq, Eq)]
+#[derive(Clone, Copy, PartialEq, Eq)]
 pub struct Val {
     /// The 32 bits: the kind in the top 4 bits, and below them a number or an offset in the
     /// payload.

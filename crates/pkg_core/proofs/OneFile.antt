@@ -6,7 +6,7 @@ use Rattle.adb_view.specs.Plain.{Plain, Plains, none, more}
 use Rattle.adb_view.specs.Values.{nth, count_of, entries_in, entry_at_index, int_in, text_in}
 use Rattle.adb_schema.specs.Texts.{is_file_with_contents}
 use Rattle.adb_schema.specs.adb_fields.Repeated.{files_in, list_of}
-use Rattle.pkg_core.specs.Contents.{ExpectedFile, expected_file_if_with_contents, expected_files_of_folder, expected_files_of_folders}
+use Rattle.pkg_core.specs.Contents.{ExpectedFile, expected_files_of_folder, expected_files_of_folders}
 use Rattle.pkg_core.specs.Opened.{expected_file_at, is_expected_at}
 
 -- ---- lists

@@ -9,7 +9,7 @@ use Rattle.adb_block.specs.PositionBetweenBlocks.{first_block_position_of_schema
 use Rattle.adb_view.specs.Head.{payload_head_fault}
 use Rattle.std.specs.Option.{option_or}
 use Rattle.adb_view.specs.declared.tables.Which.TheVariants.{Package}
-use Rattle.adb_schema.specs.Soundness.{blocks_fault, file_fault_with_rest_test, file_fault_by_header_schema_or_fault, container_fault_except_contents, first_block_payload, payload_by_header_schema_or_fault, payload_fault, payload_in, remaining_blocks_fault_unless_package, root_value_of_payload}
+use Rattle.adb_schema.specs.Soundness.{blocks_fault, file_fault_by_header_schema_or_fault, container_fault_except_contents, first_block_payload, payload_by_header_schema_or_fault, payload_fault, payload_in, remaining_blocks_fault_unless_package, root_value_of_payload}
 use Rattle.adb_schema.specs.declared.read.TheConstants.{PACKAGE_WORD}
 use Rattle.pkg_core.specs.Contents.{contents_fault, expected_files_of_package}
 use Rattle.pkg_core.specs.Whole.{fault_of_contents_blocks_by_root_table, container_fault, container_fault_after_header, container_fault_of_table}

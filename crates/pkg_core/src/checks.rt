@@ -20,6 +20,7 @@ ghost use Rattle.adb_schema.specs.Soundness.{container_fault_except_contents, he
 ghost use Rattle.pkg_core.specs.FirstContents.{IsFirstContentsFault};
 ghost use Rattle.pkg_core.specs.GoodContents.{MatchEachExpectedSizeAndKnownDigest, MatchEachExpectedSizeAndDigest};
 
+use crate::hasher::Hasher;
 use crate::pack::{Package, PackageFault};
 use adb_block::Blocks;
 use adb_schema::{
@@ -27,8 +28,6 @@ use adb_schema::{
     the_first_bad_text_is_reported,
 };
 use base_core::{Cause, Digest as FoundDigest};
-use sha1::Sha1;
-use sha2::{Digest, Sha256, Sha512};
 use std::alloc::Global;
 
 /// Tests all of a container (apk-v3(5)) of any of the four schemas. The tests are: the file's
@@ -124,17 +123,12 @@ fn verify_other(alloc: Global, bytes: &[u8], which: Which) -> Result<(), Package
 /// Why bytes do not have the digest `hash`; None if they have it. The length of the digest selects
 /// the function: SHA-1, SHA-256 or SHA-512 (FIPS 180-4). A digest of another length is ignored; no
 /// file with contents has one in a checked package.
-#[tactic(auto, unfolding(crate::specs::Contents::fault_if_digest_is_not_of_bytes))]
 pub(crate) fn fault_if_digest_is_not_of_bytes(hash: &[u8], bytes: &[u8]) -> Option<Cause>
     ensures { result ≡ fault_if_digest_is_not_of_bytes hash.now bytes.now }
 {
-    // The lengths in bytes of a SHA-1, a SHA-256 and a SHA-512.
-    match hash.len() {
-        20 => sha1_fault(hash, Sha1::digest(bytes)),
-        32 => sha256_fault(hash, Sha256::digest(bytes)),
-        64 => sha512_fault(hash, Sha512::digest(bytes)),
-        _ => None,
-    }
+    let mut hasher = Hasher::new(hash);
+    hasher.update(bytes);
+    hasher.fault(hash)
 }
 
 /// The fault if the listed SHA-1 (FIPS 180-4), `hash`, is not the computed one, `found`:

@@ -189,7 +189,7 @@ pub const PIECE_LEN: usize = 65536;
 
 /// Which file a piece is a part of, by the position of its folder (`path`) and its position in the
 /// folder, which count from 1, and whether the piece is the last one of the file.
-#[derive(Clone, Copy, Debug, PartialEq, Eq)]
+#[derive(Clone, Copy)]
 pub struct Part {
     /// The position of the folder in the package, counted from 1.
     pub path: u32,

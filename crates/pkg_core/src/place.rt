@@ -83,7 +83,13 @@ impl<'a> BlockPlace<'a> {
     {
         match framing {
             None => self.end(),
-            Some(frame) => self.step_over(frame, positions),
+            Some(frame) => match frame.kind {
+                BlockKind::Contents => self.open(frame, positions),
+                BlockKind::Adb | BlockKind::Signature => {
+                    self.pass(frame);
+                    Ok(Step::Passed)
+                }
+            },
         }
     }
 
@@ -107,48 +113,6 @@ impl<'a> BlockPlace<'a> {
         match self.walk.end() {
             Ok(()) => Ok(Step::End),
             Err(cause) => Err(cause),
-        }
-    }
-
-    /// Advances over a block: contents open a file, and any other block is passed. The clauses are
-    /// those of `step`.
-    fn step_over(
-        &mut self,
-        frame: Frame,
-        positions: &[u8; POSITIONS_LEN],
-    ) -> Result<Step<'a>, Cause>
-        // The place is within the file.
-        requires at { self.old.at ≤ self.old.len }
-        // The block ends within the file.
-        requires fits { raw_size frame ≤ self.old.len - self.old.at }
-        // For each file of this length that has this block at the place, the result and the new
-        // place are those of *IsStepResult*.
-        ensures step { (file : List ℕ) → length file ≡ self.old.len
-            → IsFrameOrEndOfBlockResult (Ok (Some frame)) (drop self.old.at file)
-            (block_step_at self.old file)
-            → HasPositions (Some frame) positions.now self.old file
-            → IsStepResult (Some frame) self.old file result self.new }
-        // The length of the file is unchanged.
-        ensures len { self.new.len ≡ self.old.len }
-        // The new place is after the block and its padding.
-        ensures behind { OnOk result (self.new.at
-            ≡ self.old.at + whole_size frame (self.old.len - self.old.at)) }
-        // The place is still within the file.
-        ensures within { self.new.at ≤ self.new.len }
-        // All bytes of an opened file are still to be taken: those of the payload after the
-        // positions.
-        ensures left { IfOk result (HasWholeFileLeft frame) }
-        // A file is opened only by a block of contents.
-        ensures kind { IfOk result (OpensOnlyContents frame) }
-        // The walk passes an opened file, and no other; at the end it expects no file.
-        ensures walk { IfOk result (λ step. IsWalkAfterStep self.old.walk step self.new.walk) }
-    {
-        match frame.kind {
-            BlockKind::Contents => self.open(frame, positions),
-            BlockKind::Adb | BlockKind::Signature => {
-                self.pass(frame);
-                Ok(Step::Passed)
-            }
         }
     }
 

@@ -1,5 +1,5 @@
 -- The file in the folder at its position.
-use Rattle.std.proofs.Common.{◌≡◌, ℕ, ◌+◌, ◌-◌, ap, sym, subst, ◌∙◌, arith}
+use Rattle.std.proofs.Common.{sym, ◌∙◌, arith}
 use Rattle.adb_schema.specs.Views.{dir_value}
 use Rattle.adb_schema.specs.adb_fields.ListValue.{list_value}
 use Rattle.adb_schema.specs.adb_fields.Repeated.{list_of}
