@@ -24,7 +24,7 @@ use version_core::OverlappingVersions;
 const LONGEST_SHORT_TEXT: usize = 64;
 
 /// A rule that reads only the bytes of a text; each is named for what the text must be.
-#[derive(Clone, Copy, Debug, PartialEq, Eq, PartialOrd, Ord)]
+#[derive(Clone, Copy, PartialEq, Eq, PartialOrd, Ord)]
 pub enum TextRule {
     /// A dependency's name (field 101).
     DependencyName,

@@ -45,7 +45,7 @@ pub const IDB_WORD: u32 = 0x0062_6469;
 pub const INTENT_WORD: u32 = 0x7474_6e69;
 
 /// Why a container is not read.
-#[derive(Clone, Copy, Debug, PartialEq, Eq, Drop, Error)]
+#[derive(Clone, Copy, Debug, Drop, Error)]
 pub enum ReadFault {
     /// The first test that failed.
     #[error("bad container")]

@@ -23,7 +23,7 @@ use std::marker::Model;
 use version_core::Version;
 
 /// A place in the list of candidates, counted from 0.
-#[derive(Clone, Copy, Debug, PartialEq, Eq)]
+#[derive(Clone, Copy, PartialEq, Eq)]
 pub struct CandId {
     /// The place, counted from 0; that of a candidate is below 65,536.
     pub place: u32,

@@ -27,7 +27,7 @@ use adb_view::{Arr, Val, entry_word};
 use std::alloc::{AllocError, Global};
 
 /// Why a package was not added to a pool.
-#[derive(Clone, Copy, Debug, PartialEq, Eq)]
+#[derive(Clone, Copy)]
 pub enum PoolFault {
     /// There would be more candidates than a pool may have. `count` is `MOST_CANDIDATES` plus 1,
     /// the first count that is too great.

@@ -80,8 +80,7 @@ impl<'a> Table<'a> {
             self.old self.new) }
     {
         self.add(details.name(), id)?;
-        self.add_provided(&details.provides(), id)?;
-        Ok(())
+        self.add_provided(&details.provides(), id)
     }
 
     // Adds the candidate `id` to the name of each entry of its provides, unless the entry is a
@@ -108,8 +107,7 @@ impl<'a> Table<'a> {
         if entry.conflict {
             return Ok(());
         }
-        self.add(entry.name, id)?;
-        Ok(())
+        self.add(entry.name, id)
     }
 
     // Appends a candidate to those that offer a name, unless this candidate is the last of them
@@ -151,7 +149,7 @@ impl<'a> Table<'a> {
         if first == id {
             return Ok(());
         }
-        let ids = pair(self.alloc, first, id)?;
+        let ids = Vec::from_array(self.alloc, [first, id])?;
         insert_list(&mut self.lists, name, ids)
     }
 }
@@ -187,16 +185,6 @@ fn insert_list<'a>(
 {
     lists.insert(name, ids)?;
     Ok(())
-}
-
-// A list of two candidates.
-fn pair(alloc: Global, first: CandId, second: CandId) -> Result<Vec<CandId>, AllocError>
-    ensures { IfOk result (λ ids. ids.items ≡ first ∷ second ∷ []) }
-{
-    let mut ids = Vec::with_capacity(alloc, 2)?;
-    ids.push(first)?;
-    ids.push(second)?;
-    Ok(ids)
 }
 
 // Appends the place of a candidate to a list, unless it is the last place of the list already.

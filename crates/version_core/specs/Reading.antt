@@ -2,7 +2,7 @@
 -- skipped. Serves the contracts of `src/lexeme.rt`, `src/token.rt`, `src/order.rt` and `src/fuzzy.rt`;
 -- the rules are in `docs/formats.md`, "Versions".
 use Rattle.std.specs.Prelude.{◌≡◌, ℕ, ◌+◌, ◌-◌, ◌≤◌, ◌==◌, ◌&&◌, ◌||◌, Bool, true, false, not, if◌then◌else◌, List, [], ◌∷◌, length, take, drop, slice_get, slice_index, slice_index_or, EachIndex, IsTrue, Option, Some, None}
-use Rattle.std.specs.Char.{is_ascii_digit}
+use Rattle.std.specs.Char.{is_ascii_digit, is_ascii_lowercase}
 use Rattle.std.specs.List.{list_all}
 use Rattle.std.specs.Ordering.{is_eq, nat_cmp, ordering_then}
 use Rattle.std.specs.declared.cmp.Ordering.{Ordering}
@@ -14,6 +14,8 @@ use Rattle.version_core.specs.declared.order.Parting.TheVariants.{AtFront, AtMar
 use Rattle.version_core.specs.declared.token.TokenAt.{TokenAt}
 use Rattle.version_core.specs.declared.token.Tokens.{Tokens}
 use Rattle.version_core.specs.declared.lexeme.Lexeme.{Lexeme as LexemeAt}
+use Rattle.version_core.specs.declared.lexeme.Run.{Run}
+use Rattle.version_core.specs.declared.lexeme.Run.TheVariants.{Digits, Letters, HexDigits}
 use Rattle.version_core.specs.Token.{Token, Lexeme, lexeme, is_hex_digit, leading_hex_digits}
 use Rattle.version_core.specs.Matching.{are_wanted_tokens_met_by}
 use Rattle.version_core.specs.Order.{token_cmp, tokens_after_class_skipping_bytes}
@@ -63,6 +65,12 @@ hex_digit_if_some (Some byte) = if is_hex_digit byte then Some byte else None
 -- the byte at an index of a text, if there is one and it is a hexadecimal digit
 abbrev pub hex_digit_at : List ℕ → ℕ → Option ℕ
 hex_digit_at text at = hex_digit_if_some (slice_get text at)
+
+-- whether a byte may be in a run of this kind
+abbrev pub is_in_run : Run → ℕ → Bool
+is_in_run Digits b = is_ascii_digit b
+is_in_run Letters b = is_ascii_lowercase b
+is_in_run HexDigits b = is_hex_digit b
 
 -- how many bytes a reader has not read yet, without the remaining digits of a hash that it has taken
 abbrev pub bytes_left : Tokens → ℕ

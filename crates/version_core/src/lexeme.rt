@@ -4,13 +4,13 @@
 //! its bytes at once. `digits` and `few` say that bytes are digits, and few enough for 64 bits.
 
 ghost use Rattle.std.specs.Prelude.{◌≡◌, ◌≤◌, ◌<◌, false, length, drop, position, not};
-ghost use Rattle.std.specs.Char.{is_ascii_digit, is_ascii_lowercase};
+ghost use Rattle.std.specs.List.{take_while};
 ghost use Rattle.std.specs.Ordering.{nat_cmp};
 ghost use Rattle.std.specs.Cmp.Lexicographic.{slice_cmp};
 ghost use Rattle.std.specs.Str.Parse.{digits_value};
 ghost use Rattle.version_core.specs.Token.{begins_with_zero, later_component_lexeme_by_digits, leading_digits, hash_lexeme_by_hex_digits, leading_hex_digits, is_hex_digit, lexeme, lexeme_at, next_lexeme, number_lexeme_by_digits, number_token, revision_lexeme_by_text_after_hyphen, stray_lexeme, suffix_class, suffix_lexeme_by_word, suffix_rank, leading_letters, text_token, MOST_DIGITS};
 ghost use Rattle.version_core.specs.Overlapping.{passed_len};
-ghost use Rattle.version_core.specs.Reading.{AreDigits, hex_digit_at, is_hash, lexeme_view, whole_lexeme};
+ghost use Rattle.version_core.specs.Reading.{AreDigits, hex_digit_at, is_hash, is_in_run, lexeme_view, whole_lexeme};
 
 use crate::token::{Class, TokenAt};
 use std::cmp::Ordering;
@@ -26,6 +26,30 @@ pub struct Lexeme<'a> {
     pub token: TokenAt<'a>,
     /// How many bytes the reader skips.
     pub advance: usize,
+}
+
+/// A kind of bytes of which a text may begin with a run.
+#[derive(Clone, Copy)]
+enum Run {
+    /// Decimal digits.
+    Digits,
+    /// Lower-case letters.
+    Letters,
+    /// Lower-case hexadecimal digits.
+    HexDigits,
+}
+
+impl Run {
+    /// Whether a byte may be in a run of this kind.
+    fn has(self, byte: u8) -> bool
+        ensures { result ≡ is_in_run self byte }
+    {
+        match self {
+            Run::Digits => byte.is_ascii_digit(),
+            Run::Letters => byte.is_ascii_lowercase(),
+            Run::HexDigits => is_hex_digit(byte),
+        }
+    }
 }
 
 /// The lexeme of a token that is compared by a number; `advance` is how many bytes the token has.
@@ -253,59 +277,44 @@ fn value_of(digits: &[u8]) -> u64
 }
 
 /// The decimal digits that a text begins with.
-#[tactic(auto, using(crate::proofs::Runs::run_at))]
 fn leading_digits(text: &[u8]) -> &[u8]
     ensures front { result.now ≡ leading_digits text.now }
     // Each byte of the result is a decimal digit.
     ensures digits { AreDigits result.now }
 {
-    match digits_end(text) {
-        Some(len) => &text[..len],
-        None => text,
-    }
-}
-
-/// The index of the first byte that is not a decimal digit; None if all bytes are.
-fn digits_end(text: &[u8]) -> Option<usize>
-    ensures { result ≡ position (λ b. not (is_ascii_digit b)) text.now }
-{
-    text.iter().position(|byte| !byte.is_ascii_digit())
+    leading_run(Run::Digits, text)
 }
 
 /// The lowercase letters that a text begins with.
-#[tactic(auto, using(crate::proofs::Runs::run_at))]
 fn leading_letters(text: &[u8]) -> &[u8]
     ensures { result.now ≡ leading_letters text.now }
 {
-    match letters_end(text) {
-        Some(len) => &text[..len],
-        None => text,
-    }
-}
-
-/// The index of the first byte that is not a lowercase letter; None if all bytes are.
-fn letters_end(text: &[u8]) -> Option<usize>
-    ensures { result ≡ position (λ b. not (is_ascii_lowercase b)) text.now }
-{
-    text.iter().position(|byte| !byte.is_ascii_lowercase())
+    leading_run(Run::Letters, text)
 }
 
 /// The hexadecimal digits that a text begins with.
-#[tactic(auto, using(crate::proofs::Runs::run_at))]
 pub fn leading_hex_digits(text: &[u8]) -> &[u8]
     ensures { result.now ≡ leading_hex_digits text.now }
 {
-    match hex_digits_end(text) {
+    leading_run(Run::HexDigits, text)
+}
+
+/// The bytes of one kind that a text begins with.
+#[tactic(auto, using(crate::proofs::Runs::run_at))]
+fn leading_run(kind: Run, text: &[u8]) -> &[u8]
+    ensures { result.now ≡ take_while (is_in_run kind) text.now }
+{
+    match run_end(kind, text) {
         Some(len) => &text[..len],
         None => text,
     }
 }
 
-/// The index of the first byte that is not a hexadecimal digit; None if all bytes are.
-fn hex_digits_end(text: &[u8]) -> Option<usize>
-    ensures { result ≡ position (λ b. not (is_hex_digit b)) text.now }
+/// The index of the first byte that is not of this kind; None if all bytes are.
+fn run_end(kind: Run, text: &[u8]) -> Option<usize>
+    ensures { result ≡ position (λ b. not (is_in_run kind b)) text.now }
 {
-    text.iter().position(|byte| !is_hex_digit(*byte))
+    text.iter().position(|byte| !kind.has(*byte))
 }
 
 /// Whether a byte is a lower-case hexadecimal digit.
@@ -337,7 +346,10 @@ pub fn compare_hex_digits(left: &[u8], right: &[u8]) -> Ordering
 fn hex_digit_at(text: &[u8], at: usize) -> Option<u8>
     ensures { result ≡ hex_digit_at text.now at }
 {
-    text.get(at).copied().filter(|byte| is_hex_digit(*byte))
+    match text.get(at) {
+        Some(byte) if is_hex_digit(*byte) => Some(*byte),
+        _ => None,
+    }
 }
 
 /// The text after its first `count` bytes.

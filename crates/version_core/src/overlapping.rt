@@ -191,20 +191,20 @@ impl<'a> OverlappingVersions<'a> {
         // The bytes that are read are unchanged.
         ensures { self.new ≡ self.old }
     {
-        if self.leaps.is_empty() {
-            // A leap from a place to itself stands for a block without a known leap.
-            let place = Place {
-                at: 0,
-                class: Class::End,
-            };
-            let nowhere = Leap {
-                from: place,
-                to: place,
-            };
-            self.leaps
-                .resize(self.bytes.len() / BYTES_PER_LEAP + 1, nowhere)?;
+        if !self.leaps.is_empty() {
+            return Ok(());
         }
-        Ok(())
+        // A leap from a place to itself stands for a block without a known leap.
+        let place = Place {
+            at: 0,
+            class: Class::End,
+        };
+        let nowhere = Leap {
+            from: place,
+            to: place,
+        };
+        self.leaps
+            .resize(self.bytes.len() / BYTES_PER_LEAP + 1, nowhere)
     }
 }
 

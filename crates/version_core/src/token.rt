@@ -12,7 +12,7 @@ use crate::lexeme::{behind, compare_hex_digits, leading_hex_digits, lexeme_at};
 use std::cmp::Ordering;
 
 /// The kinds of tokens, in their order from the least to the greatest.
-#[derive(Clone, Copy, Debug, PartialEq, Eq)]
+#[derive(Clone, Copy, PartialEq, Eq)]
 pub enum Class {
     /// Bytes outside the grammar.
     Stray,

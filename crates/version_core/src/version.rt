@@ -26,7 +26,7 @@ const FUZZY: u8 = 8;
 
 /// An operator of a dependency, as its four match bits: 1 equal, 2 less, 4 greater, 8 the fuzzy
 /// match (apk-package(5), "depend").
-#[derive(Clone, Copy, Debug, PartialEq, Eq)]
+#[derive(Clone, Copy)]
 pub struct Op {
     /// The four match bits.
     bits: u8,

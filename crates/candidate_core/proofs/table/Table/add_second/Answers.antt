@@ -38,5 +38,5 @@ returns c =
     on_ok c.insert_list.result _ _ (λ h other.
     second_of_name lists singles name other first id (first_entry_under_name (named all c.insert_list.new.lists.entries) other) none one (sym c.eq.ensures ∙ c.if-eq.false)
     (ap (λ (z : Entries all). first_entry_under_name (named all z) other) h
-    ∙ (after_insert all c.args.name other ids es free ∙ ap (λ (xs : List ℕ). if bytes_eq other name then Some xs else lists other) c.in_ok-ids.ensures))
+    ∙ (after_insert all c.args.name other ids es free ∙ ap (λ (xs : List ℕ). if bytes_eq other name then Some xs else lists other) c.in_ok-ids.ensures.items))
     ∙ ap (with_more name other id) c.self.view_is) c.insert_list.ensures
