@@ -13,6 +13,8 @@ use Rattle.pool_core.specs.candidate_core.Candidates.{Candidate}
 use Rattle.pool_core.specs.candidate_core.Options.{IsIn}
 use Rattle.pool_core.proofs.candidate_core.Steps.{any_snoc, take_one_more}
 use Rattle.pool_core.specs.option_ranks.Ranking.{Ranking}
+use Rattle.pool_core.specs.option_ranks.declared.rank.VersionKey.{VersionKey}
+use Rattle.query_core.specs.QueryRanking.{have_same_version}
 use Rattle.pool_core.proofs.option_ranks.MovedMembers.{moved_member}
 use Rattle.query_core.specs.VersionPlaces.{AreNonDecreasing, ListsPlacesOf, version_places_from_parts}
 use Rattle.query_core.proofs.RisingLines.{has_number, numbered, numbers_of}
@@ -30,6 +32,22 @@ pub installed_more : (cs : List Candidate) (rs : List Ranking) (i : ℕ) (r : Ra
 installed_more cs rs i r d before h e was =
     ap (λ (b : Bool). b || d.installed) was
     ∙ (sym (any_snoc (λ (c : Candidate). c.installed) (candidates_of cs (take i rs)) d) ∙ ap (list_any (λ (c : Candidate). c.installed)) (sym (one_more cs rs i r d h e)))
+
+-- the first candidate is that of the first ranking
+pub first_is : (cs : List Candidate) (rs : List Ranking) (r : Ranking) (d c : Candidate) → slice_get rs 0 ≡ Some r → slice_get cs r.place ≡ Some d → slice_get (candidates_of cs rs) 0 ≡ Some c → d ≡ c
+first_is cs [] r d c h e s = absurd (cc)
+first_is cs (q ∷ rs) r d c h e s =
+    let same : q ≡ r = cc in
+    let at : slice_get cs q.place ≡ Some d = ap (λ (z : Ranking). slice_get cs z.place) same ∙ e in
+    let both : Some d ≡ Some c = rw at at s in
+    cc
+
+-- what the key says of two rankings, it says of the rankings at these places
+pub same_at : (key : VersionKey) (rs : List Ranking) (i j : ℕ) (x y a b : Ranking) (is : Bool) → slice_get rs i ≡ Some x → slice_get rs j ≡ Some y → have_same_version key x y ≡ is → slice_get rs i ≡ Some a → slice_get rs j ≡ Some b → have_same_version key a b ≡ is
+same_at key rs i j x y a b is at_x at_y h at_a at_b =
+    let first : a ≡ x = cc in
+    let second : b ≡ y = cc in
+    (λ k. have_same_version key (first k) (second k)) ∙ h
 
 single : (o : Option ℕ) → option_to_list o ≡ cons_option o []
 single None = refl

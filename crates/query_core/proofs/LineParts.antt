@@ -1,22 +1,56 @@
 -- The parts of lines, one after another, and the lines of what is left.
-use Rattle.std.proofs.Common.{◌≡◌, ℕ, zero, suc, ◌+◌, ◌<◌, ◌≤◌, List, [], ◌∷◌, ◌++◌, All, Bool, length, drop, map, get_or, refl, sym, ap, ◌∙◌, arith, append_assoc}
-use Rattle.std.specs.Prelude.{Some, nat_lt, slice_get, if◌then◌else◌}
+use Rattle.std.proofs.Common.{◌≡◌, ℕ, zero, suc, ◌+◌, ◌<◌, ◌≤◌, List, [], ◌∷◌, ◌++◌, All, Bool, true, false, codes, length, drop, map, get_or, refl, sym, ap, ◌∙◌, arith, append_assoc}
+use Rattle.std.specs.Prelude.{Some, ◌==◌, nat_lt, slice_get, if◌then◌else◌}
 use Rattle.std.specs.List.{filter, filter_map, flat_map, list_any}
 use Rattle.pool_core.specs.candidate_core.Candidates.{Candidate}
 use Rattle.dep_core.specs.Repositories.{Repository}
 use Rattle.pool_core.specs.option_ranks.Ranking.{Ranking}
 use Rattle.pool_core.proofs.option_ranks.RankedOptions.{place_of}
-use Rattle.query_core.specs.Lines.{line_in_form}
+use Rattle.adb_view.specs.FieldIndexes.{INFO_ARCH_INDEX, INFO_LICENSE_INDEX, INFO_ORIGIN_INDEX}
+use Rattle.adb_view.specs.Values.{entry_at_index, text_in}
+use Rattle.query_core.specs.Lines.{description_part, line_in_form}
 use Rattle.query_core.specs.QueryRanking.{IsQueryRanking}
-use Rattle.report_core.specs.QueryReports.{policy_database_line, policy_version_heading}
+use Rattle.report_core.specs.QueryReports.{installed_mark, policy_database_line, policy_version_heading, text_between_unless_empty}
+use Rattle.report_core.specs.Reports.{name_dash_version}
 use Rattle.query_core.specs.Order.{printed_version}
 use Rattle.query_core.specs.Policy.{has_own_name_and_version_text, version_policy}
 use Rattle.query_core.specs.VersionPlaces.{ListsPlacesOfVersion, VersionPlaces, repository_line_numbered, distinct_repository_lines, version_lines}
 use Rattle.query_core.specs.declared.candidates.LineForm.{LineForm}
+use Rattle.query_core.specs.declared.candidates.LineForm.TheVariants.{Full, Short}
 use Rattle.query_core.proofs.RisingLines.{lines_of_numbers}
 use Rattle.query_core.proofs.Runs.{below_length}
 use Rattle.std.proofs.Common.{inl, inr}
-use Rattle.std.proofs.lemmas.Bool.{cases_Bool}
+use Rattle.std.proofs.lemmas.Bool.{cases_Bool, eq-eqb, eqb-true, false≢true}
+
+-- ---- the parts of a line
+
+-- a text between two others, by whether it is empty
+pub between_none : (before text after : List ℕ) → (length text == 0) ≡ true → [] ≡ text_between_unless_empty before text after
+between_none before [] after h = refl
+between_none before (b ∷ bytes) after h = let bad : suc (length bytes) ≡ 0 = eqb-true (suc (length bytes)) 0 h in absurd (omega (arith, bad))
+
+pub between_some : (before text after : List ℕ) → (length text == 0) ≡ false → (before ++ text) ++ after ≡ text_between_unless_empty before text after
+between_some before [] after h = absurd (false≢true (sym h ∙ eq-eqb 0 0 refl))
+between_some before (b ∷ bytes) after h = refl
+
+-- name and version, with what follows them, are the line of `list`
+line_joined : (front arch origin license mark end : List ℕ) → (front ++ (((arch ++ origin) ++ license) ++ mark)) ++ end ≡ ((((front ++ arch) ++ origin) ++ license) ++ mark) ++ end
+line_joined front arch origin license mark end =
+    ap (λ (x : List ℕ). x ++ end) (sym (append_assoc front ((arch ++ origin) ++ license) mark)
+    ∙ ap (λ (x : List ℕ). x ++ mark) (sym (append_assoc front (arch ++ origin) license) ∙ ap (λ (x : List ℕ). x ++ license) (sym (append_assoc front arch origin))))
+
+pub full_line : (c : Candidate) → (name_dash_version c.name (printed_version c.version) ++ description_part c) ++ codes "\n" ≡ line_in_form Full c
+full_line c =
+    line_joined (name_dash_version c.name (printed_version c.version))
+    (text_between_unless_empty (codes " ") (text_in (entry_at_index c.info INFO_ARCH_INDEX)) [])
+    (text_between_unless_empty (codes " {") (text_in (entry_at_index c.info INFO_ORIGIN_INDEX)) (codes "}"))
+    (text_between_unless_empty (codes " (") (text_in (entry_at_index c.info INFO_LICENSE_INDEX)) (codes ")"))
+    (installed_mark c.installed) (codes "\n")
+
+-- a form that is not that of `list`
+pub short_form : (form : LineForm) → (form ≡ Full → ⊥) → form ≡ Short
+short_form Full other = absurd (other refl)
+short_form Short other = refl
 
 -- ---- what is left of a list
 

@@ -2,7 +2,6 @@
 use Rattle.std.proofs.Common.{◌≡◌, ℕ, List, refl, ap, arith}
 use Rattle.std.specs.Prelude.{slice_get}
 use Rattle.std.specs.List.{filter}
-use Rattle.std.proofs.lemmas.Bool.{cases_Bool}
 use Rattle.pool_core.proofs.Filtered.{filter_places}
 use Rattle.pool_core.specs.candidate_core.Candidates.{offers_name}
 use Rattle.pool_core.specs.candidate_core.Options.{places_passing_counted_from, places_offering}

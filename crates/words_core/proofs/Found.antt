@@ -1,11 +1,12 @@
 -- The option that a word spells, in tables that are joined or seen as others.
-use Rattle.std.proofs.Common.{Bool, List, None, Option, Some, [], ap, cond, false, map, refl, sym, true, ℕ, ◌++◌, ◌∙◌, ◌∷◌, ◌≡◌}
+use Rattle.std.proofs.Common.{Bool, List, None, Option, Some, [], ap, cond, drop, false, get_or, length, map, refl, sym, true, ℕ, ◌++◌, ◌+◌, ◌<◌, ◌≤◌, ◌∙◌, ◌∷◌, ◌≡◌}
 use Rattle.std.specs.List.{find}
 use Rattle.std.specs.Option.{option_map, option_or}
 use Rattle.std.specs.Prelude.{◌||◌}
 use Rattle.std.specs.Str.{bytes_eq}
 use Rattle.std.proofs.lemmas.List.Folds.{find-append}
 use Rattle.words_core.specs.Options.{OptionSpec, option_of_word}
+use Rattle.words_core.proofs.Helped.{drop_all, drop_at}
 
 pub find-map : {A B : Type 0} (p : B → Bool) (f : A → B) (xs : List A) → find p (map f xs) ≡ option_map f (find (λ x. p (f x)) xs)
 find-map p f [] = refl
@@ -15,14 +16,20 @@ find-map p f (x ∷ xs) =
       | false ↦ find-map p f xs
     ]
 
-pub option_map-same : {A : Type 0} (o : Option A) → option_map (λ x. x) o ≡ o
-option_map-same None = refl
-option_map-same (Some x) = refl
+-- the search goes on behind the elements that fail the test
+pub found_at : {A : Type 0} (p : A → Bool) (xs : List A) (i : ℕ) (d : A) → i < length xs → p (get_or xs i d) ≡ true → find p xs ≡ find p (drop i xs) → find p xs ≡ Some (get_or xs i d)
+found_at p xs i d l is kept = kept ∙ (ap (find p) (drop_at xs i d l) ∙ rw is refl)
+
+pub found_later : {A : Type 0} (p : A → Bool) (xs : List A) (i : ℕ) (d : A) → i < length xs → p (get_or xs i d) ≡ false → find p xs ≡ find p (drop i xs) → find p xs ≡ find p (drop (i + 1) xs)
+found_later p xs i d l is kept = kept ∙ (ap (find p) (drop_at xs i d l) ∙ rw is refl)
+
+pub not_found : {A : Type 0} (p : A → Bool) (xs : List A) (i : ℕ) → length xs ≤ i → find p xs ≡ find p (drop i xs) → find p xs ≡ None
+not_found p xs i l kept = kept ∙ ap (find p) (drop_all xs i l)
 
 -- a table that is seen as another
-pub found_seen : {A : Type 0} (f : A → OptionSpec) (xs : List A) (word : List ℕ) (r : Option A) → option_map (λ x. x) r ≡ find (λ x. bytes_eq (f x).long word || bytes_eq (f x).short word) xs → option_map f r ≡ option_of_word (map f xs) word
+pub found_seen : {A : Type 0} (f : A → OptionSpec) (xs : List A) (word : List ℕ) (r : Option A) → find (λ x. bytes_eq (f x).long word || bytes_eq (f x).short word) xs ≡ r → option_map f r ≡ option_of_word (map f xs) word
 found_seen f xs word r h =
-    ap (option_map f) (sym (option_map-same r) ∙ h) ∙ sym (find-map (λ (e : OptionSpec). bytes_eq e.long word || bytes_eq e.short word) f xs)
+    ap (option_map f) (sym h) ∙ sym (find-map (λ (e : OptionSpec). bytes_eq e.long word || bytes_eq e.short word) f xs)
 
 -- in the first of two tables
 pub found_first : (xs ys : List OptionSpec) (word : List ℕ) (e : OptionSpec) → Some e ≡ option_of_word xs word → Some e ≡ option_of_word (xs ++ ys) word

@@ -1,7 +1,7 @@
 //! The texts of `--help` and `--version`, put together from the rows of `help_rows`. The texts are
 //! shown in `docs/commands.md`, "Help".
 ghost use Rattle.std.specs.Prelude.{◌≡◌, ◌≤◌, ◌++◌, IfOk, OnOk, codes, map};
-ghost use Rattle.words_core.specs.HelpTexts.{command_help, command_help_line, commands_text, common_options_text, first_steps_text, help_text, help_line_text, help_lines_text, program_help, program_usage, section_text, padding_to_column, help_topic_of, synopsis_line_with_prefix, synopsis_text_with_first_prefix, version_line};
+ghost use Rattle.words_core.specs.HelpTexts.{command_help, command_help_line, help_text, help_line_text, help_lines_text, program_help, section_text, padding_to_column, help_topic_of, synopsis_line_with_prefix, synopsis_text_with_first_prefix, version_line};
 ghost use Rattle.words_core.specs.Rows.{help_row_line};
 
 use crate::help_rows::{
@@ -13,8 +13,19 @@ use base_core::Text;
 use command_core::{Applet, Operands};
 use std::alloc::{AllocError, Global};
 
-// The version of this program.
-const PROGRAM_VERSION: &[u8] = b"0.4.0";
+// The line with the version of this program, and that of the formats.
+const VERSION_LINE: &[u8] = b"apk 0.4.0, apk-tools 3 formats\n";
+
+// Where paths begin, how a package is installed, and where to read on.
+const FIRST_STEPS: &[u8] = b"
+Paths are below the current folder, which is the root.
+
+To install a package, name an index of packages in etc/apk/repositories, and run
+  apk add --initdb --allow-untrusted NAME
+
+apk COMMAND --help explains a command.
+Manual page: apk(8)
+";
 
 // As many spaces as a line of help can have before its explanation.
 static SPACES: [u8; 26] = *b"                          ";
@@ -29,10 +40,7 @@ const OPTION_COLUMN: usize = 26;
 pub fn version_line(alloc: Global) -> Result<Text, AllocError>
     ensures { IfOk result (λ text. text ≡ version_line) }
 {
-    let mut text = Vec::from_slice(alloc, b"apk ")?;
-    text.extend_from_slice(PROGRAM_VERSION)?;
-    text.extend_from_slice(b", apk-tools 3 formats\n")?;
-    Ok(Text::from_vec(text))
+    Text::of(alloc, VERSION_LINE)
 }
 
 /// The text of `--help`, by the operands of the command `Help`: the help of the command whose word
@@ -58,33 +66,16 @@ fn help_topic_of(operands: &Operands) -> Option<Applet>
     applet_of(operands.get(0).text.as_bytes())
 }
 
-// Adds the help of the program.
+// Adds the help of the program: how it is called, its commands, the options that each command has,
+// and the first steps.
 fn push_program_help(text: &mut Vec<u8>) -> Result<(), AllocError>
     ensures { OnOk result (text.new.items ≡ text.old.items ++ program_help) }
 {
-    push_program_usage(text)?;
-    push_commands(text)?;
-    push_common(text)?;
-    push_first_steps(text)?;
-    Ok(())
-}
-
-// Adds how the program is called.
-#[tactic(auto, unfolding(crate::specs::HelpTexts::program_usage))]
-fn push_program_usage(text: &mut Vec<u8>) -> Result<(), AllocError>
-    ensures { OnOk result (text.new.items ≡ text.old.items ++ program_usage) }
-{
-    text.extend_from_slice(PROGRAM_USAGE)
-}
-
-// Adds the heading of the commands, and a line for each.
-#[tactic(auto, unfolding(crate::specs::HelpTexts::commands_text))]
-fn push_commands(text: &mut Vec<u8>) -> Result<(), AllocError>
-    ensures { OnOk result (text.new.items ≡ text.old.items ++ commands_text) }
-{
+    text.extend_from_slice(PROGRAM_USAGE)?;
     text.extend_from_slice(b"\nCommands:\n")?;
     push_command_lines(text, &LISTED_COMMANDS)?;
-    Ok(())
+    push_section(text, b"\nOptions of every command:\n", common_option_help())?;
+    text.extend_from_slice(FIRST_STEPS)
 }
 
 // Adds a line for each command.
@@ -102,29 +93,6 @@ fn push_command_lines(text: &mut Vec<u8>, commands: &[Applet]) -> Result<(), All
     Ok(())
 }
 
-// Adds the heading of the options of every command, and a line for each.
-#[tactic(auto, unfolding(crate::specs::HelpTexts::common_options_text))]
-fn push_common(text: &mut Vec<u8>) -> Result<(), AllocError>
-    ensures { OnOk result (text.new.items ≡ text.old.items ++ common_options_text) }
-{
-    text.extend_from_slice(b"\nOptions of every command:\n")?;
-    push_lines(text, common_option_help())?;
-    Ok(())
-}
-
-// Adds where paths begin, how a package is installed, and where to read on.
-#[tactic(auto, unfolding(crate::specs::HelpTexts::first_steps_text))]
-fn push_first_steps(text: &mut Vec<u8>) -> Result<(), AllocError>
-    ensures { OnOk result (text.new.items ≡ text.old.items ++ first_steps_text) }
-{
-    text.extend_from_slice(b"\nPaths are below the current folder, which is the root.\n")?;
-    text.extend_from_slice(
-        b"\nTo install a package, name an index of packages in etc/apk/repositories, and run\n",
-    )?;
-    text.extend_from_slice(b"  apk add --initdb --allow-untrusted NAME\n")?;
-    text.extend_from_slice(b"\napk COMMAND --help explains a command.\nManual page: apk(8)\n")
-}
-
 // Adds the help of a command.
 fn push_command_help(text: &mut Vec<u8>, applet: Applet) -> Result<(), AllocError>
     ensures { OnOk result (text.new.items ≡ text.old.items ++ command_help applet) }
@@ -132,16 +100,14 @@ fn push_command_help(text: &mut Vec<u8>, applet: Applet) -> Result<(), AllocErro
     push_usage(text, synopsis(applet))?;
     text.extend_from_slice(b"\n")?;
     text.extend_from_slice(purpose(applet))?;
-    text.extend_from_slice(b"\n")?;
-    text.extend_from_slice(b"\nOptions:\n")?;
+    text.extend_from_slice(b"\n\nOptions:\n")?;
     // First the options that the command has besides the common ones.
     push_lines(text, option_help(applet))?;
     push_lines(text, common_option_help())?;
     // Only `mkpkg` has fields, and some commands have no operands.
     push_section(text, b"\nFields that -I takes:\n", field_help(applet))?;
     push_section(text, b"\nOperands:\n", operand_help(applet))?;
-    text.extend_from_slice(b"\nManual page: apk(8)\n")?;
-    Ok(())
+    text.extend_from_slice(b"\nManual page: apk(8)\n")
 }
 
 // Adds how a command is called, a line for each way. The first line has a heading before it, and

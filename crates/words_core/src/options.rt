@@ -2,6 +2,7 @@
 //! in `docs/commands.md`, "Words", the table of options and the paragraph on those before the
 //! applet.
 ghost use Rattle.std.specs.Prelude.{◌≡◌, ◌||◌, ◌++◌, map};
+ghost use Rattle.std.specs.List.{find};
 ghost use Rattle.std.specs.Option.{option_and_then, option_map};
 ghost use Rattle.std.specs.Str.{bytes_eq};
 ghost use Rattle.words_core.specs.Grammar.{value_rule_of_meaning, flags_with_meaning_if_one_command_kind, flags_with_option_if_one_command_kind};
@@ -270,10 +271,20 @@ fn own_options(applet: Applet) -> &'static [OptionRow]
 pub(crate) fn applet_of(word: &[u8]) -> Option<Applet>
     ensures { result ≡ applet_of word.now }
 {
-    APPLETS
-        .iter()
-        .copied()
-        .find(|applet| applet_word(*applet) == word)
+    find_applet_named(&APPLETS, word)
+}
+
+// The applet that a word names, among these applets.
+fn find_applet_named(applets: &[Applet], word: &[u8]) -> Option<Applet>
+    ensures { result
+        ≡ find (λ applet. bytes_eq (applet_word applet) word.now) applets.now }
+{
+    for applet in applets {
+        if applet_word(*applet) == word {
+            return Some(*applet);
+        }
+    }
+    None
 }
 
 /// Whether a word is an option that may precede the applet.
@@ -333,10 +344,12 @@ fn find_option(options: &[OptionRow], word: &[u8]) -> Option<OptionRow>
     ensures { option_map option_spec result
         ≡ option_of_word (map option_spec options.now) word.now }
 {
-    options
-        .iter()
-        .copied()
-        .find(|option| option.is_spelled(word))
+    for option in options {
+        if option.is_spelled(word) {
+            return Some(*option);
+        }
+    }
+    None
 }
 
 /// Flags with an option added. None if there is no option, or in the cases of `Meaning::with`.

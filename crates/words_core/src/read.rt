@@ -1,10 +1,10 @@
 //! Reads the command of a command line, or finds the first place that offends. The rules are in
 //! `docs/commands.md`, "Words" and "Help".
-ghost use Rattle.std.specs.Prelude.{◌≡◌, IfOk, IfErr, IsTrue, OnErr};
+ghost use Rattle.std.specs.Prelude.{◌≡◌, IfErr, IfNone, IfOk, IsTrue, MatchOption, OnErr};
 ghost use Rattle.std.specs.Result.{is_ok};
 ghost use Rattle.command_core.specs.Sound.{is_valid_command};
 ghost use Rattle.words_core.specs.Faults.{HasStartIfOutOfMemory, IsWordsFault};
-ghost use Rattle.words_core.specs.Grammar.{applet_site, command_with_help_or_version_applet, command_of, command_of_reading_with_end_place, spelled_command, start_of_command_line, help_topic_operands};
+ghost use Rattle.words_core.specs.Grammar.{applet_site, command_with_help_or_version_applet, command_from_end_place_and_reading, command_of, command_of_reading_with_end_place, spelled_command, start_of_command_line, help_topic_operands};
 ghost use Rattle.words_core.specs.Steps.{IsSoundReading};
 
 use crate::next::help_or_version_option_at;
@@ -136,9 +136,7 @@ fn read_line(alloc: Global, words: &Words) -> Result<Command, WordsFault>
     judge(start.applet, reading, place_after_word(words.len()))
 }
 
-// The command that was read, or the first wrong place: an operand that is not taken, the word that
-// cannot be read, or the place after the last word (`behind`) if a word is missing.
-#[tactic(auto, unfolding(crate::specs::Grammar::command_of_reading_with_end_place))]
+// The command that was read, or the first wrong place. `behind` is the place after the last word.
 fn judge(applet: Applet, reading: Reading, behind: u32) -> Result<Command, WordsFault>
     requires { IsSoundReading applet reading }
     ensures ok { IfOk result (λ command. command_of_reading_with_end_place behind applet reading
@@ -146,24 +144,8 @@ fn judge(applet: Applet, reading: Reading, behind: u32) -> Result<Command, Words
     ensures usage { IfErr result (λ fault. IsWordsFault fault
         (command_of_reading_with_end_place behind applet reading)) }
 {
-    // Without the flag that selects its kind a command has no rule for its operands.
-    let Some(rule) = applet.operands(reading.state.flags) else {
-        let place = reading.unread.unwrap_or(behind);
+    if let Some(place) = first_wrong_place(applet, &reading, behind) {
         return Err(WordsFault::Usage { place });
-    };
-    // The operands that were read precede the word that could not be read.
-    if let Some(place) = rule.place_of_first_refused_operand(&reading.operands) {
-        return Err(WordsFault::Usage { place });
-    }
-    if let Some(place) = reading.unread {
-        return Err(WordsFault::Usage { place });
-    }
-    // A missing word is refused after the last one, and so only if no other word is wrong.
-    if reading.operands.len() < rule.least {
-        return Err(WordsFault::Usage { place: behind });
-    }
-    if !reading.state.has_needed(applet) {
-        return Err(WordsFault::Usage { place: behind });
     }
     Ok(Command::of(
         applet,
@@ -172,4 +154,34 @@ fn judge(applet: Applet, reading: Reading, behind: u32) -> Result<Command, Words
         reading.state.values,
         behind,
     ))
+}
+
+// The first wrong place: an operand that is not taken, the word that cannot be read, or the place
+// after the last word (`behind`) if a word is missing. None if a command was read.
+#[tactic(auto, unfolding(crate::specs::Grammar::command_of_reading_with_end_place))]
+fn first_wrong_place(applet: Applet, reading: &Reading, behind: u32) -> Option<u32>
+    requires { IsSoundReading applet reading.now }
+    ensures place { MatchOption result
+        (command_of_reading_with_end_place behind applet reading.now
+        ≡ Ok (command_from_end_place_and_reading behind applet reading.now))
+        (λ place. command_of_reading_with_end_place behind applet reading.now ≡ Err place) }
+    ensures valid { IfNone result (IsTrue (is_valid_command
+        (command_from_end_place_and_reading behind applet reading.now))) }
+{
+    // Without the flag that selects its kind a command has no rule for its operands.
+    let Some(rule) = applet.operands(reading.state.flags) else {
+        return Some(reading.unread.unwrap_or(behind));
+    };
+    // The operands that were read precede the word that could not be read.
+    if let Some(place) = rule.place_of_first_refused_operand(&reading.operands) {
+        return Some(place);
+    }
+    if let Some(place) = reading.unread {
+        return Some(place);
+    }
+    // A missing word is refused after the last one, and so only if no other word is wrong.
+    if reading.operands.len() < rule.least || !reading.state.has_needed(applet) {
+        return Some(behind);
+    }
+    None
 }

@@ -5,7 +5,7 @@ use Rattle.std.proofs.lemmas.List.{take_all}
 use Rattle.pool_core.specs.candidate_core.Candidates.{Candidate}
 use Rattle.pool_core.proofs.candidate_core.Steps.{get_at}
 use Rattle.pool_core.specs.option_ranks.Ranking.{Ranking}
-use Rattle.query_core.proofs.Gathered.{candidates_of, gathered, installed_more, numbers_more}
+use Rattle.query_core.proofs.Gathered.{candidates_of, first_is, gathered, installed_more, numbers_more}
 use Rattle.query_core.proofs.RisingLines.{numbers_of}
 use Rattle.query_core.proofs.version_places.placed_version.Goals as goal
 
@@ -33,3 +33,12 @@ returns-clause-places c =
     (c.loop-i.invariant.installed ∙ ap (λ (qs : List Ranking). list_any (λ (k : Candidate). k.installed) (candidates_of cs qs)) all)
     (c.loop-i.invariant.numbers ∙ ap (λ (qs : List Ranking). numbers_of (candidates_of cs qs)) all)
     c.in_ok-sort.ensures.permutation c.in_ok-sort.ensures.sorted
+
+pub returns-clause-version : goal.returns-clause-version
+returns-clause-version c = λ candidate first.
+    let cs : List Candidate = c.args.pool.now.candidates in
+    let rs : List Ranking = c.args.rankings.now in
+    let r : Ranking = c.index-rankings-0.result in
+    let at : slice_get rs 0 ≡ Some r = get_at rs 0 r (omega arith) ∙ ap Some (sym c.index-rankings-0.is) in
+    let there : slice_get cs r.place ≡ Some c.details.result = ap (λ (q : Ranking). slice_get cs q.place) (sym c.first.view_is) ∙ c.details.ensures in
+    c.version.ensures ∙ ap (λ (k : Candidate). k.version) (first_is cs rs r c.details.result candidate at there first)
