@@ -1,5 +1,5 @@
 -- Lists element by element.
-use Rattle.std.proofs.Common.{◌≡◌, ℕ, suc, zero, ◌+◌, ◌<◌, ◌≤◌, Bool, true, false, cond, List, [], ◌∷◌, ◌++◌, drop, length, map, get_or, Some, Result, Ok, Err, OnOk, refl, ap, sym, ◌∙◌, arith, append_assoc}
+use Rattle.std.proofs.Common.{◌≡◌, ℕ, suc, zero, ◌+◌, ◌<◌, ◌≤◌, Bool, true, false, cond, List, [], ◌∷◌, ◌++◌, drop, length, map, get_or, Some, refl, ap, sym, ◌∙◌, arith, append_assoc}
 use Rattle.std.specs.Prelude.{◌&&◌, ◌||◌, slice_get, if◌then◌else◌}
 use Rattle.std.specs.List.{filter, flat_map, list_any}
 use Rattle.std.proofs.lemmas.List.{drop_all, length-map, map-append}
@@ -43,11 +43,6 @@ told done new some before after all is left inv =
 append_nothing : {Y : Type 0} (xs : List Y) → xs ++ [] ≡ xs
 append_nothing [] = refl
 append_nothing (x ∷ xs) = ap (λ z. x ∷ z) (append_nothing xs)
-
--- the last piece of a text, whose pieces are appended one by one
-pub appended : {T E : Type 0} (r : Result T E) (new done old piece text all : List ℕ) → done ≡ old ++ text → text ++ piece ≡ all → OnOk r (new ≡ done ++ piece) → OnOk r (new ≡ old ++ all)
-appended (Ok x) new done old piece text all is joined told = told ∙ (ap (λ l. l ++ piece) is ∙ (append_assoc old text piece ∙ ap (λ l. old ++ l) joined))
-appended (Err e) new done old piece text all is joined told = tt
 
 -- nothing is to come
 pub all_told : {Y : Type 0} (done before all : List Y) → before ≡ [] → done ++ before ≡ all → done ≡ all

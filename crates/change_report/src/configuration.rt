@@ -37,7 +37,8 @@ pub(crate) fn push_configuration_lines(
     push_notices(&mut notices, plan.aside(), false)?;
     push_notices(&mut notices, plan.kept(), true)?;
     sort_notices(&mut notices)?;
-    push_lines(report, &notices)
+    push_lines(report, &notices)?;
+    Ok(())
 }
 
 /// Appends a notice for each of these paths. `is_kept` says whether the modified file is kept there
@@ -97,7 +98,9 @@ fn push_aside_line(report: &mut Report, path: &[u8]) -> Result<(), AllocError>
     report.push(path)?;
     report.push(b".apk-new installed; ")?;
     report.push(path)?;
-    report.push(b" was changed\n")
+    report.push(b" was changed")?;
+    report.push(b"\n")?;
+    Ok(())
 }
 
 /// Adds the line that says that the modified file at this path is kept.
@@ -105,5 +108,7 @@ fn push_kept_line(report: &mut Report, path: &[u8]) -> Result<(), AllocError>
     ensures { OnOk result (report.new ≡ report.old ++ kept_config_line path.now) }
 {
     report.push(path)?;
-    report.push(b" kept; it was changed\n")
+    report.push(b" kept; it was changed")?;
+    report.push(b"\n")?;
+    Ok(())
 }

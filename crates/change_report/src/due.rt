@@ -108,10 +108,10 @@ fn push_line_if_watched(
         ≡ report.old ++ (if watches_folder (package_value pkg.now) folder.now
         then line_saying_trigger_is_due (package_value pkg.now) folder.now else [])) }
 {
-    if !watches_folder(pkg, folder) {
-        return Ok(());
+    if watches_folder(pkg, folder) {
+        push_trigger_line(report, name_of(pkg, PhantomData), folder)?;
     }
-    push_trigger_line(report, name_of(pkg, PhantomData), folder)
+    Ok(())
 }
 
 /// Adds the line `NAME: trigger due for FOLDER`.
@@ -122,7 +122,8 @@ fn push_trigger_line(report: &mut Report, name: &[u8], folder: &[u8]) -> Result<
     report.push(name)?;
     report.push(b": trigger due for ")?;
     report.push(folder_path_or_slash_for_root(folder))?;
-    report.push(b"\n")
+    report.push(b"\n")?;
+    Ok(())
 }
 
 /// A folder as it is printed: its path, or `/` for the root, whose name is empty.

@@ -57,35 +57,19 @@ pub fn change_report(
         → report ≡ change_report (replacement_reported reported.now again) wishes change files) }
 {
     let mut report = Report::new(alloc);
-    push_change_report(alloc, &mut report, reported)?;
-    Ok(report)
-}
-
-/// Adds all lines of the report of a change that is made.
-fn push_change_report(
-    alloc: Global,
-    report: &mut Report,
-    reported: &ReportedChange<'_, '_, '_>,
-) -> Result<(), AllocError>
-    // If the parts are those of this change, the report of the definition is appended.
-    ensures { OnOk result ((again : List (List ℕ)) (wishes : ChangeWishes)
-        (change : FileChange) (files : Files)
-        → IsReportedOf reported.now again wishes change files
-        → report.new ≡ report.old
-        ++ change_report (replacement_reported reported.now again) wishes change files) }
-{
-    push_change_lines(report, reported.changes)?;
+    push_change_lines(&mut report, reported.changes)?;
     push_stay_lines(
         alloc,
-        report,
+        &mut report,
         reported.db,
         reported.pool,
         reported.trace,
         reported.to_remove,
     )?;
-    push_configuration_lines(alloc, report, reported.plan)?;
-    push_planned_triggers(alloc, report, reported.plan, reported.members)?;
-    push_member_sum(report, reported.members)
+    push_configuration_lines(alloc, &mut report, reported.plan)?;
+    push_planned_triggers(alloc, &mut report, reported.plan, reported.members)?;
+    push_member_sum(&mut report, reported.members)?;
+    Ok(report)
 }
 
 /// Adds the lines of the triggers that the plan of a change makes due.
@@ -99,7 +83,8 @@ fn push_planned_triggers(
         ++ trigger_lines (planned_paths plan.now) (members_of members.now)) }
 {
     let folders = touched_folders(alloc, plan)?;
-    push_trigger_lines(report, members, &folders)
+    push_trigger_lines(report, members, &folders)?;
+    Ok(())
 }
 
 /// Adds the last line: how many bytes and packages there are after a change, by the installed sizes
@@ -108,7 +93,8 @@ pub(crate) fn push_member_sum(report: &mut Report, members: &Members<'_>) -> Res
     ensures { OnOk result (report.new ≡ report.old ++ member_sum_line (members_of members.now)) }
 {
     let bytes = installed_bytes(members);
-    push_sum_line(report, bytes, members.len() as u128)
+    push_sum_line(report, bytes, members.len() as u128)?;
+    Ok(())
 }
 
 /// The bytes that the packages take when they are installed, by their installed sizes. A u128 can
