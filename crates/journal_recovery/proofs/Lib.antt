@@ -1,2 +1,4 @@
+pub mod Emptying
+pub mod Recovered
 pub mod Replaying
 pub mod Synced

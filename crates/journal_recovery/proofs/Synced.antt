@@ -16,8 +16,10 @@ use Rattle.journal_core.proofs.Acts.{still_on, sync_still}
 use Rattle.journal_core.proofs.Changes.{gone_synced}
 use Rattle.journal_core.proofs.History.{History, none_since, now_map, observable_at, observable_map, on_observable, one_more, since_on, since_weaker}
 use Rattle.journal_core.proofs.Lasting.{some_none}
+use Rattle.journal_core.proofs.OldOrNew.{RecoverBytes}
 use Rattle.journal_core.proofs.OneCall.{one_called, one_proper}
 use Rattle.journal_core.proofs.Waiting.{still_self}
+use Rattle.journal_recovery.proofs.Replaying.{Moments, Reads}
 
 -- the call alone, whatever it answers
 module _ {T E : Type 0} (old new : History) (r : Result T E) (moves : ChangesHistory IsAlwaysAllowed after_sync_names unchanged_after_failed_call old new r) where
@@ -65,50 +67,47 @@ module _ {T E : Type 0} (old mid new : History) (x : T) (moves : ChangesHistory 
 
 -- ---- a file under the intent's name, read where no crash undoes a change of names
 
-module _ (file : List ℕ) where
-  abbrev pub IsFound : TreeState → Type 0
+module _ {T E : Type 0} (file : List ℕ) (old mid new : History) (x : T) (moves : ChangesHistory {E = E} IsAlwaysAllowed after_sync_names unchanged_after_failed_call old mid (Ok x)) (there : IfObservable old (λ v. files_of v intent_name ≡ Some file)) where
+  abbrev IsFound : TreeState → Type 0
   IsFound v = files_of v intent_name ≡ Some file
 
-  module _ {T E : Type 0} (old mid new : History) (x : T) (moves : ChangesHistory {E = E} IsAlwaysAllowed after_sync_names unchanged_after_failed_call old mid (Ok x)) where
-    pub found_moments : IfObservable mid (λ u. (ignored : List ℕ → Bool) → IsDurable (StateDependsOn ignored) u → IsFound u → u.older ≡ [] → Since (StateIsUnchanged ignored u) mid new)
-        → IfObservable old (λ v. (ignored : List ℕ → Bool) → IsDurable (StateDependsOn ignored) v → IsFound v → Since (StateIsUnchanged ignored v) old new)
-    found_moments told = on_observable old _ (λ v rest is ignored is_durable there.
-        let still = sync_still ignored v is_durable in
-        let since = at_mid old mid new x moves v rest is (λ u. (Y : List ℕ → Bool) → IsDurable (StateDependsOn Y) u → IsFound u → u.older ≡ [] → Since (StateIsUnchanged Y u) mid new) told ignored still.is_durable there refl in
-        after old mid new x moves (StateIsUnchanged ignored v) v rest is still (since_weaker (StateIsUnchanged ignored (after_sync_names v)) (StateIsUnchanged ignored v) mid new (λ w. still_on ignored v (after_sync_names v) w still) since))
+  at_start : (v : TreeState) (rest : History) → old ≡ v ∷ rest → IsFound v
+  at_start v rest is = observable_at old v rest is IsFound there
 
-    pub found_since : (S : TreeState → TreeState → Type 0) → ((v : TreeState) → S v (after_sync_names v)) → ((v w : TreeState) → S (after_sync_names v) w → S v w)
-        → IfObservable mid (λ u. IsFound u → u.older ≡ [] → Since (S u) mid new) → IfObservable old (λ v. IsFound v → Since (S v) old new)
-    found_since S here same told = on_observable old _ (λ v rest is there.
-        after old mid new x moves (S v) v rest is (here v)
-        (since_weaker (S (after_sync_names v)) (S v) mid new (same v) (at_mid old mid new x moves v rest is (λ u. IsFound u → u.older ≡ [] → Since (S u) mid new) told there refl)))
+  pub found_moments : IfObservable mid (λ u. (ignored : List ℕ → Bool) → IsDurable (StateDependsOn ignored) u → IsFound u → u.older ≡ [] → Since (StateIsUnchanged ignored u) mid new) → Moments old new
+  found_moments told = on_observable old _ (λ v rest is ignored is_durable.
+      let still = sync_still ignored v is_durable in
+      let since = at_mid old mid new x moves v rest is (λ u. (Y : List ℕ → Bool) → IsDurable (StateDependsOn Y) u → IsFound u → u.older ≡ [] → Since (StateIsUnchanged Y u) mid new) told ignored still.is_durable (at_start v rest is) refl in
+      after old mid new x moves (StateIsUnchanged ignored v) v rest is still (since_weaker (StateIsUnchanged ignored (after_sync_names v)) (StateIsUnchanged ignored v) mid new (λ w. still_on ignored v (after_sync_names v) w still) since))
 
-    pub found_replayed : IfObservable mid (λ u. IsFound u → u.older ≡ [] → HoldsNow new (IsIntentReplayed u)) → IfObservable old (λ v. IsFound v → HoldsNow new (IsIntentReplayed v))
-    found_replayed told = on_observable old _ (λ v rest is there.
-        now_map new (IsIntentReplayed (after_sync_names v)) (IsIntentReplayed v) (at_mid old mid new x moves v rest is (λ u. IsFound u → u.older ≡ [] → HoldsNow new (IsIntentReplayed u)) told there refl) (λ w r. record { reads = r.reads; absent = r.absent }))
+  found_since : (S : TreeState → TreeState → Type 0) → ((v : TreeState) → S v (after_sync_names v)) → ((v w : TreeState) → S (after_sync_names v) w → S v w)
+      → IfObservable mid (λ u. IsFound u → u.older ≡ [] → Since (S u) mid new) → IfObservable old (λ v. Since (S v) old new)
+  found_since S here same told = on_observable old _ (λ v rest is.
+      after old mid new x moves (S v) v rest is (here v)
+      (since_weaker (S (after_sync_names v)) (S v) mid new (same v) (at_mid old mid new x moves v rest is (λ u. IsFound u → u.older ≡ [] → Since (S u) mid new) told (at_start v rest is) refl)))
 
-    pub found_settled : IfObservable mid (λ u. (ignored : List ℕ → Bool) → IsDurable (StateDependsOn ignored) u → IsFound u → u.older ≡ [] → HoldsNow new (EachCrashLeavesStateOf ignored (recovered_files (files_of u))))
-        → IfObservable old (λ v. (ignored : List ℕ → Bool) → IsDurable (StateDependsOn ignored) v → IsFound v → HoldsNow new (EachCrashLeavesStateOf ignored (recovered_files (files_of v))))
-    found_settled told = on_observable old _ (λ v rest is ignored is_durable there.
-        at_mid old mid new x moves v rest is (λ u. (Y : List ℕ → Bool) → IsDurable (StateDependsOn Y) u → IsFound u → u.older ≡ [] → HoldsNow new (EachCrashLeavesStateOf Y (recovered_files (files_of u)))) told ignored (sync_still ignored v is_durable).is_durable there refl)
+  pub found_reads : IfObservable mid (λ u. IsFound u → u.older ≡ [] → Since (RecoversTo (recovered_files (files_of u))) mid new) → Reads old new
+  found_reads told = found_since (λ v. RecoversTo (recovered_files (files_of v))) (λ v. refl) (λ v w r. r) told
 
-    pub found_proper : (a b c : ℕ) → IfObservable old (λ v. b ≡ a) → IfObservable mid (λ u. IsFound u → u.older ≡ [] → AreJournalPathsFreeAfterReplayIfAny (files_of u) → c ≡ b) → IfObservable old (λ v. IsFound v → AreJournalPathsFreeAfterReplayIfAny (files_of v) → c ≡ a)
-    found_proper a b c first told = on_observable old _ (λ v rest is there room.
-        at_mid old mid new x moves v rest is (λ u. IsFound u → u.older ≡ [] → AreJournalPathsFreeAfterReplayIfAny (files_of u) → c ≡ b) told there refl room ∙ observable_at old v rest is (λ u. b ≡ a) first)
+  pub found_bytes : IfObservable mid (λ u. IsFound u → u.older ≡ [] → Since (ReadsOldOrNewBytesOutsideJournal (files_of u) (recovered_files (files_of u))) mid new) → RecoverBytes old new
+  found_bytes told = found_since (λ v. ReadsOldOrNewBytesOutsideJournal (files_of v) (recovered_files (files_of v))) (λ v q shown. inl refl) (λ v w b. b) told
 
-  -- only the call itself
-  module _ (old mid : History) where
-    pub alone_moments : IfObservable old (λ v. (ignored : List ℕ → Bool) → IsDurable (StateDependsOn ignored) v → Since (StateIsUnchanged ignored v) old mid) → IfObservable old (λ v. (ignored : List ℕ → Bool) → IsDurable (StateDependsOn ignored) v → IsFound v → Since (StateIsUnchanged ignored v) old mid)
-    alone_moments told = observable_map old _ _ told (λ v t ignored is_durable there. t ignored is_durable)
+  pub found_replayed : IfObservable mid (λ u. IsFound u → u.older ≡ [] → HoldsNow new (IsIntentReplayed u)) → IfObservable old (λ v. HoldsNow new (IsIntentReplayed v))
+  found_replayed told = on_observable old _ (λ v rest is.
+      now_map new (IsIntentReplayed (after_sync_names v)) (IsIntentReplayed v) (at_mid old mid new x moves v rest is (λ u. IsFound u → u.older ≡ [] → HoldsNow new (IsIntentReplayed u)) told (at_start v rest is) refl) (λ w r. record { reads = r.reads; absent = r.absent }))
 
-    pub alone_bytes : IfObservable old (λ v. Since (ReadsOldOrNewBytesOutsideJournal (files_of v) (recovered_files (files_of v))) old mid) → IfObservable old (λ v. IsFound v → Since (ReadsOldOrNewBytesOutsideJournal (files_of v) (recovered_files (files_of v))) old mid)
-    alone_bytes told = observable_map old _ _ told (λ v t there. t)
+  pub found_settled : IfObservable mid (λ u. (ignored : List ℕ → Bool) → IsDurable (StateDependsOn ignored) u → IsFound u → u.older ≡ [] → HoldsNow new (EachCrashLeavesStateOf ignored (recovered_files (files_of u))))
+      → IfObservable old (λ v. (ignored : List ℕ → Bool) → IsDurable (StateDependsOn ignored) v → HoldsNow new (EachCrashLeavesStateOf ignored (recovered_files (files_of v))))
+  found_settled told = on_observable old _ (λ v rest is ignored is_durable.
+      at_mid old mid new x moves v rest is (λ u. (Y : List ℕ → Bool) → IsDurable (StateDependsOn Y) u → IsFound u → u.older ≡ [] → HoldsNow new (EachCrashLeavesStateOf Y (recovered_files (files_of u)))) told ignored (sync_still ignored v is_durable).is_durable (at_start v rest is) refl)
 
-    pub alone_reads : IfObservable old (λ v. Since (RecoversTo (recovered_files (files_of v))) old mid) → IfObservable old (λ v. IsFound v → Since (RecoversTo (recovered_files (files_of v))) old mid)
-    alone_reads told = observable_map old _ _ told (λ v t there. t)
+  pub found_proper : (a b c : ℕ) → IfObservable old (λ v. b ≡ a) → IfObservable mid (λ u. IsFound u → u.older ≡ [] → AreJournalPathsFreeAfterReplayIfAny (files_of u) → c ≡ b) → IfObservable old (λ v. AreJournalPathsFreeAfterReplayIfAny (files_of v) → c ≡ a)
+  found_proper a b c first told = on_observable old _ (λ v rest is room.
+      at_mid old mid new x moves v rest is (λ u. IsFound u → u.older ≡ [] → AreJournalPathsFreeAfterReplayIfAny (files_of u) → c ≡ b) told (at_start v rest is) refl room ∙ observable_at old v rest is (λ u. b ≡ a) first)
 
-    pub alone_proper : (a b : ℕ) → IfObservable old (λ v. b ≡ a) → IfObservable old (λ v. IsFound v → AreJournalPathsFreeAfterReplayIfAny (files_of v) → b ≡ a)
-    alone_proper a b told = observable_map old _ _ told (λ v t there room. t)
+-- only the call itself
+pub alone_proper : (old : History) (a b : ℕ) → IfObservable old (λ v. b ≡ a) → IfObservable old (λ v. AreJournalPathsFreeAfterReplayIfAny (files_of v) → b ≡ a)
+alone_proper old a b told = observable_map old _ _ told (λ v t room. t)
 
 -- ---- names are removed
 

@@ -1,24 +1,21 @@
 //! `recover`, which finishes an interrupted change and removes staged files, and its parts.
 //! The rules are in `docs/crash-safety.md`, "Recovery"; which actions an intent has, in "A change
 //! of several files".
-ghost use Rattle.std.specs.Prelude.{◌≡◌, ℕ, Bool, true, List, Some, None, IsSome, OnOk, IsErrOf};
-ghost use Rattle.journal_core.specs.adb_schema.Soundness.{container_fault_except_contents};
-ghost use Rattle.adb_view.specs.declared.tables.Which.TheVariants.{Intent as IntentTable};
+ghost use Rattle.std.specs.Prelude.{◌≡◌, ℕ, Bool, List, Some, None, IsSome, OnOk, IsErrOf};
 ghost use Rattle.base_core.specs.Calls.{HoldsNow, IfObservable};
 ghost use Rattle.base_core.specs.Crash.{Since};
 ghost use Rattle.base_core.specs.Undone.{IsDurable};
-ghost use Rattle.base_core.specs.Faults.{CountsOnlyRise, CountsNewFaultWithCause, CountsNoNewFaultOrLackOfMemory};
 ghost use Rattle.base_core.specs.Tree.{files_of};
 ghost use Rattle.base_core.specs.declared.cause.Cause.{Cause};
 ghost use Rattle.journal_core.specs.CallCounts.{IsResultExplainedByCounts};
-ghost use Rattle.journal_core.specs.Kept.{ReadsOldOrNewBytesOutsideJournal, IsAbsentAfterEachCrash, JournalOnlyShrinks, KeepsFilesExcept, RecoversTo, NamesOutsideJournalAreDurable};
+ghost use Rattle.journal_core.specs.Kept.{ReadsOldOrNewBytesOutsideJournal, IsAbsentAfterEachCrash};
 ghost use Rattle.journal_core.specs.Quiet.{StateIsUnchanged};
-ghost use Rattle.journal_core.specs.Recovering.{AreStagedNames, HasEmptiedStage, IsIntentReplayed};
-ghost use Rattle.journal_core.specs.Recovery.{EachCrashLeavesStateOf, StateDependsOn, intent_name, intent_of, is_staged, recovered_files};
+ghost use Rattle.journal_core.specs.Recovering.{AreStagedNames};
+ghost use Rattle.journal_core.specs.Recovery.{EachCrashLeavesStateOf, StateDependsOn, intent_name, intent_of};
 ghost use Rattle.journal_core.specs.Staged.{AreJournalPathsFreeAfterReplayIfAny, HasNoStagedNames, unstaged_files};
-ghost use Rattle.journal_recovery.specs.RecoveryContracts.{IsRecoveryExplainedByCounts, RefusesOnlyBadIntent, RemovesIntentLast, RemovesStagedNames};
+ghost use Rattle.journal_recovery.specs.RecoveryContracts.{EmptiesStage, IsRecoveryExplainedByCounts, RefusesOnlyBadIntent, RemovesIntentLast, RemovesStagedNames, ReplaysIntent};
 
-use base_core::{Disk, Names, Tree, TreeFault, read_all};
+use base_core::{Disk, Names, Tree, read_all};
 use journal_core::calls::{remove, sync_all_names};
 use journal_core::{RecoverFault, Stage, apply_all, intent_name, stage_folder};
 use std::alloc::{AllocError, Global};
@@ -87,48 +84,16 @@ pub fn recover<T: Tree>(alloc: Global, tree: &mut T) -> Result<(), RecoverFault>
         → (T.counts tree.new).misuses ≡ (T.counts tree.old).misuses) }
 {
     replay(alloc, tree)?;
-    empty_stage(alloc, tree)?;
-    Ok(())
+    empty_stage(alloc, tree)
 }
 
-/// Does the actions of the intent and removes the intent, if there is one. The clauses are those of
-/// `recover`, but staged files that belong to no intent are kept.
+/// Does the actions of the intent and removes the intent, if there is one. Staged files that belong
+/// to no intent are kept. The errors are those of `recover`.
 fn replay<T: Tree>(alloc: Global, tree: &mut T) -> Result<(), RecoverFault>
-    // From a durable tree on, each moment is durable, and the state is unchanged.
-    ensures moments { IfObservable (T.history tree.old) (λ v. (ignored : List ℕ → Bool)
-        → IsDurable (StateDependsOn ignored) v
-        → Since (StateIsUnchanged ignored v) (T.history tree.old) (T.history tree.new)) }
-    // At each moment recovery of the files as read yields the same files as at the call.
-    ensures reads { IfObservable (T.history tree.old) (λ v.
-        Since (RecoversTo (recovered_files (files_of v)))
-        (T.history tree.old) (T.history tree.new)) }
-    // At each moment a name outside the journal has, as read, its old bytes or those that recovery
-    // yields.
-    ensures bytes { IfObservable (T.history tree.old) (λ v.
-        Since (ReadsOldOrNewBytesOutsideJournal (files_of v) (recovered_files (files_of v)))
-        (T.history tree.old) (T.history tree.new)) }
-    // Once Ok is returned, all actions of the intent are done, and no intent is read.
-    ensures replayed { IfObservable (T.history tree.old) (λ v.
-        OnOk result (HoldsNow (T.history tree.new) (IsIntentReplayed v))) }
-    // From a durable tree with an intent: once Ok is returned, each crash leaves the state that
-    // recovery yields.
-    ensures settled { IfObservable (T.history tree.old) (λ v. (ignored : List ℕ → Bool)
-        → IsDurable (StateDependsOn ignored) v → IsSome (intent_of (files_of v))
-        → OnOk result (HoldsNow (T.history tree.new)
-        (EachCrashLeavesStateOf ignored (recovered_files (files_of v))))) }
-    // Staged files are only removed, and the intent is removed last.
-    ensures journal { RemovesIntentLast (T.history tree.old) (T.history tree.new) }
-    // If an intent was found: once Ok is returned, no crash restores it.
-    ensures gone { IfObservable (T.history tree.old) (λ v. IsSome (v.names intent_name)
-        → OnOk result (IfObservable (T.history tree.new) (IsAbsentAfterEachCrash intent_name))) }
-    // If there is no intent, the tree's history is unchanged.
-    ensures idle { IfObservable (T.history tree.old) (λ v. v.names intent_name ≡ None
-        → T.history tree.new ≡ T.history tree.old) }
-    // The intent is refused only if its file is no intent container.
-    ensures refusal { RefusesOnlyBadIntent (T.history tree.old) (T.history tree.new) result }
+    // The actions of the intent are done, and the intent is removed, if there is one.
+    ensures intent { ReplaysIntent (T.history tree.old) (T.history tree.new) result }
     // How the tree's counts explain the result.
     ensures counts { IsRecoveryExplainedByCounts (T.counts tree.old) (T.counts tree.new) result }
-
     // No call is a misuse, if no intent is found; or if the paths of the intent and of the staged
     // files are free among the files that recovery yields.
     ensures proper { IfObservable (T.history tree.old)
@@ -147,51 +112,17 @@ fn replay<T: Tree>(alloc: Global, tree: &mut T) -> Result<(), RecoverFault>
 /// otherwise a crash could undo the publishing of the intent and keep one of the actions. The
 /// clauses are those of `replay`.
 fn replay_file<T: Tree>(alloc: Global, tree: &mut T, file: Vec<u8>) -> Result<(), RecoverFault>
-    // From a durable tree on, each moment is durable, and the state is unchanged.
-    ensures moments { IfObservable (T.history tree.old) (λ v. (ignored : List ℕ → Bool)
-        → IsDurable (StateDependsOn ignored) v → files_of v intent_name ≡ Some file.items
-        → Since (StateIsUnchanged ignored v) (T.history tree.old) (T.history tree.new)) }
-    // At each moment recovery of the files as read yields the same files as at the call.
-    ensures reads { IfObservable (T.history tree.old) (λ v. files_of v intent_name
-        ≡ Some file.items → Since (RecoversTo (recovered_files (files_of v)))
-        (T.history tree.old) (T.history tree.new)) }
-    // At each moment a name outside the journal has, as read, its old bytes or those that recovery
-    // yields.
-    ensures bytes { IfObservable (T.history tree.old) (λ v. files_of v intent_name
-        ≡ Some file.items
-        → Since (ReadsOldOrNewBytesOutsideJournal (files_of v) (recovered_files (files_of v)))
-        (T.history tree.old) (T.history tree.new)) }
-    // Once Ok is returned, all actions of the intent are done, and no intent is read.
-    ensures replayed { IfObservable (T.history tree.old) (λ v. files_of v intent_name
-        ≡ Some file.items → OnOk result (HoldsNow (T.history tree.new) (IsIntentReplayed v))) }
-    // From a durable tree with an intent: once Ok is returned, each crash leaves the state that
-    // recovery yields.
-    ensures settled { IfObservable (T.history tree.old) (λ v. (ignored : List ℕ → Bool)
-        → IsDurable (StateDependsOn ignored) v → files_of v intent_name ≡ Some file.items
-        → OnOk result (HoldsNow (T.history tree.new)
-        (EachCrashLeavesStateOf ignored (recovered_files (files_of v))))) }
-    // Staged files are only removed, and the intent is removed last.
-    ensures journal { RemovesIntentLast (T.history tree.old) (T.history tree.new) }
-    // Once Ok is returned, no crash restores the intent.
-    ensures gone { OnOk result (IfObservable (T.history tree.new)
-        (IsAbsentAfterEachCrash intent_name)) }
-    // If the file is refused, it is no intent container, and nothing has changed.
-    ensures bad { (cause : Cause) → IsErrOf result (RecoverFault.IntentBad cause)
-        → (T.history tree.new ≡ T.history tree.old)
-        × (container_fault_except_contents IntentTable file.items ≡ Some cause) }
-    // Ok is returned only if the file is an intent container.
-    ensures good { OnOk result (container_fault_except_contents IntentTable file.items ≡ None) }
-    // If the file is no intent container, nothing changes.
-    ensures bad_idle { (cause : Cause) → container_fault_except_contents IntentTable file.items
-        ≡ Some cause
-        → T.history tree.new ≡ T.history tree.old }
+    // The bytes are those of the file under the intent's name.
+    requires { IfObservable (T.history tree.old)
+        (λ v. files_of v intent_name ≡ Some file.items) }
+    // The actions of the intent are done, and the intent is removed.
+    ensures intent { ReplaysIntent (T.history tree.old) (T.history tree.new) result }
     // How the tree's counts explain the result.
     ensures counts { IsRecoveryExplainedByCounts (T.counts tree.old) (T.counts tree.new) result }
-
-    // No call is a misuse, if no intent is found; or if the paths of the intent and of the staged
-    // files are free among the files that recovery yields.
-    ensures proper { IfObservable (T.history tree.old) (λ v. files_of v intent_name
-        ≡ Some file.items → AreJournalPathsFreeAfterReplayIfAny (files_of v)
+    // No call is a misuse, if the paths of the intent and of the staged files are free among the
+    // files that recovery yields.
+    ensures proper { IfObservable (T.history tree.old)
+        (λ v. AreJournalPathsFreeAfterReplayIfAny (files_of v)
         → (T.counts tree.new).misuses ≡ (T.counts tree.old).misuses) }
 {
     let mut stage = Stage::found(alloc, file)?;
@@ -202,45 +133,17 @@ fn replay_file<T: Tree>(alloc: Global, tree: &mut T, file: Vec<u8>) -> Result<()
 }
 
 /// Removes every staged file. It is called when no intent is read, so the state is unchanged.
-fn empty_stage<T: Tree>(alloc: Global, tree: &mut T) -> Result<(), TreeFault>
-    // From a durable tree without an intent on, each moment is durable, and the state is unchanged.
-    ensures moments { IfObservable (T.history tree.old) (λ v. (ignored : List ℕ → Bool)
-        → IsDurable (StateDependsOn ignored) v → v.names intent_name ≡ None
-        → Since (StateIsUnchanged ignored v) (T.history tree.old) (T.history tree.new)) }
-    // At each moment only staged files have changed.
-    ensures shown { IfObservable (T.history tree.old) (λ v.
-        Since (KeepsFilesExcept (λ q. is_staged q ≡ true) v)
-        (T.history tree.old) (T.history tree.new)) }
-    // At each moment the intent and each staged file are unchanged or gone.
-    ensures waiting { IfObservable (T.history tree.old) (λ v.
-        Since (JournalOnlyShrinks v) (T.history tree.old) (T.history tree.new)) }
-    // No crash undoes a change of a name outside the journal, if none could at the start.
-    ensures last { IfObservable (T.history tree.old) (λ v. NamesOutsideJournalAreDurable v
-        → Since NamesOutsideJournalAreDurable (T.history tree.old) (T.history tree.new)) }
-    // Once Ok is returned, no file is staged, and no other name has changed.
-    ensures emptied { IfObservable (T.history tree.old) (λ v.
-        OnOk result (HoldsNow (T.history tree.new) (HasEmptiedStage v))) }
-    // Once Ok is returned, no crash restores an intent, if none could at the start.
-    ensures gone { IfObservable (T.history tree.old) (λ v. OnOk result
-        (IsAbsentAfterEachCrash intent_name v
-        → HoldsNow (T.history tree.new) (IsAbsentAfterEachCrash intent_name))) }
-    // If no file is staged, the tree's history is unchanged.
-    ensures idle { IfObservable (T.history tree.old) (λ v. HasNoStagedNames v.names
-        → T.history tree.new ≡ T.history tree.old) }
-
-    // No count of the tree's faults falls.
-    ensures goes_on { CountsOnlyRise (T.counts tree.old) (T.counts tree.new) }
-    // An I/O error is returned only if a fault was counted.
-    ensures disk { IsErrOf result TreeFault.Disk
-        → CountsNewFaultWithCause (T.counts tree.old) (T.counts tree.new) }
-    // Ok is returned only if no fault was counted.
-    ensures kept { OnOk result (CountsNoNewFaultOrLackOfMemory (T.counts tree.old)
-        (T.counts tree.new)) }
-    // If the program is out of memory, nothing has changed, and no fault was counted.
-    ensures memory { IsErrOf result TreeFault.Memory
-        → (T.history tree.new ≡ T.history tree.old)
-        × CountsNoNewFaultOrLackOfMemory (T.counts tree.old) (T.counts tree.new) }
-
+///
+/// # Errors
+///
+/// `Disk` if a call on the tree failed, and `Memory` if the program is out of memory.
+fn empty_stage<T: Tree>(alloc: Global, tree: &mut T) -> Result<(), RecoverFault>
+    // The staged files are removed, and nothing else changes.
+    ensures stage { EmptiesStage (T.history tree.old) (T.history tree.new) result }
+    // How the tree's counts explain the result.
+    ensures counts { IsRecoveryExplainedByCounts (T.counts tree.old) (T.counts tree.new) result }
+    // No intent is refused, since none is read.
+    ensures only { (cause : Cause) → IsErrOf result (RecoverFault.IntentBad cause) → ⊥ }
     // No call is a misuse.
     ensures proper { IfObservable (T.history tree.old) (λ v. (T.counts tree.new).misuses
         ≡ (T.counts tree.old).misuses) }
