@@ -18,7 +18,10 @@ use Rattle.journal_core.specs.Quiet.{EachCrashLeavesOld, StateIsUnchanged}
 use Rattle.journal_core.specs.Recovery.{EachCrashLeavesOldOrNew, EachCrashLeavesStateOf, StateDependsOn, intent_name, intent_of, state_of}
 use Rattle.journal_core.specs.Replacing.{IsMomentOfReplacing}
 use Rattle.journal_core.specs.Staged.{HasNoStagedNames, IsOldUntilCommit, unstaged_files}
+use Rattle.journal_core.proofs.Compose.{quiet_is_old, quiet_then, settled_quiet, still_itself, still_since}
 use Rattle.journal_core.proofs.Lasting.{some_none}
+use Rattle.journal_core.proofs.OnTheWay.{way_before}
+use Rattle.journal_core.proofs.Published.{still_on_the_way}
 use Rattle.outcome.specs.Effect.{Effect, does_recover}
 use Rattle.outcome.specs.Outcome.{Outcome}
 use Rattle.outcome.specs.Work.{recovery_fault, files_recovered_if_needed}
@@ -39,6 +42,18 @@ pub record AreLaws : Type 0 where
   pub behind : (ignored : Ignored) (a b c : TreeState) (new : Files) → EachCrashLeavesOld ignored a b → EachCrashLeavesOldOrNew ignored b new c → EachCrashLeavesOldOrNew ignored a new c
   pub is_unchanged : (ignored : Ignored) (files : Files) (start v : TreeState) (earlier : History) → StateIsUnchanged ignored start v → IsOldUntilCommit ignored files start earlier v
   pub before : (ignored : Ignored) (files : Files) (start v w : TreeState) (earlier first : History) → StateIsUnchanged ignored start v → IsOldUntilCommit ignored files v earlier w → IsOldUntilCommit ignored files start (earlier ++ first) w
+
+-- moments of consecutive calls compose in these ways
+pub moments_compose : AreLaws
+moments_compose = record {
+  none = still_itself;
+  calls = still_since;
+  lasts = settled_quiet;
+  quiet = quiet_is_old;
+  behind = quiet_then;
+  is_unchanged = λ ignored files start v earlier is_unchanged. still_on_the_way ignored files start v is_unchanged earlier;
+  before = way_before;
+}
 
 -- at each moment of a call nothing happens to the state
 abbrev pub IsCalm : TreeState → History → History → Type 0

@@ -13,6 +13,7 @@ use Rattle.base_core.specs.Tree.{File, TreeState, bytes_of_file_number, files_un
 use Rattle.base_core.specs.Undone.{IsDurable, IsCrashMap}
 use Rattle.base_core.specs.declared.tree.TreeFault.{TreeFault}
 use Rattle.adb_dump.specs.adb_schema.Reserved.{is_reserved}
+use Rattle.journal_core.proofs.Images.{crash_laws, image_state}
 use Rattle.journal_core.specs.Kept.{IsSyncedAt, KeepsCrashMapsExcept, NamesOutsideJournalAreDurable}
 use Rattle.journal_core.specs.Quiet.{StateIsUnchanged}
 use Rattle.journal_core.specs.Recovery.{EachCrashLeavesStateOf, StateDependsOn, intent_name, is_staged, state_of}
@@ -144,6 +145,10 @@ free_reports output report file name verdict is free same_outcome files =
 -- what a crash leaves by one map has the state of the files of that map
 abbrev pub ImageHasState : Type 0
 ImageHasState = (ignored : List ℕ → Bool) (v : TreeState) → IsDurable (StateDependsOn ignored) v → (map : NameMap) → IsCrashMap v map → (image : Files) → IsCrashImageUnderMap v map image → state_of ignored image ≡ state_of ignored (files_under_map v map)
+
+-- each crash image under a map has the state of the files under it
+pub image_has_state : ImageHasState
+image_has_state ignored v is_durable map among image by = sym (image_state crash_laws ignored v is_durable map among image by)
 
 only_map : (w : TreeState) (map : NameMap) → w.older ≡ [] → IsCrashMap w map → map ≡ w.names
 only_map w map one left = left_only w one map left

@@ -10,7 +10,7 @@ ghost use Rattle.base_core.specs.Sink.{sink_before_and_after, SinkCountsOnlyRise
 ghost use Rattle.base_core.specs.Write.{Writes};
 ghost use Rattle.outcome.specs.Outcome.{just_refusal, just_report};
 
-use base_core::{Sink, SinkFault, Text, TreeFault, counts_of_consecutive_calls_compose, write_all};
+use base_core::{Sink, SinkFault, Text, TreeFault, write_all};
 use report_core::{Refusal, write_error};
 use std::alloc::Global;
 
@@ -145,8 +145,6 @@ fn print_verdict<O: Sink, E: Sink>(verdict: Verdict, out: &mut O, err: &mut E) -
     ensures err_counts { SinkCountsOnlyRiseWithoutMisuse
         (sink_before_and_after E.bytes E.counts err.old err.new) }
 {
-    // A law that the proof needs; it has no effect at run time.
-    counts_of_consecutive_calls_compose();
     match print_report(verdict.report.as_bytes(), out) {
         Ok(()) => print_refusal(verdict.refusal, err),
         Err(_) => Answer::OutFault,

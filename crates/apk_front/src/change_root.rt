@@ -10,7 +10,7 @@ use crate::answer::Verdict;
 use base_core::{Text, Tree, TreeFault};
 use command_core::Command;
 use engine_core::Refused;
-use outcome::{a_command_that_commits_nothing_leaves_the_files, an_outcome_over_files_is_unique};
+use outcome::an_outcome_over_files_is_unique;
 use std::alloc::Global;
 
 /// Changes what is installed, and reports it. No memory is allocated once the change is carried
@@ -29,9 +29,8 @@ pub(crate) fn change_root<T: Tree>(
     // than it had at the start.
     ensures promised { TargetsAreAccepted T.accepts (T.history tree.old) (T.history tree.new) }
 {
-    // Laws that the proof needs; they have no effect at run time.
+    // A law that the proof needs; it has no effect at run time.
     an_outcome_over_files_is_unique();
-    a_command_that_commits_nothing_leaves_the_files();
     let answer = engine_core::change(alloc, command, tree);
     verdict_of(alloc, answer)
 }

@@ -21,7 +21,6 @@ ghost use Rattle.words_core.specs.Grammar.{command_of};
 use crate::answer::{Answer, show};
 use crate::judge::judge;
 use base_core::{Sink, Tree, Words};
-use outcome::a_refusal_commits_nothing;
 use std::alloc::Global;
 
 /// Runs a command line, without the program's name, on a tree of files and two sinks, as apk(8)
@@ -216,8 +215,6 @@ pub fn apk<T: Tree, O: Sink, E: Sink>(
         → LeavesDurableStateAndOutputIfCommitted (IsOutcome (command_of words.now) (files_of v))
         (output words.now) ignored (T.history tree.new)) }
 {
-    // A law that the proof needs; it has no effect at run time.
-    a_refusal_commits_nothing();
     let judged = judge(alloc, words, tree);
     show(judged, out, err)
 }

@@ -25,17 +25,10 @@ ghost use Rattle.report_core.specs.declared.refusal.Refusal.TheVariants.{ResultT
 
 use crate::answer::Verdict;
 use adb_dump::is_reserved;
-use base_core::{
-    Text, Tree, TreeFault, counts_of_consecutive_calls_compose, files_have_one_list_of_names,
-};
+use base_core::{Text, Tree, TreeFault};
 use command_core::Command;
 use file_replacement::replace;
-use journal_core::an_image_has_the_state_of_its_map;
-use make_core::{
-    MakeFault, a_package_with_information_has_an_output, an_index_has_an_output,
-    an_output_is_short, output_name,
-};
-use outcome::a_listing_of_a_tree_is_that_of_its_files;
+use make_core::{MakeFault, an_index_has_an_output, an_output_is_short, output_name};
 use report_core::Refusal;
 use std::alloc::{AllocError, Global};
 
@@ -68,10 +61,6 @@ pub(crate) fn mkpkg<T: Tree>(
         → outcome.commits ≡ true → CanAddOutputNamesIfAny (output_name command.now) (files_of v))
         → (T.counts tree.new).misuses ≡ (T.counts tree.old).misuses) }
 {
-    // Laws that the proof needs; they have no effect at run time.
-    counts_of_consecutive_calls_compose();
-    files_have_one_list_of_names();
-    a_package_with_information_has_an_output();
     let container = package(alloc, command, tree);
     let report = Text::from_vec(Vec::new(alloc));
     finish(alloc, command, container, report, tree)
@@ -107,8 +96,7 @@ pub(crate) fn mkndx<T: Tree>(
         → outcome.commits ≡ true → CanAddOutputNamesIfAny (output_name command.now) (files_of v))
         → (T.counts tree.new).misuses ≡ (T.counts tree.old).misuses) }
 {
-    // Laws that the proof needs; they have no effect at run time.
-    counts_of_consecutive_calls_compose();
+    // A law that the proof needs; it has no effect at run time.
     an_index_has_an_output();
     let report = index_report_line(alloc, command.operands().len())?;
     let container = index(alloc, command, tree);
@@ -127,8 +115,6 @@ fn package<T: Tree>(alloc: Global, command: &Command, tree: &mut T) -> Result<Ve
     ensures tree { OnlyReads MakeFault.Disk (T.history tree.old) (T.history tree.new)
         (T.counts tree.old) (T.counts tree.new) result }
 {
-    // A law that the proof needs; it has no effect at run time.
-    a_listing_of_a_tree_is_that_of_its_files();
     make_core::mkpkg(alloc, command, tree)
 }
 
@@ -238,9 +224,8 @@ fn write<T: Tree>(
         → CanAddOutputNamesIfAny (output_name command.now) (files_of v))
         → (T.counts tree.new).misuses ≡ (T.counts tree.old).misuses) }
 {
-    // Laws that the proof needs; they have no effect at run time.
+    // A law that the proof needs; it has no effect at run time.
     an_output_is_short();
-    an_image_has_the_state_of_its_map();
     // The output exists, as the clause `output` requires.
     let Some(output) = output_name(alloc, command)? else {
         unreachable!()

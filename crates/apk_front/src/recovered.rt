@@ -16,12 +16,8 @@ use crate::answer::Verdict;
 use crate::change_root::change_root;
 use crate::make::{mkndx, mkpkg};
 use crate::report::report;
-use base_core::{Tree, TreeFault, counts_of_consecutive_calls_compose};
+use base_core::{Tree, TreeFault};
 use command_core::{Applet, Command};
-use journal_core::{
-    moments_old_until_commit_compose, quiet_then_old_or_new_is_old_or_new,
-    settled_then_quiet_is_settled, unchanged_moments_compose,
-};
 use journal_recovery::{RecoverFault, recover};
 use report_core::Refusal;
 use std::alloc::Global;
@@ -40,12 +36,6 @@ pub(crate) fn recover_and_run<T: Tree>(
         (output_name_for_effect (effect_of command.now.applet) command.now)
         (T.history tree.old) (T.history tree.new) (T.counts tree.old) (T.counts tree.new) result }
 {
-    // Laws that the proof needs; they have no effect at run time.
-    counts_of_consecutive_calls_compose();
-    unchanged_moments_compose();
-    settled_then_quiet_is_settled();
-    quiet_then_old_or_new_is_old_or_new();
-    moments_old_until_commit_compose();
     match recover(alloc, tree) {
         Ok(()) => run_recovered(alloc, command, tree),
         Err(fault) => refuse_to_recover(alloc, fault),

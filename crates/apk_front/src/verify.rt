@@ -78,8 +78,6 @@ fn first_refusal<T: Tree>(
     ensures tree { OnlyReads TreeFault.Disk (T.history tree.old) (T.history tree.new)
         (T.counts tree.old) (T.counts tree.new) result }
 {
-    // A law that the proof needs; it has no effect at run time.
-    consecutive_reads_compose::<Option<Refusal>, Option<Refusal>, TreeFault>();
     for i in 0..operands.len() {
         let place = operands.get(i).place;
         let refusal = test_file(alloc, place, operands.file(i), tree)?;

@@ -4,6 +4,7 @@ pub use Rattle.package_files.proofs.adb_sound as adb_sound
 pub use Rattle.pool_core.proofs.candidate_core as candidate_core
 pub use Rattle.v2_core.proofs as v2_core
 pub mod Handed
+mod Reading
 pub mod Texts
 pub mod WorldSteps
 pub mod IndexSteps

@@ -15,7 +15,7 @@ ghost use Rattle.std.specs.Prelude.{◌≡◌, ◌≤◌, [], IfErr, IfOk, OnOk,
 
 use crate::index::{IndexFiles, read_index_files};
 use crate::root::{Refused, RootFiles, TestedRoot, read_root, test_root};
-use base_core::{Tree, consecutive_reads_compose};
+use base_core::Tree;
 use command_core::Command;
 use db_core::Db;
 use dep_core::{Repos, World};
@@ -56,8 +56,6 @@ impl Loaded {
         ensures tree { OnlyReads Refused.Disk (T.history tree.old) (T.history tree.new)
             (T.counts tree.old) (T.counts tree.new) result }
     {
-        // A law that the proof needs; it computes nothing.
-        consecutive_reads_compose::<RootFiles, Loaded, Refused>();
         let files = read_root(alloc, tree)?;
         Loaded::of_files(alloc, command, files, tree)
     }
@@ -169,9 +167,25 @@ impl Loaded {
             IsPoolFault fault (length (candidates_of (inputs_seen self.now)))) }
     {
         let mut pool = Pool::new(alloc);
-        self.add_indexes(&mut pool)?;
-        self.root.database.add_to(&mut pool)?;
+        self.add_candidates(&mut pool)?;
         Ok(pool)
+    }
+
+    // Adds all candidates to an empty pool.
+    fn add_candidates<'a>(&'a self, pool: &mut Pool<'a>) -> Result<(), PoolFault>
+        // The pool has no candidate yet.
+        requires { pool.old ≡ [] }
+        // The pool has all candidates of the inputs then, if they are not too many.
+        ensures ok { OnOk result (pool.new ≡ candidates_of (inputs_seen self.entry.now)) }
+        // The pool has no more candidates than it may have.
+        ensures fits { OnOk result (length pool.new ≤ MOST_CANDIDATES) }
+        // The errors are too many candidates, with the number that there would be, and out of
+        // memory.
+        ensures fault { IfErr result (λ fault.
+            IsPoolFault fault (length (candidates_of (inputs_seen self.entry.now)))) }
+    {
+        self.add_indexes(pool)?;
+        self.root.database.add_to(pool)
     }
 
     // Adds the packages of each index to an empty pool; repositories count from 1.

@@ -7,8 +7,8 @@ ghost use Rattle.change_inputs.specs.Answers.{Agrees, IsDiskOrMemoryFailure, IsF
 ghost use Rattle.change_inputs.specs.Inputs.{root_from_databases_world_repositories, Inputs, first_index_read_number, inputs_of};
 ghost use Rattle.change_inputs.specs.RootFiles.{AreRootFilesInTree};
 ghost use Rattle.change_inputs.specs.Seen.{root_seen};
-ghost use Rattle.root_names.specs.RootNames.{database_name, text_database_name};
-ghost use Rattle.std.specs.Prelude.{◌≡◌, IfErr, IfOk, None, OnOk, ◌<◌, ◌+◌, ℕ, List, Ok, length};
+ghost use Rattle.root_names.specs.RootNames.{database_name, repositories_name, text_database_name, world_name};
+ghost use Rattle.std.specs.Prelude.{◌≡◌, IfErr, IfOk, IsOkAnd, None, OnOk, ◌<◌, ◌+◌, ℕ, List, Ok, length};
 ghost use Rattle.db_core.specs.adb_schema.ReadFaults.{IsReadFault};
 ghost use Rattle.db_core.specs.adb_schema.Soundness.{container_fault_except_contents, payload_fault, payload_in};
 ghost use Rattle.command_core.specs.Command.{CommandLine};
@@ -17,7 +17,7 @@ ghost use Rattle.package_files.specs.make_info.Reads.{Reads};
 use crate::database::DatabaseFile;
 use crate::index::repositories_of;
 use crate::world::{Worlds, worlds_of};
-use base_core::{Name, Tree, TreeFault, consecutive_reads_compose, read_all};
+use base_core::{Name, Tree, TreeFault, read_all};
 use command_core::Command;
 use db_core::{ReadFault, Which, read_adb};
 use dep_core::Repos;
@@ -60,19 +60,36 @@ pub(crate) fn read_root<T: Tree>(alloc: Global, tree: &mut T) -> Result<RootFile
     ensures tree { OnlyReads Refused.Disk (T.history tree.old) (T.history tree.new)
         (T.counts tree.old) (T.counts tree.new) result }
 {
-    // A law that the proof needs; it computes nothing.
-    consecutive_reads_compose::<(Option<Vec<u8>>, Option<Vec<u8>>), Option<Vec<u8>>, Refused>();
-    let world_name = world_name(alloc)?;
-    let repositories_name = repositories_name(alloc)?;
-    let (database, text_database) = read_databases(alloc, tree)?;
-    let world = read_file(alloc, tree, &world_name)?;
-    let repositories = read_file(alloc, tree, &repositories_name)?;
+    let databases = read_databases(alloc, tree)?;
+    let lists = read_lists(alloc, tree)?;
     Ok(RootFiles {
-        database,
-        text_database,
-        world,
-        repositories,
+        database: databases.0,
+        text_database: databases.1,
+        world: lists.0,
+        repositories: lists.1,
     })
+}
+
+// Reads world and the list of repositories of a root. Returns both, each None if it is absent.
+fn read_lists<T: Tree>(
+    alloc: Global,
+    tree: &mut T,
+) -> Result<(Option<Vec<u8>>, Option<Vec<u8>>), Refused>
+    // If the tree's files are observable, the world that is found is the file under its name.
+    ensures world { IfOk result (λ found.
+        IsFileFoundInTree (T.history tree.old) world_name (bytes_in found.0)) }
+    // The list of repositories is the file under its name too.
+    ensures repositories { IfOk result (λ found.
+        IsFileFoundInTree (T.history tree.old) repositories_name (bytes_in found.1)) }
+    // Nothing is refused here.
+    ensures failed { IfErr result IsDiskOrMemoryFailure }
+    // The tree is only read, and `Disk` has a counted fault of the tree as its cause.
+    ensures tree { OnlyReads Refused.Disk (T.history tree.old) (T.history tree.new)
+        (T.counts tree.old) (T.counts tree.new) result }
+{
+    let world = read_named_file(alloc, tree, world_name(alloc))?;
+    let repositories = read_named_file(alloc, tree, repositories_name(alloc))?;
+    Ok((world, repositories))
 }
 
 /// Reads the database's file of a root, and the text database if there is no database file. Returns
@@ -93,16 +110,14 @@ pub(crate) fn read_databases<T: Tree>(
     ensures tree { OnlyReads Refused.Disk (T.history tree.old) (T.history tree.new)
         (T.counts tree.old) (T.counts tree.new) result }
 {
-    // A law that the proof needs; it computes nothing.
-    consecutive_reads_compose::<Option<Vec<u8>>, Option<Vec<u8>>, Refused>();
-    let name = database_name(alloc)?;
-    let text_name = text_database_name(alloc)?;
-    let database = read_file(alloc, tree, &name)?;
-    if database.is_some() {
-        return Ok((database, None));
+    let database = read_named_file(alloc, tree, database_name(alloc))?;
+    match database {
+        Some(file) => Ok((Some(file), None)),
+        None => {
+            let text = read_named_file(alloc, tree, text_database_name(alloc))?;
+            Ok((None, text))
+        }
     }
-    let text_database = read_file(alloc, tree, &text_name)?;
-    Ok((None, text_database))
 }
 
 /// Tests the files of a root, and returns their contents for a command.
@@ -136,6 +151,26 @@ pub(crate) fn test_root(
         worlds,
         repositories,
     })
+}
+
+// The whole file under a name of the root, or None exactly if it is absent. `name` is what the
+// call returned that makes the name: the name, or out of memory.
+fn read_named_file<T: Tree>(
+    alloc: Global,
+    tree: &mut T,
+    name: Result<Name, AllocError>,
+) -> Result<Option<Vec<u8>>, Refused>
+    // If the tree's files are observable, the result is the file under the name.
+    ensures found { IfOk result (λ found. IsOkAnd name (λ name.
+        IsFileFoundInTree (T.history tree.old) name (bytes_in found))) }
+    // Nothing is refused here.
+    ensures failed { IfErr result IsDiskOrMemoryFailure }
+    // The tree is only read, and `Disk` has a counted fault of the tree as its cause.
+    ensures tree { OnlyReads Refused.Disk (T.history tree.old) (T.history tree.new)
+        (T.counts tree.old) (T.counts tree.new) result }
+{
+    let name = name?;
+    read_file(alloc, tree, &name)
 }
 
 /// The whole file under a name, or None exactly if it is absent.

@@ -6,6 +6,8 @@ use Rattle.base_core.specs.Files.{Files}
 use Rattle.base_core.specs.declared.cause.Cause.{Cause}
 use Rattle.tell_core.specs.change_inputs.Chains.{and_then}
 use Rattle.tell_core.specs.change_inputs.Inputs.{Inputs, inputs_of}
+use Rattle.engine_core.proofs.change_outcome.Made.{leaves_files, made}
+use Rattle.engine_core.proofs.change_outcome.ReadRoot.{root_read}
 use Rattle.engine_core.specs.change_outcome.Premises.{AreDatabaseAndWorldReadFromFiles}
 use Rattle.engine_core.specs.change_outcome.ChangeOutcome.{ChangeDone, ChangeWishes, change_or_refusal}
 use Rattle.command_core.specs.Command.{CommandLine}
@@ -189,6 +191,12 @@ effect_idle rooted idle Changes applet command given files = change_idle rooted 
 pub over_idle : HaveRoot → HaveIdle → (command : CommandLine) (files : Files) (o : Outcome) → IsOutcomeOverRecoveredFiles command files o → o.commits ≡ false → o.files ≡ files
 over_idle rooted idle command files o (given, are, is) nothing =
     subst (LeavesIdle files) (sym is) (effect_idle rooted idle (effect_of command.applet) command.applet command given files) nothing
+
+pub idle_change : HaveIdle
+idle_change inputs r wishes read clash files done ok = leaves_files inputs r wishes read clash files done (made inputs r wishes read clash files done ok)
+
+pub without_commit : (command : CommandLine) (files : Files) (o : Outcome) → IsOutcomeOverRecoveredFiles command files o → o.commits ≡ false → o.files ≡ files
+without_commit = over_idle root_read idle_change
 
 -- ---- by the words
 

@@ -18,6 +18,8 @@ pub mod MadeSound
 pub mod Commits
 pub mod Idle
 pub mod Looking
+mod Everywhere
+pub mod RefusedCommits
 pub mod NextRoom
 pub mod Ends
 pub mod PackageRefusals

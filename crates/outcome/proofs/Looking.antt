@@ -82,14 +82,14 @@ look_leaves Changes applet command given files reads = absurd (false≢true read
 
 -- ---- by the words
 
-no_fault : (effect : Effect) (files : Files) → does_neither_recover_nor_write effect ≡ true → recovery_fault effect files ≡ None
+pub no_fault : (effect : Effect) (files : Files) → does_neither_recover_nor_write effect ≡ true → recovery_fault effect files ≡ None
 no_fault Computes files reads = refl
 no_fault OnlyReadsFiles files reads = refl
 no_fault AsksRoot files reads = absurd (false≢true reads)
 no_fault Makes files reads = absurd (false≢true reads)
 no_fault Changes files reads = absurd (false≢true reads)
 
-same_files : (effect : Effect) (files : Files) → does_neither_recover_nor_write effect ≡ true → files_recovered_if_needed effect files ≡ files
+pub same_files : (effect : Effect) (files : Files) → does_neither_recover_nor_write effect ≡ true → files_recovered_if_needed effect files ≡ files
 same_files Computes files reads = refl
 same_files OnlyReadsFiles files reads = refl
 same_files AsksRoot files reads = absurd (false≢true reads)

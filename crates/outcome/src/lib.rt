@@ -45,26 +45,17 @@ ghost use Rattle.root_names.specs.RootNames.{database_name, text_database_name};
 ghost use Rattle.tell_core.specs.ReportForCommand.{report_for_command};
 ghost use Rattle.words_core.specs.Grammar.{command_of};
 
-use base_core::{files_have_one_list_of_names, the_files_of_a_well_formed_state_are_named_files};
-use engine_core::{
-    a_change_has_a_first_clash_or_none, a_change_keeps_paths_free,
-    a_change_that_is_made_passes_each_test, a_change_that_writes_nothing_leaves_the_files,
-    a_choice_exists, a_choice_is_unique, an_intent_is_read_from_a_sound_container,
-    what_is_read_of_a_root_is_in_the_tree,
-};
+use engine_core::{a_choice_exists, a_choice_is_unique};
 use gen_core::sound_containers_hold_sound_values;
 use make_core::{a_made_index_is_sound, a_made_package_is_sound};
-use tell_core::info_refuses_only_for_an_operand;
 
 /// A command line has an outcome over any files, if all their names are in a list (`within`).
 pub fn an_outcome_exists()
     ensures { (words within : List (List ℕ)) (files : Files)
         → HasOnlyNamesAmong within files → (o : Outcome) × IsOutcome (command_of words) files o }
 {
-    // Laws that the proof needs; they have no effect at run time.
-    files_have_one_list_of_names();
+    // A law that the proof needs; it has no effect at run time.
     a_choice_exists();
-    a_change_has_a_first_clash_or_none();
 }
 
 /// A command line has at most one outcome over given files.
@@ -72,10 +63,8 @@ pub fn an_outcome_is_unique()
     ensures { (words : List (List ℕ)) (files : Files) (a b : Outcome)
         → IsOutcome (command_of words) files a → IsOutcome (command_of words) files b → a ≡ b }
 {
-    // Laws that the proof needs; they have no effect at run time.
-    files_have_one_list_of_names();
+    // A law that the proof needs; it has no effect at run time.
     a_choice_is_unique();
-    a_change_has_a_first_clash_or_none();
 }
 
 /// A command has at most one outcome over the files on which it works, after recovery.
@@ -84,10 +73,8 @@ pub fn an_outcome_over_files_is_unique()
         → IsOutcomeOverRecoveredFiles command files a
         → IsOutcomeOverRecoveredFiles command files b → a ≡ b }
 {
-    // Laws that the proof needs; they have no effect at run time.
-    files_have_one_list_of_names();
+    // A law that the proof needs; it has no effect at run time.
     a_choice_is_unique();
-    a_change_has_a_first_clash_or_none();
 }
 
 /// A command that only reads leaves the files unchanged, and commits nothing.
@@ -102,22 +89,6 @@ pub fn a_command_that_reads_leaves_the_files()
         → IsTrue (do_arguments_neither_recover_nor_write (command_of words))
         → IsOutcome (command_of words) files o
         → o.commits ≡ false }
-{
-    // A law that the proof needs; it has no effect at run time.
-    reading_leaves_the_files();
-}
-
-// `a_command_that_reads_leaves_the_files` for each command except `demo`, once its arguments are
-// parsed.
-fn reading_leaves_the_files()
-    // All files are unchanged.
-    ensures files { (read : Result CommandLine ℕ) (files : Files) (o : Outcome)
-        → IsTrue (do_arguments_neither_recover_nor_write read)
-        → IsOutcomeWithoutDemo read files o → o.files ≡ files }
-    // The outcome commits nothing.
-    ensures commits { (read : Result CommandLine ℕ) (files : Files) (o : Outcome)
-        → IsTrue (do_arguments_neither_recover_nor_write read)
-        → IsOutcomeWithoutDemo read files o → o.commits ≡ false }
 {}
 
 /// A command that recovers and then only reads commits nothing. It leaves the recovered files, or
@@ -144,12 +115,7 @@ pub fn a_command_that_makes_commits_unless_refused()
 pub fn a_refusal_commits_nothing()
     ensures { (words : List (List ℕ)) (files : Files) (o : Outcome)
         → IsOutcome (command_of words) files o → IsSome o.refusal → o.commits ≡ false }
-{
-    // Laws that the proof needs; they have no effect at run time.
-    a_command_that_reads_leaves_the_files();
-    a_reporting_command_leaves_the_files();
-    a_command_that_makes_commits_unless_refused();
-}
+{}
 
 /// A command that commits nothing leaves the files unchanged, or as recovery leaves them.
 pub fn a_command_that_commits_nothing_leaves_the_files()
@@ -160,11 +126,7 @@ pub fn a_command_that_commits_nothing_leaves_the_files()
     ensures words { (words : List (List ℕ)) (files : Files) (o : Outcome)
         → IsOutcome (command_of words) files o → o.commits ≡ false → (o.files ≡ files)
         ⊎ (o.files ≡ files_recovered_if_needed (effect_of_arguments (command_of words)) files) }
-{
-    // Laws that the proof needs; they have no effect at run time.
-    what_is_read_of_a_root_is_in_the_tree();
-    a_change_that_writes_nothing_leaves_the_files();
-}
+{}
 
 /// These commands recover first, and refuse a corrupt journal entry (intent): the changes `add`,
 /// `del`, `upgrade` and `fix`; `mkpkg` and `mkndx`; and the reports `info`, `audit`, `manifest`,
@@ -193,12 +155,7 @@ pub fn a_command_recovers()
     ensures others { (words : List (List ℕ)) (command : CommandLine) (files : Files) (o : Outcome)
         → command_of words ≡ Ok command → must_recover command.applet ≡ false
         → IsOutcome (command_of words) files o → (o.files ≡ files) × (o.commits ≡ false) }
-{
-    // Laws that the proof needs; they have no effect at run time.
-    a_command_that_reads_leaves_the_files();
-    what_is_read_of_a_root_is_in_the_tree();
-    a_change_that_writes_nothing_leaves_the_files();
-}
+{}
 
 /// A command that recovers is refused for a bad intent only if the intent is bad. The refusal
 /// reports the first test that the intent fails.
@@ -208,11 +165,7 @@ pub fn only_a_bad_intent_is_refused_as_one()
         → IsOutcome (command_of words) files o
         → o.refusal ≡ Some (IntentBad cause)
         → recovery_fault (effect_of_arguments (command_of words)) files ≡ Some cause }
-{
-    // Laws that the proof needs; they have no effect at run time.
-    a_reporting_command_is_refused_for_its_input();
-    a_change_takes_the_first_selection_or_is_refused();
-}
+{}
 
 /// A command that only reports is refused for its input alone. The refusal replaces the report, or
 /// follows it.
@@ -225,10 +178,7 @@ pub fn a_reporting_command_is_refused_for_its_input()
         (refusal : Refusal)
         → report_for_command command read ≡ Ok done → done.following_refusal ≡ Some refusal
         → is_input_refusal refusal ≡ true }
-{
-    // A law that the proof needs; it has no effect at run time.
-    info_refuses_only_for_an_operand();
-}
+{}
 
 /// A root is refused with `NoDatabase` only if it has neither a database file nor a text database,
 /// and `--initdb` is not given.
@@ -254,10 +204,7 @@ pub fn a_change_takes_the_first_selection_or_is_refused()
         → command_of words ≡ Ok command → effect_of command.applet ≡ Changes
         → IsOutcome (command_of words) files o
         → IsChangeEndAfterRecoveryOrIntentRefusal command files o }
-{
-    // A law that the proof needs; it has no effect at run time.
-    a_change_that_is_made_passes_each_test();
-}
+{}
 
 /// After a change that is not refused, there is no staged file, and the paths that recovery and the
 /// next change write are free. The recovered files before the change must meet the same conditions.
@@ -268,11 +215,7 @@ pub fn a_change_leaves_free_paths_for_the_next()
         → HasEmptyStageAndFreeJournalPaths (files_recovered_if_needed Changes files)
         → AreJournalPathsFreeAfterReplayIfAny o.files
         × HasEmptyStageAndFreeJournalPaths (files_recovered_if_needed Changes o.files) }
-{
-    // Laws that the proof needs; they have no effect at run time.
-    a_change_keeps_paths_free();
-    an_intent_is_read_from_a_sound_container();
-}
+{}
 
 /// An outcome that depends on the arguments alone has the same refusal and output over all other
 /// files, and leaves these. It is that of a usage error, of `version`, of `demo`, of `--help` or of
@@ -282,16 +225,6 @@ pub fn an_outcome_of_arguments_is_the_same_on_every_tree()
         → IsTrue (depends_only_on_arguments (command_of words))
         → IsOutcome (command_of words) files o
         → IsOutcome (command_of words) others (outcome_without_commit o.refusal o.out others) }
-{
-    // A law that the proof needs; it has no effect at run time.
-    words_alone_are_the_same_everywhere();
-}
-
-// `an_outcome_of_arguments_is_the_same_on_every_tree` for each command except `demo`.
-fn words_alone_are_the_same_everywhere()
-    ensures { (read : Result CommandLine ℕ) (files others : Files) (o : Outcome)
-        → IsTrue (depends_only_on_arguments read) → IsOutcomeWithoutDemo read files o
-        → IsOutcomeWithoutDemo read others (outcome_without_commit o.refusal o.out others) }
 {}
 
 /// The list of names that a tree gives for a folder has exactly the names of the tree's files below
@@ -310,8 +243,6 @@ pub fn what_is_made_is_sound()
         → output words ≡ Some name → IsSoundFileAt name o.files }
 {
     // Laws that the proof needs; they have no effect at run time.
-    the_files_of_a_well_formed_state_are_named_files();
-    an_intent_is_read_from_a_sound_container();
     sound_containers_hold_sound_values();
     a_made_package_is_sound();
     a_made_index_is_sound();

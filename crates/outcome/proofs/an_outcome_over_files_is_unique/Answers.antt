@@ -1,5 +1,7 @@
+use Rattle.base_core.proofs.OneList.{names_one}
+use Rattle.engine_core.proofs.change_outcome.Made.{clash_once}
 use Rattle.outcome.proofs.Existing.{over_one}
 use Rattle.outcome.proofs.an_outcome_over_files_is_unique.Goals as goal
 
 pub returns : goal.returns
-returns c = over_one c.files_have_one_list_of_names.ensures.one c.a_choice_is_unique.ensures c.a_change_has_a_first_clash_or_none.ensures.one
+returns c = over_one names_one c.a_choice_is_unique.ensures clash_once

@@ -1,3 +1,4 @@
+use Rattle.outcome.proofs.RefusedCommits.{refused_commits}
 use Rattle.apk_front.proofs.Carried.{bad_by, crash_by, idle_by, last_by, left_by, durable_by, reads_by, rest_by, settled_by}
 use Rattle.apk_front.proofs.Judged.{answered, completed, answered_by_reads, answered_by_words, caused}
 use Rattle.apk_front.proofs.Unplanned.{ends_unless_memory}
@@ -25,11 +26,11 @@ returns-clause-found g c = answered_by_reads _ _ c.judge-judged.result _ _ _ c.j
 
 pub returns-clause-idle : goal.returns-clause-idle
 returns-clause-idle g c =
-    idle_by c.a_refusal_commits_nothing.ensures c.args.words.now c.judge-judged.result c.show.result _ _ _ _ c.show.ensures.shown c.judge-judged.ensures.run.found c.judge-judged.ensures.run.tree
+    idle_by refused_commits c.args.words.now c.judge-judged.result c.show.result _ _ _ _ c.show.ensures.shown c.judge-judged.ensures.run.found c.judge-judged.ensures.run.tree
 
 pub returns-clause-left : goal.returns-clause-left
 returns-clause-left g c =
-    left_by c.a_refusal_commits_nothing.ensures c.args.words.now c.judge-judged.result c.show.result _ _ _ _ c.show.ensures.shown c.judge-judged.ensures.run.found c.judge-judged.ensures.run.tree
+    left_by refused_commits c.args.words.now c.judge-judged.result c.show.result _ _ _ _ c.show.ensures.shown c.judge-judged.ensures.run.found c.judge-judged.ensures.run.tree
 
 pub returns-clause-bad_intent : goal.returns-clause-bad_intent
 returns-clause-bad_intent g c = bad_by c.args.words.now c.judge-judged.result _ _ c.judge-judged.ensures.run.tree

@@ -1,4 +1,5 @@
 use Rattle.std.proofs.Common.{◌∙◌, List, ap, length}
+use Rattle.base_core.proofs.Counting.{no_fault_twice}
 use Rattle.outcome.specs.Make.{index_report_line}
 use Rattle.command_core.specs.declared.operands.Operand.{Operand}
 use Rattle.apk_front.proofs.Containers.{index_outcomes, index_read, proper_by, runs, reports_one}
@@ -27,4 +28,4 @@ returns-clause-proper g c =
 
 pub returns-clause-counts : goal.returns-clause-counts
 returns-clause-counts g c =
-    counted_both c.counts_of_consecutive_calls_compose.ensures.no_fault c.index-container.result c.finish.result _ _ _ _ _ c.index-container.ensures.tree c.finish.ensures.done c.finish.ensures.lost c.finish.ensures.goes_on c.finish.ensures.disk c.finish.ensures.kept c.finish.ensures.memory
+    counted_both no_fault_twice c.index-container.result c.finish.result _ _ _ _ _ c.index-container.ensures.tree c.finish.ensures.done c.finish.ensures.lost c.finish.ensures.goes_on c.finish.ensures.disk c.finish.ensures.kept c.finish.ensures.memory

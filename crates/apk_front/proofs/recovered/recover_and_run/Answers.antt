@@ -1,5 +1,6 @@
 use Rattle.std.proofs.Common.{Err, ap}
 use Rattle.outcome.specs.Effect.{effect_of, output_name_for_effect}
+use Rattle.apk_front.proofs.AfterRecovery.{moments_compose}
 use Rattle.apk_front.proofs.Behind.{after_found, after_proper, behind_run, is_recovery, refused_found, refused_read, refused_run}
 use Rattle.apk_front.proofs.Promised.{asked_behind, asked_unrecovered}
 use Rattle.apk_front.proofs.VerdictCounts.{after_reads, counted_after, counted_unrecovered, unrecovered_proper}
@@ -11,15 +12,7 @@ returns-in-Ok g c = record {
   by_reads = after_reads c.args.command.now c.run_recovered.result c.run_recovered.ensures.run.by_reads;
   tree =
       behind_run
-      (record {
-        none = c.unchanged_moments_compose.ensures.none;
-        calls = c.unchanged_moments_compose.ensures.calls;
-        lasts = c.settled_then_quiet_is_settled.ensures;
-        quiet = c.quiet_then_old_or_new_is_old_or_new.ensures.old;
-        behind = c.quiet_then_old_or_new_is_old_or_new.ensures.both;
-        is_unchanged = c.moments_old_until_commit_compose.ensures.is_unchanged;
-        before = c.moments_old_until_commit_compose.ensures.before;
-      })
+      moments_compose
       c.args.command.now (output_name_for_effect (effect_of c.args.command.now.applet) c.args.command.now) c.run_recovered.result _ _ _ c.requires
       (is_recovery _ _ c.in-Ok.ensures.moments c.in-Ok.ensures.reads c.in-Ok.ensures.bytes c.in-Ok.ensures.journal.waiting c.in-Ok.ensures.journal.last c.in-Ok.ensures.idle)
       c.in-Ok.ensures.refusal.good c.in-Ok.ensures.files c.in-Ok.ensures.settled c.run_recovered.ensures.run.tree c.run_recovered.ensures.run.undone;
@@ -36,15 +29,7 @@ returns-in-Err g c = record {
   by_reads = refused_read c.args.command.now _ c.refuse_to_recover.result c.requires (λ cause is. c.in-Err.ensures.refusal.found cause (ap Err is)) c.refuse_to_recover.ensures.refused;
   tree =
       refused_run
-      (record {
-        none = c.unchanged_moments_compose.ensures.none;
-        calls = c.unchanged_moments_compose.ensures.calls;
-        lasts = c.settled_then_quiet_is_settled.ensures;
-        quiet = c.quiet_then_old_or_new_is_old_or_new.ensures.old;
-        behind = c.quiet_then_old_or_new_is_old_or_new.ensures.both;
-        is_unchanged = c.moments_old_until_commit_compose.ensures.is_unchanged;
-        before = c.moments_old_until_commit_compose.ensures.before;
-      })
+      moments_compose
       c.args.command.now _ (output_name_for_effect (effect_of c.args.command.now.applet) c.args.command.now) c.refuse_to_recover.result _ _ c.requires
       (is_recovery _ _ c.in-Err.ensures.moments c.in-Err.ensures.reads c.in-Err.ensures.bytes c.in-Err.ensures.journal.waiting c.in-Err.ensures.journal.last c.in-Err.ensures.idle)
       (λ cause is. c.in-Err.ensures.refusal.bad cause (ap Err is)) c.in-Err.ensures.refusal.bad_idle c.refuse_to_recover.ensures.refused;
