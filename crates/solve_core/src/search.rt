@@ -330,7 +330,7 @@ impl<'p> Search<'p> {
     {
         // A law that the proof needs; it has no effect at run time.
         options_are_as_promised();
-        take_reason(&mut self.reason, spent)?;
+        store_reason(&mut self.reason, spent)?;
         self.dead_ends = self.dead_ends.saturating_add(1);
         let learnt = Clause::reason(self.alloc, self.reason.as_slice())?;
         self.propagation.learn(learnt, &mut self.known)?;
@@ -420,9 +420,9 @@ fn propagate_turns(
     Ok(None)
 }
 
-// Makes the list the reason of a dead end: the choices that raised the need (`by`), and the other
-// members of the reasons of its options.
-fn take_reason(members: &mut CandidateSet, spent: &Frame) -> Result<(), AllocError>
+// Stores the reason of a dead end in the set `members`: the choices that raised the need (`by`), and
+// the other members of the reasons of its options.
+fn store_reason(members: &mut CandidateSet, spent: &Frame) -> Result<(), AllocError>
     ensures { OnOk result (HasSameMembers members.new (dead_end_reason spent.now)) }
 {
     replace_members(members, spent.by())?;
@@ -432,7 +432,7 @@ fn take_reason(members: &mut CandidateSet, spent: &Frame) -> Result<(), AllocErr
     Ok(())
 }
 
-// Makes the set that of the candidates `ids`.
+// Replaces the members of the set by the candidates `ids`.
 fn replace_members(members: &mut CandidateSet, ids: &[CandId]) -> Result<(), AllocError>
     ensures { OnOk result (HasSameMembers members.new ids.now) }
 {

@@ -11,7 +11,7 @@ pub learn-requires : goal.learn-requires
 learn-requires c =
     let pool = pool_of c.args.self.now.chosen in
     let both = dead_end pool (λ need. c.options_are_as_promised.ensures pool need) (choices_of c.args.self.now.chosen) c.args.spent.now c.requires.spent in
-    let dead : IsReason pool c.as_slice.result.now = subst (λ (z : List ℕ). IsReason pool z) (sym c.as_slice.ensures) (dead_same pool (dead_end_reason c.args.spent.now) _ c.in_ok-take_reason.ensures both.1) in
+    let dead : IsReason pool c.as_slice.result.now = subst (λ (z : List ℕ). IsReason pool z) (sym c.as_slice.ensures) (dead_same pool (dead_end_reason c.args.spent.now) _ c.in_ok-store_reason.ensures both.1) in
     subst (λ (p : SelectionProblem). IsClause p c.in_ok-learnt.learnt) (sym c.requires.underway.known)
     (subst (λ (z : ClauseValue). IsClause pool z) (sym c.in_ok-learnt.ensures) (clause_of_reason pool c.as_slice.result.now dead))
 
@@ -23,6 +23,6 @@ returns-clause-dead c =
     let pool = pool_of c.args.self.now.chosen in
     let both = dead_end pool (λ need. c.options_are_as_promised.ensures pool need) (choices_of c.args.self.now.chosen) c.args.spent.now c.requires.spent in
     record {
-      within = λ k h. both.0 k (c.in_ok-take_reason.ensures.0 k h);
-      dead = dead_same pool (dead_end_reason c.args.spent.now) _ c.in_ok-take_reason.ensures both.1;
+      within = λ k h. both.0 k (c.in_ok-store_reason.ensures.0 k h);
+      dead = dead_same pool (dead_end_reason c.args.spent.now) _ c.in_ok-store_reason.ensures both.1;
     }

@@ -2,7 +2,7 @@ use Rattle.std.proofs.Common.{◌≤◌, ◌+◌, ◌∙◌, ◌++◌, ◌∷◌
 use Rattle.std.proofs.lemmas.List.{take_more, take_all}
 use Rattle.search_choices.specs.search_tables.Reasons.{HasSameMembers, other_members_of_reasons}
 use Rattle.search_choices.proofs.search_tables.Members.{same_more_all, others-append}
-use Rattle.solve_core.proofs.search.take_reason.Goals as goal
+use Rattle.solve_core.proofs.search.store_reason.Goals as goal
 
 pub loop-ruled_out-init : goal.loop-ruled_out-init
 loop-ruled_out-init c =
