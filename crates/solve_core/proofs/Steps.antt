@@ -6,6 +6,7 @@ use Rattle.search_choices.specs.candidate_core.Rank.{SelectionProblem}
 use Rattle.search_choices.specs.candidate_core.Options.{IsIn, options_for}
 use Rattle.search_choices.specs.search_tables.Selection.{AreAllMembersOf, AreDistinct, exclude_each_other}
 use Rattle.search_choices.specs.search_tables.Reasons.{AreCompatible, IsReason, IsRuledOutBy, FrameValue, ruled_out_options, AreRuledOut, IsFrameOf, IsExhaustedFrame, IsFrameTaking, AreTurnsFrom, choices_of_turns, other_members_of_reasons, dead_end_reason, HasSameMembers}
+use Rattle.search_choices.specs.search_tables.Excluders.{IsExcluderAmongChoices}
 use Rattle.search_choices.specs.search_tables.Reasons.{HasOptions}
 use Rattle.search_choices.specs.Choices.{IsSearch, IsConsistent, choices_of, pool_of}
 use Rattle.search_choices.specs.declared.choices.Choices.{Choices}
@@ -82,6 +83,24 @@ module _ (pool : SelectionProblem) where
   pub dead_same : (xs ys : List ℕ) → HasSameMembers ys xs → IsReason pool xs → IsReason pool ys
   dead_same xs ys same dead S closed inside = dead S closed (λ c h. inside c (same.1 c h))
 
+-- no choice is made yet
+pub searching_none : (chosen : Choices) (turns : List (FrameValue × ℕ)) → IsConsistent chosen → choices_of chosen ≡ [] → turns ≡ [] → IsSearch chosen turns
+searching_none chosen turns consistent none empty = subst (λ (z : List (FrameValue × ℕ)). IsSearch chosen z) (sym empty) (record {
+  consistent = consistent;
+  choices = none;
+  clean = subst (λ (z : List ℕ). AreCompatible (pool_of chosen) z) (sym none) (tt, (λ c h. absurd h), λ a b ha hb e. ha);
+  taken = tt;
+})
+
+-- the choices stay the same
+pub searching_same : (old new : Choices) (turns : List (FrameValue × ℕ)) → IsSearch old turns → IsConsistent new → pool_of new ≡ pool_of old → choices_of new ≡ choices_of old → IsSearch new turns
+searching_same old new turns search consistent pool choices = record {
+  consistent = consistent;
+  choices = choices ∙ search.choices;
+  clean = subst (λ (p : SelectionProblem). AreCompatible p (choices_of new)) (sym pool) (subst (λ (z : List ℕ). AreCompatible (pool_of old) z) (sym choices) search.clean);
+  taken = subst (λ (p : SelectionProblem). AreTurnsFrom p [] turns) (sym pool) search.taken;
+}
+
 pub searching_more : (old new : Choices) (turns : List (FrameValue × ℕ)) (f : FrameValue) (c : ℕ) → IsSearch old turns → IsFrameTaking (pool_of old) (choices_of old) f c → AreCompatible (pool_of old) (choices_of old ++ c ∷ []) → IsConsistent new → pool_of new ≡ pool_of old → choices_of new ≡ choices_of old ++ c ∷ [] → IsSearch new (turns ++ (f, c) ∷ [])
 searching_more old new turns f c search taken clean consistent pool choices = record {
   consistent = consistent;
@@ -155,6 +174,13 @@ hit_reason pool members rest all others c sub is dead e =
       | inl a ↦ inr a
       | inr b ↦ elim b [ inl q ↦ inl q | inr bad ↦ absurd bad ]
     ]) dead e
+
+-- a choice that excludes a candidate rules it out
+pub excluder_rules_out : (pool : SelectionProblem) (chosen : List ℕ) (k c : ℕ) → IsExcluderAmongChoices pool chosen c k → IsRuledOutBy pool chosen c (k ∷ [])
+excluder_rules_out pool chosen k c by = record {
+  within = λ o h. elim h [ inl e ↦ subst (λ (z : ℕ). IsIn z chosen) (sym e) by.0 | inr bad ↦ absurd bad ];
+  dead = λ S closed inside. closed.0.2 k c (inside k (inr (inl refl))) (inside c (inl refl)) by.1;
+}
 
 pub dead_empty : (pool : SelectionProblem) (members chosen : List ℕ) → AreAllMembersOf members chosen → chosen ≡ [] → IsReason pool members → IsReason pool []
 dead_empty pool members chosen sub is dead S closed inside =

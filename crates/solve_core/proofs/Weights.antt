@@ -1,7 +1,8 @@
 -- The weight of a search falls at each step.
 use Rattle.std.proofs.Common.{◌≡◌, ℕ, zero, suc, ◌+◌, ◌*◌, ◌-◌, ◌<◌, ◌≤◌, ◌^◌, List, [], ◌∷◌, ◌++◌, length, refl, sym, subst, ap, ◌∙◌, arith, append_assoc, mul-le-mul, mul-le-mul_right}
 use Rattle.search_choices.specs.search_tables.Reasons.{FrameValue}
-use Rattle.solve_core.specs.Measure.{power, weight, search_measure, base, most_digits, digit, digits}
+use Rattle.std.specs.Prelude.{IfSome, None, Option, Some}
+use Rattle.solve_core.specs.Measure.{power, weight, search_measure, next_measure, base, most_digits, digit, digits}
 
 power_pos : (b n : ℕ) → 1 ≤ b → 1 ≤ power b n
 unfolding power
@@ -105,16 +106,9 @@ pub few_options : (f : FrameValue) → length f.1 < 2 ^ 64 → digit f < base
 unfolding base
 few_options f h = omega arith
 
-not_heavier_top : (b r e d : ℕ) (ds : List ℕ) → e ≤ d → weight b (length ds + suc r) (ds ++ e ∷ []) ≤ weight b (length ds + suc r) (ds ++ d ∷ [])
-not_heavier_top b r e d ds less =
-    omega (arith, weight_front b (suc r) ds (e ∷ []), weight_front b (suc r) ds (d ∷ []), weight_cons b r e [], weight_cons b r d [], mul-le-mul_right (power b r) less)
-
--- options skipped at the top make nothing heavier
-pub not_heavier : (turns : List (FrameValue × ℕ)) (f g : FrameValue) → length turns + 2 ≤ most_digits → length f.1 ≤ length g.1 → search_measure turns f ≤ search_measure turns g
-unfolding search_measure
-not_heavier turns f g few less =
-    let r = room_for (length turns) few in
-    let ds = digits turns in
-    let room : most_digits ≡ length ds + suc (suc r.0) = r.1 ∙ ap (λ (n : ℕ). n + suc (suc r.0)) (sym (length-digits turns)) in
-    subst (λ (n : ℕ). weight base n (ds ++ digit f ∷ []) ≤ weight base n (ds ++ digit g ∷ [])) (sym room)
-    (not_heavier_top base (suc r.0) (digit f) (digit g) ds (omega arith))
+-- the frame of the next need is lighter, if there is one
+pub next_lighter : (turns new : List (FrameValue × ℕ)) (top : FrameValue) (was next : Option FrameValue) → was ≡ Some top → IfSome next (λ f. length f.1 < 2 ^ 64) → ((f : FrameValue) → length f.1 < 2 ^ 64 → search_measure new f < search_measure turns top) → next_measure new next < next_measure turns was
+next_lighter turns new top was None is few lighter = subst (λ (z : Option FrameValue). 0 < next_measure turns z) (sym is) (omega arith)
+next_lighter turns new top was (Some f) is few lighter =
+    let less = lighter f few in
+    subst (λ (z : Option FrameValue). suc (search_measure new f) < next_measure turns z) (sym is) (omega arith)

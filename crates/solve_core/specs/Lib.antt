@@ -7,3 +7,4 @@ pub use Rattle.search_choices.specs.search_tables as search_tables
 -- used by proofs only
 pub mod Measure
 pub mod Clauses
+pub mod Underway

@@ -2,7 +2,7 @@
 -- frame's first. No rule of a document: serves the proof that `solve` ends ("and it ends":
 -- `docs/selection.md`, "How the search works"). An option that is taken or ruled out makes its frame's
 -- digit smaller, and the digits after it have less weight.
-use Rattle.std.specs.Prelude.{ℕ, zero, suc, ◌+◌, ◌*◌, ◌^◌, List, [], ◌∷◌, ◌++◌, length}
+use Rattle.std.specs.Prelude.{Option, None, Some, ℕ, zero, suc, ◌+◌, ◌*◌, ◌^◌, List, [], ◌∷◌, ◌++◌, length}
 use Rattle.search_choices.specs.search_tables.Reasons.{FrameValue}
 
 -- the number b to the power n
@@ -39,3 +39,8 @@ digits (turn ∷ turns) = digit turn.0 ∷ digits turns
 -- frame `top`, which has no choice yet
 unfoldable pub search_measure : List (FrameValue × ℕ) → FrameValue → ℕ
 search_measure turns top = weight base most_digits (digits turns ++ digit top ∷ [])
+
+-- the measure of a search whose next frame, if a need is left, is `next`
+abbrev pub next_measure : List (FrameValue × ℕ) → Option FrameValue → ℕ
+next_measure turns None = 0
+next_measure turns (Some top) = suc (search_measure turns top)

@@ -2,7 +2,7 @@
 //! of a clause has one of its *options*. A clause without options is a reason. A clause is a fact
 //! about the pool: it holds whatever is chosen. The rule is in `docs/selection.md`, "How the search
 //! works".
-ghost use Rattle.std.specs.Prelude.{◌≡◌, ◌⊎◌, true, IfOk, OnOk, [], ℕ};
+ghost use Rattle.std.specs.Prelude.{◌≡◌, ◌⊎◌, ◌==◌, true, not, filter, IfOk, OnOk, [], ℕ};
 ghost use Rattle.search_choices.specs.candidate_core.Options.{IsIn};
 ghost use Rattle.search_choices.specs.candidate_core.Rank.{SelectionProblem};
 ghost use Rattle.search_choices.specs.search_tables.Selection.{AreAllMembersOf};
@@ -180,4 +180,19 @@ pub(crate) fn are_choices(members: &[CandId], chosen: &Choices<'_>) -> bool
         }
     }
     true
+}
+
+/// The members of a reason without this choice: they rule the choice out.
+pub(crate) fn without(
+    alloc: Global,
+    members: &[CandId],
+    choice: CandId,
+) -> Result<Vec<CandId>, AllocError>
+    ensures { IfOk result (λ others. others.items ≡ filter (λ id. not (id == choice)) members.now) }
+{
+    members
+        .iter()
+        .copied()
+        .filter(|id| *id != choice)
+        .collect(alloc)
 }

@@ -14,6 +14,7 @@ mod propagation;
 mod search;
 mod selection;
 mod trail;
+mod turns;
 mod watches;
 
 pub use laws::{

@@ -1,13 +1,13 @@
 //! The preferred solution of a world, as a list of choices, or that no selection satisfies it. The
 //! rules are in `docs/selection.md`: "What satisfies world", "Which selection is taken", and "How
 //! the search works" for the loop.
-ghost use Rattle.std.specs.Prelude.{◌≡◌, ◌<◌, Some, IfOk, length, slice_get, [], List, ℕ, MatchOption};
+ghost use Rattle.std.specs.Prelude.{◌≡◌, IfOk, List, ℕ, MatchOption};
 ghost use Rattle.search_choices.specs.candidate_core.Candidates.{Need};
-ghost use Rattle.search_choices.specs.candidate_core.PackageMatches.{AreMatchesAmong};
 ghost use Rattle.search_choices.specs.candidate_core.Rank.{SelectionProblem};
 ghost use Rattle.search_choices.specs.search_tables.Reasons.{HasOptions};
-ghost use Rattle.search_choices.specs.Choices.{IsSearch, pool_of};
+ghost use Rattle.search_choices.specs.Choices.{pool_of};
 ghost use Rattle.search_choices.specs.search_tables.Selection.{IsFirstPreferredSelection, IsSatisfying};
+ghost use Rattle.solve_core.specs.Underway.{IsUnderway};
 
 use crate::search::Search;
 use dep_core::World;
@@ -36,15 +36,10 @@ pub fn solve(alloc: Global, pool: &Sealed<'_>, world: &World) -> Result<Option<T
     first_selection(alloc, &mut search)
 }
 
-// The preferred solution, by a search that begins without choices. The search takes an option of
-// the topmost frame, or backtracks if no option is left, or if propagation finds a dead end ahead.
+// The preferred solution, by a search that begins without choices. Each round makes one choice.
 // `search` is borrowed, so that nothing needs to be freed if the loop ends early.
 fn first_selection(alloc: Global, search: &mut Search<'_>) -> Result<Option<Trace>, AllocError>
-    // The choices and turns fit together, and what the search remembers and knows is about its
-    // pool.
-    requires search { IsSearch search.old.chosen search.old.turns.items }
-    requires matches { AreMatchesAmong (pool_of search.old.chosen).candidates search.old.matches }
-    requires known { search.old.known ≡ pool_of search.old.chosen }
+    requires { IsUnderway search.old }
     // None: no selection satisfies world. Otherwise: the preferred selection.
     ensures { IfOk result (λ found. MatchOption found ((selection : List ℕ) →
         IsSatisfying (pool_of search.old.chosen) selection → ⊥)
@@ -52,35 +47,14 @@ fn first_selection(alloc: Global, search: &mut Search<'_>) -> Result<Option<Trac
 {
     // A law that the proof needs; it has no effect at run time.
     options_are_as_promised();
-    // Without a need that is unmet, the choices are the solution; here and below.
-    let Some(frame) = search.next_frame()? else {
-        return Ok(Some(search.trace(alloc)?));
-    };
-    let mut top = frame;
-    loop {
-        // No satisfying selection has all the choices: backtrack before an option is taken.
-        let is_dead = search.is_dead_ahead()?;
-        if is_dead {
-            let Some(frame) = search.step_back_for_reason()? else {
-                return Ok(None);
-            };
-            top = frame;
-            continue;
+    let mut next = search.next_frame()?;
+    while let Some(top) = next {
+        if !search.choose_next(top)? {
+            return Ok(None);
         }
-        match search.next_option(&mut top)? {
-            Some(id) => {
-                search.choose(top, id)?;
-                let Some(frame) = search.next_frame()? else {
-                    return Ok(Some(search.trace(alloc)?));
-                };
-                top = frame;
-            }
-            None => {
-                let Some(frame) = search.step_back(top)? else {
-                    return Ok(None);
-                };
-                top = frame;
-            }
-        }
+        next = search.next_frame()?;
     }
+    // No need is unmet, so the choices are the solution.
+    let trace = search.trace(alloc)?;
+    Ok(Some(trace))
 }

@@ -1,17 +1,15 @@
 use Rattle.std.proofs.Common.{◌≡◌, ◌≤◌, length}
-use Rattle.search_choices.specs.candidate_core.PackageMatches.{AreMatchesAmong}
-use Rattle.search_choices.specs.Choices.{IsSearch, choices_of, pool_of}
+use Rattle.search_choices.specs.Choices.{choices_of, pool_of}
 use Rattle.search_choices.specs.search_tables.Reasons.{IsFrameOf}
+use Rattle.solve_core.specs.Underway.{IsUnderway}
 use Rattle.solve_core.proofs.search.Search.next_option.Given as goal
 
 abbrev pub invariant-loop-id : goal.invariant-loop-id
 invariant-loop-id l = record {
+  underway : IsUnderway l.self;
   chosen : l.self.chosen ≡ l.initial.self.chosen;
   turns : l.self.turns.items ≡ l.initial.self.turns.items;
-  known : l.self.known ≡ l.initial.self.known;
-  search : IsSearch l.self.chosen l.self.turns.items;
   open_now : IsFrameOf (pool_of l.self.chosen) (choices_of l.self.chosen) l.top;
-  matches : AreMatchesAmong (pool_of l.initial.self.chosen).candidates l.self.matches;
   fewer : length l.top.1 ≤ length l.initial.top.1;
 }
 
