@@ -47,10 +47,10 @@ fn add_fields(alloc: Global, shaped: Shaped<'_>, answer: &mut Answer) -> Result<
         Which::Dep => add_dependency(&DepView::of(adb, root), answer),
         Which::Acl => add_rights(&AclView::of(adb, root), answer),
         Which::PkgInfo => add_info(&PkgInfo::of(adb, root), answer),
-        Which::File => add_file(&FileInfo::of(adb, root), answer),
+        Which::File => add_file(shaped, answer),
         Which::Dir => add_folder(&DirInfo::of(adb, root), answer),
         Which::Scripts => add_scripts(&ScriptsView::of(adb, root), answer),
-        Which::Package => add_package(&PackageView::of(adb, root), answer),
+        Which::Package => add_package(shaped, answer),
         Which::Index => return add_index(alloc, shaped, answer),
         Which::Idb => add_database(&IdbView::of(adb, root), answer),
         Which::Intent => add_intent(&IntentView::of(adb, root), answer),
@@ -92,7 +92,12 @@ fn add_rights(rights: &AclView<'_>, answer: &mut Answer) {
 }
 
 // Adds the fields of a file.
-fn add_file(file: &FileInfo<'_>, answer: &mut Answer) {
+fn add_file(shaped: Shaped<'_>, answer: &mut Answer)
+    // The table at the root is that of a file.
+    requires { table_of shaped ≡ Tables.File }
+{
+    let adb = shaped.adb();
+    let file = FileInfo::of(adb, adb.root());
     answer.add_word(file.name());
     // Of the access list only the first field, the mode, is added.
     answer.add_int(file.acl().mode());
@@ -164,7 +169,12 @@ fn add_scripts(scripts: &ScriptsView<'_>, answer: &mut Answer) {
 }
 
 // Adds the fields of a package, with the names of its folders.
-fn add_package(package: &PackageView<'_>, answer: &mut Answer) {
+fn add_package(shaped: Shaped<'_>, answer: &mut Answer)
+    // The table at the root is that of a package.
+    requires { table_of shaped ≡ Tables.Package }
+{
+    let adb = shaped.adb();
+    let package = PackageView::of(adb, adb.root());
     // Of the package's information only the first field, the name, is added.
     answer.add_word(package.info().name());
     add_folder_names(package.paths(), answer);
