@@ -2,9 +2,8 @@
 //! remove the file `x` and write the file `y`, whose one byte is `2`. The second change also writes
 //! the file `z`, whose one byte is `3`. The calls of a stage are in `docs/crash-safety.md`, "A
 //! change of several files", in the table of its steps.
-ghost use Rattle.std.specs.Prelude.{◌≡◌, ◌<◌, ◌+◌, [], ◌∷◌, ◌++◌, true, false, codes, length};
-ghost use Rattle.std.specs.Prelude.{IfOk, IfSome, OnOk};
-ghost use Rattle.journal_core.specs.Staged.{action_count, new_stage_of_removals_and_writes};
+ghost use Rattle.std.specs.Prelude.{◌≡◌, [], ◌∷◌, ◌++◌, true, codes, IfOk, IfSome, OnOk};
+ghost use Rattle.journal_core.specs.Staged.{new_stage_of_removals_and_writes};
 
 use base_core::{Disk, Name, Names};
 use journal_core::Stage;
@@ -95,46 +94,6 @@ fn one_more_name(alloc: Global, names: Names, bytes: &[u8]) -> Result<Option<Nam
     Ok(Some(names))
 }
 
-// ---- the steps of both changes
-
-/// Stages a file with these bytes for the next write of the change.
-fn stage_file(stage: &mut Stage, tree: &mut MemoryTree, bytes: &[u8]) -> Result<(), Disk>
-    // No staged file is begun and not yet ended.
-    requires closed { stage.old.is_open ≡ false }
-    // A write is left whose file is not staged.
-    requires more { stage.old.staged < length stage.old.intent.writes }
-    // On Ok, one file more is staged.
-    ensures { OnOk result (stage.new ≡ record stage.old { staged = stage.old.staged + 1 }) }
-{
-    stage.file_begin(tree)?;
-    stage.file_append(tree, bytes)?;
-    stage.file_end(tree)
-}
-
-/// Does the next action of the committed change.
-fn apply_next(stage: &mut Stage, tree: &mut MemoryTree) -> Result<(), Disk>
-    // The journal entry is committed.
-    requires published { stage.old.published ≡ true }
-    // An action is left.
-    requires left { stage.old.acted < action_count stage.old.intent }
-    // On Ok, one action more is done.
-    ensures { OnOk result (stage.new ≡ record stage.old { acted = stage.old.acted + 1 }) }
-{
-    stage.apply_one(tree)?;
-    Ok(())
-}
-
-/// Finds that no action is left, and removes the journal entry.
-fn finish_change(stage: &mut Stage, tree: &mut MemoryTree) -> Result<(), Disk>
-    // The journal entry is committed.
-    requires published { stage.old.published ≡ true }
-    // All actions are done.
-    requires all { stage.old.acted ≡ action_count stage.old.intent }
-{
-    stage.apply_one(tree)?;
-    stage.finish(tree)
-}
-
 // ---- one write
 
 /// Makes the change that removes `x` and writes `y`, and returns how far it came.
@@ -180,12 +139,14 @@ fn publish_one_write(stage: &mut Stage, tree: &mut MemoryTree) -> Result<(), Dis
           published = true;
         }) }
 {
-    stage_file(stage, tree, b"2")?;
+    stage.file_begin(tree)?;
+    stage.file_append(tree, b"2")?;
+    stage.file_end(tree)?;
     stage.publish(tree)
 }
 
 /// Does both actions of the committed change, the removal of `x` and the move to `y`, and removes
-/// the journal entry.
+/// the journal entry. The third `apply_one` finds no action left.
 fn act_on_one_write(stage: &mut Stage, tree: &mut MemoryTree) -> Result<(), Disk>
     // One file is staged, and the journal entry is committed.
     requires { stage.old
@@ -194,9 +155,10 @@ fn act_on_one_write(stage: &mut Stage, tree: &mut MemoryTree) -> Result<(), Disk
           published = true;
         } }
 {
-    apply_next(stage, tree)?;
-    apply_next(stage, tree)?;
-    finish_change(stage, tree)
+    stage.apply_one(tree)?;
+    stage.apply_one(tree)?;
+    stage.apply_one(tree)?;
+    stage.finish(tree)
 }
 
 // ---- two writes
@@ -206,7 +168,7 @@ fn run_two_writes(alloc: Global, tree: &mut MemoryTree) -> Result<Reached, Alloc
     let Some(mut stage) = begin_two_writes(alloc)? else {
         return Ok(Reached::Nothing);
     };
-    if publish_two_writes(&mut stage, tree).is_err() {
+    if stage_two_files(&mut stage, tree).is_err() || stage.publish(tree).is_err() {
         return Ok(Reached::Nothing);
     }
     if act_on_two_writes(&mut stage, tree).is_err() {
@@ -237,26 +199,26 @@ fn begin_two_writes(alloc: Global) -> Result<Option<Stage>, AllocError>
     }
 }
 
-/// Stages the file `y` with the byte `2` and the file `z` with the byte `3`, and commits the
-/// journal entry.
-fn publish_two_writes(stage: &mut Stage, tree: &mut MemoryTree) -> Result<(), Disk>
+/// Stages the file `y` with the byte `2`, and the file `z` with the byte `3`.
+fn stage_two_files(stage: &mut Stage, tree: &mut MemoryTree) -> Result<(), Disk>
     // The stage is new.
     requires { stage.old
         ≡ new_stage_of_removals_and_writes (codes "x" ∷ []) (codes "y" ∷ codes "z" ∷ []) }
-    // On Ok, two files are staged, and the journal entry is committed.
+    // On Ok, two files are staged, and the journal entry is not yet committed.
     ensures { OnOk result (stage.new
-        ≡ record (new_stage_of_removals_and_writes (codes "x" ∷ []) (codes "y" ∷ codes "z" ∷ [])) {
-          staged = 2;
-          published = true;
-        }) }
+        ≡ record (new_stage_of_removals_and_writes (codes "x" ∷ [])
+        (codes "y" ∷ codes "z" ∷ [])) { staged = 2 }) }
 {
-    stage_file(stage, tree, b"2")?;
-    stage_file(stage, tree, b"3")?;
-    stage.publish(tree)
+    stage.file_begin(tree)?;
+    stage.file_append(tree, b"2")?;
+    stage.file_end(tree)?;
+    stage.file_begin(tree)?;
+    stage.file_append(tree, b"3")?;
+    stage.file_end(tree)
 }
 
 /// Does the three actions of the committed change, the removal of `x` and the moves to `y` and `z`,
-/// and removes the journal entry.
+/// and removes the journal entry. The fourth `apply_one` finds no action left.
 fn act_on_two_writes(stage: &mut Stage, tree: &mut MemoryTree) -> Result<(), Disk>
     // Two files are staged, and the journal entry is committed.
     requires { stage.old
@@ -265,8 +227,9 @@ fn act_on_two_writes(stage: &mut Stage, tree: &mut MemoryTree) -> Result<(), Dis
           published = true;
         } }
 {
-    apply_next(stage, tree)?;
-    apply_next(stage, tree)?;
-    apply_next(stage, tree)?;
-    finish_change(stage, tree)
+    stage.apply_one(tree)?;
+    stage.apply_one(tree)?;
+    stage.apply_one(tree)?;
+    stage.apply_one(tree)?;
+    stage.finish(tree)
 }

@@ -7,7 +7,9 @@ use tree_memory::MemoryTree;
 
 /// The number in the word of a row with this index, or 0 if the word is no number of 64 bits.
 pub(crate) fn long_at(words: &Words, i: usize) -> u64 {
-    u64::try_from(number_of(word_at(words, i)).unwrap_or(0)).unwrap_or(0)
+    number_of(word_at(words, i))
+        .and_then(|number| u64::try_from(number).ok())
+        .unwrap_or(0)
 }
 
 /// A tree with the files that the words of a row from the index `first` on describe: the name of a
