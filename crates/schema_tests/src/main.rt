@@ -5,11 +5,13 @@
 //! row for each question. A payload is kept from one row to the next.
 #![tactic(auto)]
 
+mod answer;
 mod payloads;
 mod shapes;
 mod views;
 mod words;
 
+use answer::Answer;
 use base_core::Words;
 use row_lines::{Subject, run_program, value_named, word_at};
 use shapes::{add_container, add_faults, add_many_files, add_rule, add_shape, add_visits};
@@ -68,23 +70,44 @@ struct CurrentPayload {
 }
 
 impl Subject for CurrentPayload {
-    // Answers a question by its first word. `payload` keeps the bytes that later questions read.
+    // Adds the words of the answer to a question.
     fn answer(
         &mut self,
         alloc: Global,
         words: &Words,
         answer: &mut Vec<u8>,
     ) -> Result<(), AllocError> {
+        let mut found = Answer::new(alloc);
+        self.add_answer(alloc, words, &mut found)?;
+        found.move_to(answer)
+    }
+}
+
+impl CurrentPayload {
+    // Answers a question by its first word. `payload` keeps the bytes that later questions read.
+    fn add_answer(
+        &mut self,
+        alloc: Global,
+        words: &Words,
+        answer: &mut Answer,
+    ) -> Result<(), AllocError> {
         let Some(question) = value_named(&QUESTIONS, word_at(words, 0)) else {
-            return answer.extend_from_slice(b"no question");
+            answer.add_word(b"no question");
+            return Ok(());
         };
         match question {
             Question::Payload => {
                 self.bytes.clear();
                 self.bytes.extend_from_slice(word_at(words, 1))
             }
-            Question::Head => add_head(alloc, &self.bytes, answer),
-            Question::Word => add_reads(alloc, &self.bytes, word_at(words, 1), answer),
+            Question::Head => {
+                add_head(&self.bytes, answer);
+                Ok(())
+            }
+            Question::Word => {
+                add_reads(&self.bytes, word_at(words, 1), answer);
+                Ok(())
+            }
             Question::Shape => add_shape(alloc, words, answer),
             Question::Faults => add_faults(alloc, word_at(words, 1), answer),
             Question::Visits => add_visits(alloc, words, answer),

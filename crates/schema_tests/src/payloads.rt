@@ -124,11 +124,8 @@ impl Payload {
     /// Adds a word to the array or object that was begun last; if none was begun, the word is that
     /// of the root.
     fn add_entry(&mut self, word: u32) -> Result<(), AllocError> {
-        match self.open.pop() {
-            Some(mut entries) => {
-                entries.push(word)?;
-                self.open.push(entries)?;
-            }
+        match self.open.last_mut() {
+            Some(entries) => entries.push(word)?,
             None => self.root = word,
         }
         Ok(())
@@ -137,7 +134,7 @@ impl Payload {
 
 /// Writes the words of an array or of an object: first their count, which counts itself too, and
 /// then the words.
-pub(crate) fn add_run(bytes: &mut Vec<u8>, entries: &[u32]) -> Result<(), AllocError> {
+fn add_run(bytes: &mut Vec<u8>, entries: &[u32]) -> Result<(), AllocError> {
     // The remainder only keeps the sum from overflowing; no row has so many words.
     let count = (entries.len() % 65_536) as u32 + 1;
     bytes.extend_from_slice(&count.to_le_bytes())?;

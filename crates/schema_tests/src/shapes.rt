@@ -2,12 +2,13 @@
 //! `many_files`, `rules` and `container` (see `Question` in `main.rt`). The rules of the tests are
 //! in `docs/formats.md`, "Tests of a container", and the words of values in "Values".
 
-use crate::payloads::{add_run, ints_of, object_payload, payload_of, table_of};
-use crate::words::{add_cause, add_outcome, int_of};
+use crate::answer::Answer;
+use crate::payloads::{ints_of, object_payload, payload_of, table_of};
+use crate::words::int_of;
 use adb_schema::{Checked, Field, Kind, ReadFault, Which, fields_of, read_adb, shape};
 use adb_view::{Adb, Val, walk_fields};
 use base_core::{Cause, Words};
-use row_lines::{add_number, word_at};
+use row_lines::word_at;
 use std::alloc::{AllocError, Global};
 
 /// The word of the root in these payloads: an object (0xe) at the offset 8, after the head.
@@ -17,11 +18,13 @@ const ROOT: u32 = 0xe000_0008;
 /// shape").
 const MOST_VISITS: u32 = 4_194_304;
 
-/// The fault of a payload that should have the shape of the table `which`; `Ok` if it has this
+/// The fault of a payload that should have the shape of the table `which`; None if it has this
 /// shape.
-fn fault_of(payload: &[u8], which: Which) -> Result<(), Cause> {
-    shape(Adb::new(payload)?, which)?;
-    Ok(())
+fn fault_of(payload: &[u8], which: Which) -> Option<Cause> {
+    match Adb::new(payload) {
+        Ok(adb) => shape(adb, which).err(),
+        Err(cause) => Some(cause),
+    }
 }
 
 /// Answers `shape TABLE MORE WORD ..`: adds the fault of a payload that is an object with these
@@ -29,13 +32,13 @@ fn fault_of(payload: &[u8], which: Which) -> Result<(), Cause> {
 pub(crate) fn add_shape(
     alloc: Global,
     words: &Words,
-    answer: &mut Vec<u8>,
+    answer: &mut Answer,
 ) -> Result<(), AllocError> {
     // The words of the row from the word 3 on are the words of the object.
     let entries = ints_of(alloc, words, 3)?;
     let payload = object_payload(alloc, &entries, word_at(words, 2))?;
-    let found = fault_of(&payload, table_of(word_at(words, 1)));
-    add_outcome(alloc, found, answer)
+    answer.add_outcome(fault_of(&payload, table_of(word_at(words, 1))));
+    Ok(())
 }
 
 /// A word whose kind (top four bits) is not allowed for a field of the kind `kind`: a blob for an
@@ -64,58 +67,54 @@ fn word_outside_payload(kind: Kind) -> u32 {
 pub(crate) fn add_faults(
     alloc: Global,
     table: &[u8],
-    answer: &mut Vec<u8>,
+    answer: &mut Answer,
 ) -> Result<(), AllocError> {
     let which = table_of(table);
     // The words of the fields before the next one, all of which are null.
     let mut before = Vec::new(alloc);
     let mut reported = 0u64;
     for field in fields_of(which) {
-        if has_both_faults(alloc, &before, *field, which)? {
+        if has_both_faults(alloc, &mut before, *field, which)? {
             reported = reported.saturating_add(1);
         }
         // The word 0 is NULL.
         before.push(0)?;
     }
-    add_number(alloc, answer, u128::from(reported))?;
+    answer.add_int(reported);
     // The integer 1 after the last field, followed by a word without a meaning.
     before.push(0x1000_0001)?;
-    add_outcome(
-        alloc,
-        fault_after(alloc, &before, 0xffff_ffff, which)?,
-        answer,
-    )
+    answer.add_outcome(fault_after(alloc, &mut before, 0xffff_ffff, which)?);
+    Ok(())
 }
 
 /// Whether both faults of this field are reported: a word of another kind, and an offset outside of
 /// the payload. `before` are the words of the earlier fields.
 fn has_both_faults(
     alloc: Global,
-    before: &[u32],
+    before: &mut Vec<u32>,
     field: Field,
     which: Which,
 ) -> Result<bool, AllocError> {
-    let wrong_word = word_of_another_kind(field.kind);
-    let outside_word = word_outside_payload(field.kind);
-    let wrong_fault = fault_after(alloc, before, wrong_word, which)?;
-    let outside_fault = fault_after(alloc, before, outside_word, which)?;
+    let wrong = word_of_another_kind(field.kind);
+    let outside = word_outside_payload(field.kind);
     Ok(
-        wrong_fault == Err(Cause::WrongKind { word: wrong_word })
-            && outside_fault == Err(Cause::Outside { word: outside_word }),
+        fault_after(alloc, before, wrong, which)? == Some(Cause::WrongKind { word: wrong })
+            && fault_after(alloc, before, outside, which)?
+                == Some(Cause::Outside { word: outside }),
     )
 }
 
-/// The fault of an object of the table `which` with the words `before`, and `word` after them; `Ok`
+/// The fault of an object of the table `which` with the words `before`, and `word` after them; None
 /// if it has no fault.
 fn fault_after(
     alloc: Global,
-    before: &[u32],
+    before: &mut Vec<u32>,
     word: u32,
     which: Which,
-) -> Result<Result<(), Cause>, AllocError> {
-    let mut words = Vec::from_slice(alloc, before)?;
-    words.push(word)?;
-    let payload = object_payload(alloc, &words, b"")?;
+) -> Result<Option<Cause>, AllocError> {
+    before.push(word)?;
+    let payload = object_payload(alloc, before, b"")?;
+    before.pop();
     Ok(fault_of(&payload, which))
 }
 
@@ -125,16 +124,17 @@ fn fault_after(
 pub(crate) fn add_visits(
     alloc: Global,
     words: &Words,
-    answer: &mut Vec<u8>,
+    answer: &mut Answer,
 ) -> Result<(), AllocError> {
     // The words of the row from the word 3 on are the words of the object.
     let entries = ints_of(alloc, words, 3)?;
     let payload = object_payload(alloc, &entries, b"")?;
     let before = int_of(word_at(words, 2));
     match visits_of(&payload, table_of(word_at(words, 1)), before) {
-        Ok(visits) => add_number(alloc, answer, u128::from(visits)),
-        Err(cause) => add_cause(alloc, cause, answer),
+        Ok(visits) => answer.add_int(u64::from(visits)),
+        Err(cause) => answer.add_cause(cause),
     }
+    Ok(())
 }
 
 /// How many values are visited in a payload with this table at its root, with `before` earlier
@@ -153,7 +153,7 @@ fn visits_of(payload: &[u8], which: Which, before: u32) -> Result<u32, Cause> {
 pub(crate) fn add_many_files(
     alloc: Global,
     count: &[u8],
-    answer: &mut Vec<u8>,
+    answer: &mut Answer,
 ) -> Result<(), AllocError> {
     let count = int_of(count) % 65_536;
     // At the offset 20 the folder (a count of 4, and three words: null, null, and the array of its
@@ -161,54 +161,76 @@ pub(crate) fn add_many_files(
     let mut more = Vec::new(alloc);
     more.extend_from_slice(b"\x04\0\0\0\0\0\0\0\0\0\0\0\x24\0\0\xd0")?;
     // The array of files: null in each entry.
-    add_run(&mut more, &Vec::from_elem(alloc, 0u32, count as usize)?)?;
+    add_equal_entries(&mut more, count, 0)?;
     // The array of folders: each entry is the object at the offset 20 (0x14).
-    add_run(
-        &mut more,
-        &Vec::from_elem(alloc, 0xe000_0014u32, count as usize)?,
-    )?;
+    add_equal_entries(&mut more, count, 0xe000_0014)?;
     // The word of the array of folders: an array (0xd) at the offset 40 + 4 * N.
     let folders = 0xd000_0000 + 40 + 4 * count;
     // The package has no information, and these folders.
     let payload = object_payload(alloc, &[0, folders], &more)?;
-    add_outcome(alloc, fault_of(&payload, Which::Package), answer)
+    answer.add_outcome(fault_of(&payload, Which::Package));
+    Ok(())
+}
+
+/// Writes the words of an array with `count` times the same entry: first the count of words, which
+/// counts itself too.
+fn add_equal_entries(bytes: &mut Vec<u8>, count: u32, entry: u32) -> Result<(), AllocError> {
+    bytes.extend_from_slice(&count.saturating_add(1).to_le_bytes())?;
+    for _ in 0..count {
+        bytes.extend_from_slice(&entry.to_le_bytes())?;
+    }
+    Ok(())
 }
 
 /// Answers `rules TABLE VALUE`: adds the first failed test of the value, or `ok`.
 pub(crate) fn add_rule(
     alloc: Global,
     words: &Words,
-    answer: &mut Vec<u8>,
+    answer: &mut Answer,
 ) -> Result<(), AllocError> {
     // The value is in the words of the row from the word 2 on.
     let payload = payload_of(alloc, words, 2)?;
-    let checked = check(alloc, &payload, table_of(word_at(words, 1)));
-    add_outcome(alloc, cause_in(checked)?, answer)
+    answer.add_outcome(failed_test(alloc, &payload, table_of(word_at(words, 1)))?);
+    Ok(())
 }
 
-/// Tests a payload: its head, its shape (the types of its values), and its texts and numbers.
-fn check(alloc: Global, payload: &[u8], which: Which) -> Result<(), ReadFault> {
-    let shaped = shape(Adb::new(payload)?, which)?;
-    Checked::new(alloc, shaped)?;
-    Ok(())
+/// The first failed test of a payload, if any: of its head, of its shape (the types of its values),
+/// and of its texts and numbers.
+fn failed_test(alloc: Global, payload: &[u8], which: Which) -> Result<Option<Cause>, AllocError> {
+    match Adb::new(payload) {
+        Ok(adb) => failed_test_of_values(alloc, adb, which),
+        Err(cause) => Ok(Some(cause)),
+    }
+}
+
+/// The first failed test of the values of a payload, if any.
+fn failed_test_of_values(
+    alloc: Global,
+    adb: Adb<'_>,
+    which: Which,
+) -> Result<Option<Cause>, AllocError> {
+    match shape(adb, which) {
+        Ok(shaped) => cause_in(Checked::new(alloc, shaped)),
+        Err(cause) => Ok(Some(cause)),
+    }
 }
 
 /// Answers `container BYTES TABLE`: adds the first failed test of the container, or `ok`.
 pub(crate) fn add_container(
     alloc: Global,
     words: &Words,
-    answer: &mut Vec<u8>,
+    answer: &mut Answer,
 ) -> Result<(), AllocError> {
     let read = read_adb(alloc, word_at(words, 1), table_of(word_at(words, 2)));
-    add_outcome(alloc, cause_in(read)?, answer)
+    answer.add_outcome(cause_in(read)?);
+    Ok(())
 }
 
-/// The result of a read without its value: `Ok`, or the cause. Out of memory is returned as an
-/// error.
-fn cause_in<T: Drop>(found: Result<T, ReadFault>) -> Result<Result<(), Cause>, AllocError> {
+/// The first failed test of a read, or None if it succeeded. Out of memory is returned as an error.
+fn cause_in(found: Result<Checked<'_>, ReadFault>) -> Result<Option<Cause>, AllocError> {
     match found {
-        Ok(_) => Ok(Ok(())),
-        Err(ReadFault::Bad(cause)) => Ok(Err(cause)),
+        Ok(_) => Ok(None),
+        Err(ReadFault::Bad(cause)) => Ok(Some(cause)),
         Err(ReadFault::Memory) => Err(AllocError),
     }
 }

@@ -1,15 +1,19 @@
 //! Answers `view`: each field of each table, as `docs/formats.md` lists them in "Schemas". How the
 //! answers are written is in `tests/lines.md`, `view`. The entries of a list count from 1, so the
 //! code gets the entry `i + 1` of a list.
+ghost use Rattle.std.specs.Prelude.{◌≡◌};
+ghost use Rattle.adb_view.specs.ShapedPayload.{table_of};
+ghost use Rattle.adb_view.specs.declared.tables.Which.TheVariants as Tables;
+
+use crate::answer::Answer;
 use crate::payloads::{payload_of, table_of};
-use crate::words::add_cause;
 use adb_schema::{
     AclView, Checked, DepView, DirInfo, FileInfo, IdbView, IndexView, IntentView, List,
     PackageView, PkgInfo, ReadFault, ScriptsView, View, Which, shape,
 };
-use adb_view::Adb;
-use base_core::Words;
-use row_lines::{add_number, add_word, word_at};
+use adb_view::{Adb, Shaped};
+use base_core::{Cause, Words};
+use row_lines::word_at;
 use std::alloc::{AllocError, Global};
 
 /// Answers `view TABLE VALUE`: adds each field of the value. Of a list it adds the name or text of
@@ -17,239 +21,215 @@ use std::alloc::{AllocError, Global};
 pub(crate) fn add_view(
     alloc: Global,
     words: &Words,
-    answer: &mut Vec<u8>,
+    answer: &mut Answer,
 ) -> Result<(), AllocError> {
     // The value is in the words of the row from the word 2 on.
     let payload = payload_of(alloc, words, 2)?;
-    let adb = match Adb::new(&payload) {
-        Ok(adb) => adb,
-        Err(cause) => return add_cause(alloc, cause, answer),
-    };
-    match table_of(word_at(words, 1)) {
-        Which::Dep => add_dependency(alloc, adb, answer),
-        Which::Acl => add_rights(alloc, adb, answer),
-        Which::PkgInfo => add_info(alloc, adb, answer),
-        Which::File => add_file(alloc, adb, answer),
-        Which::Dir => add_folder(alloc, adb, answer),
-        Which::Scripts => add_scripts(alloc, adb, answer),
-        Which::Package => add_package(alloc, adb, answer),
-        Which::Index => add_index(alloc, adb, answer),
-        Which::Idb => add_database(alloc, adb, answer),
-        Which::Intent => add_intent(alloc, adb, answer),
+    match shaped_of(&payload, table_of(word_at(words, 1))) {
+        Ok(shaped) => add_fields(alloc, shaped, answer),
+        Err(cause) => {
+            answer.add_cause(cause);
+            Ok(())
+        }
     }
 }
 
-// Adds a number in decimal digits, as a word of its own.
-fn add_int(alloc: Global, number: u64, answer: &mut Vec<u8>) -> Result<(), AllocError> {
-    // `add_word` puts the space before the number.
-    add_word(answer, b"")?;
-    add_number(alloc, answer, u128::from(number))
+// The payload as an object of a table, or the first failed test of its shape.
+fn shaped_of(payload: &[u8], which: Which) -> Result<Shaped<'_>, Cause> {
+    shape(Adb::new(payload)?, which)
 }
 
-// Adds the texts of an array, in brackets.
-fn add_texts<'a>(list: List<'a, &'a [u8]>, answer: &mut Vec<u8>) -> Result<(), AllocError> {
-    add_word(answer, b"[")?;
-    for i in 0..list.len() {
-        add_word(answer, list.get(i + 1))?;
-    }
-    add_word(answer, b"]")
-}
-
-// Adds the names of dependencies, in brackets.
-fn add_dependencies<'a>(
-    list: List<'a, DepView<'a>>,
-    answer: &mut Vec<u8>,
-) -> Result<(), AllocError> {
-    add_word(answer, b"[")?;
-    for i in 0..list.len() {
-        add_word(answer, list.get(i + 1).name())?;
-    }
-    add_word(answer, b"]")
-}
-
-// Adds the fields of a dependency.
-fn add_dependency(alloc: Global, adb: Adb<'_>, answer: &mut Vec<u8>) -> Result<(), AllocError> {
-    if let Err(cause) = shape(adb, Which::Dep) {
-        return add_cause(alloc, cause, answer);
-    }
-    let dep = DepView::of(adb, adb.root());
-    add_word(answer, dep.name())?;
-    add_word(answer, dep.version())?;
-    add_int(alloc, dep.matching(), answer)
-}
-
-// Adds the fields of an access list.
-fn add_rights(alloc: Global, adb: Adb<'_>, answer: &mut Vec<u8>) -> Result<(), AllocError> {
-    if let Err(cause) = shape(adb, Which::Acl) {
-        return add_cause(alloc, cause, answer);
-    }
-    let rights = AclView::of(adb, adb.root());
-    add_int(alloc, rights.mode(), answer)?;
-    add_word(answer, rights.user())?;
-    add_word(answer, rights.group())?;
-    add_texts(rights.xattrs(), answer)
-}
-
-// Adds the fields of a file.
-fn add_file(alloc: Global, adb: Adb<'_>, answer: &mut Vec<u8>) -> Result<(), AllocError> {
-    if let Err(cause) = shape(adb, Which::File) {
-        return add_cause(alloc, cause, answer);
-    }
-    let file = FileInfo::of(adb, adb.root());
-    // Of the access list only the first field, the mode, is added.
-    let mode = file.acl().mode();
-    add_word(answer, file.name())?;
-    add_int(alloc, mode, answer)?;
-    add_int(alloc, file.size(), answer)?;
-    add_int(alloc, file.mtime(), answer)?;
-    add_word(answer, file.hashes())?;
-    add_word(answer, file.target())?;
-    add_int(alloc, file.unused(), answer)
-}
-
-// Adds the fields of a folder, with the names of its files.
-fn add_folder(alloc: Global, adb: Adb<'_>, answer: &mut Vec<u8>) -> Result<(), AllocError> {
-    if let Err(cause) = shape(adb, Which::Dir) {
-        return add_cause(alloc, cause, answer);
-    }
-    let folder = DirInfo::of(adb, adb.root());
-    // Of the access list only the first field, the mode, is added.
-    let mode = folder.acl().mode();
-    add_word(answer, folder.name())?;
-    add_int(alloc, mode, answer)?;
-    add_word(answer, b"[")?;
-    let files = folder.files();
-    for i in 0..files.len() {
-        add_word(answer, files.get(i + 1).name())?;
-    }
-    add_word(answer, b"]")
-}
-
-// Adds the fields of a package's information, up to its lists.
-fn add_info(alloc: Global, adb: Adb<'_>, answer: &mut Vec<u8>) -> Result<(), AllocError> {
-    if let Err(cause) = shape(adb, Which::PkgInfo) {
-        return add_cause(alloc, cause, answer);
-    }
-    let info = PkgInfo::of(adb, adb.root());
-    let texts: [&[u8]; 10] = [
-        info.name(),
-        info.version(),
-        info.hashes(),
-        info.description(),
-        info.arch(),
-        info.license(),
-        info.origin(),
-        info.maintainer(),
-        info.url(),
-        info.repo_commit(),
-    ];
-    for text in texts {
-        add_word(answer, text)?;
-    }
-    add_int(alloc, info.build_time(), answer)?;
-    add_int(alloc, info.installed_size(), answer)?;
-    add_int(alloc, info.file_size(), answer)?;
-    add_int(alloc, info.provider_priority(), answer)?;
-    add_lists(alloc, &info, answer)
-}
-
-// Adds the lists of a package's information, and its fields after them.
-fn add_lists(alloc: Global, info: &PkgInfo<'_>, answer: &mut Vec<u8>) -> Result<(), AllocError> {
-    add_dependencies(info.depends(), answer)?;
-    add_dependencies(info.provides(), answer)?;
-    add_dependencies(info.replaces(), answer)?;
-    add_dependencies(info.install_if(), answer)?;
-    add_dependencies(info.recommends(), answer)?;
-    add_int(alloc, info.layer(), answer)?;
-    add_texts(info.tags(), answer)?;
-    add_int(alloc, info.unused(), answer)
-}
-
-// Adds the seven scripts.
-fn add_scripts(alloc: Global, adb: Adb<'_>, answer: &mut Vec<u8>) -> Result<(), AllocError> {
-    if let Err(cause) = shape(adb, Which::Scripts) {
-        return add_cause(alloc, cause, answer);
-    }
-    let scripts = ScriptsView::of(adb, adb.root());
-    let texts: [&[u8]; 7] = [
-        scripts.trigger(),
-        scripts.pre_install(),
-        scripts.post_install(),
-        scripts.pre_deinstall(),
-        scripts.post_deinstall(),
-        scripts.pre_upgrade(),
-        scripts.post_upgrade(),
-    ];
-    for text in texts {
-        add_word(answer, text)?;
+// Adds each field of the root of a payload.
+fn add_fields(alloc: Global, shaped: Shaped<'_>, answer: &mut Answer) -> Result<(), AllocError> {
+    let adb = shaped.adb();
+    let root = adb.root();
+    match shaped.which() {
+        Which::Dep => add_dependency(&DepView::of(adb, root), answer),
+        Which::Acl => add_rights(&AclView::of(adb, root), answer),
+        Which::PkgInfo => add_info(&PkgInfo::of(adb, root), answer),
+        Which::File => add_file(shaped, answer),
+        Which::Dir => add_folder(&DirInfo::of(adb, root), answer),
+        Which::Scripts => add_scripts(&ScriptsView::of(adb, root), answer),
+        Which::Package => add_package(shaped, answer),
+        Which::Index => return add_index(alloc, shaped, answer),
+        Which::Idb => add_database(&IdbView::of(adb, root), answer),
+        Which::Intent => add_intent(&IntentView::of(adb, root), answer),
     }
     Ok(())
 }
 
-// Adds the fields of a package, with the names of its folders.
-fn add_package(alloc: Global, adb: Adb<'_>, answer: &mut Vec<u8>) -> Result<(), AllocError> {
-    if let Err(cause) = shape(adb, Which::Package) {
-        return add_cause(alloc, cause, answer);
+// Adds the texts of an array, in brackets.
+fn add_texts<'a>(list: List<'a, &'a [u8]>, answer: &mut Answer) {
+    answer.add_word(b"[");
+    for i in 0..list.len() {
+        answer.add_word(list.get(i + 1));
     }
+    answer.add_word(b"]")
+}
+
+// Adds the names of dependencies, in brackets.
+fn add_dependencies<'a>(list: List<'a, DepView<'a>>, answer: &mut Answer) {
+    answer.add_word(b"[");
+    for i in 0..list.len() {
+        answer.add_word(list.get(i + 1).name());
+    }
+    answer.add_word(b"]")
+}
+
+// Adds the fields of a dependency.
+fn add_dependency(dep: &DepView<'_>, answer: &mut Answer) {
+    answer.add_word(dep.name());
+    answer.add_word(dep.version());
+    answer.add_int(dep.matching())
+}
+
+// Adds the fields of an access list.
+fn add_rights(rights: &AclView<'_>, answer: &mut Answer) {
+    answer.add_int(rights.mode());
+    answer.add_word(rights.user());
+    answer.add_word(rights.group());
+    add_texts(rights.xattrs(), answer)
+}
+
+// Adds the fields of a file.
+fn add_file(shaped: Shaped<'_>, answer: &mut Answer)
+    // The table at the root is that of a file.
+    requires { table_of shaped ≡ Tables.File }
+{
+    let adb = shaped.adb();
+    let file = FileInfo::of(adb, adb.root());
+    answer.add_word(file.name());
+    // Of the access list only the first field, the mode, is added.
+    answer.add_int(file.acl().mode());
+    answer.add_int(file.size());
+    answer.add_int(file.mtime());
+    answer.add_word(file.hashes());
+    answer.add_word(file.target());
+    answer.add_int(file.unused())
+}
+
+// Adds the fields of a folder, with the names of its files.
+fn add_folder(folder: &DirInfo<'_>, answer: &mut Answer) {
+    answer.add_word(folder.name());
+    // Of the access list only the first field, the mode, is added.
+    answer.add_int(folder.acl().mode());
+    answer.add_word(b"[");
+    let files = folder.files();
+    for i in 0..files.len() {
+        answer.add_word(files.get(i + 1).name());
+    }
+    answer.add_word(b"]")
+}
+
+// Adds the fields of a package's information.
+fn add_info(info: &PkgInfo<'_>, answer: &mut Answer) {
+    add_info_texts(info, answer);
+    answer.add_int(info.build_time());
+    answer.add_int(info.installed_size());
+    answer.add_int(info.file_size());
+    answer.add_int(info.provider_priority());
+    add_lists(info, answer)
+}
+
+// Adds the texts of a package's information.
+fn add_info_texts(info: &PkgInfo<'_>, answer: &mut Answer) {
+    answer.add_word(info.name());
+    answer.add_word(info.version());
+    answer.add_word(info.hashes());
+    answer.add_word(info.description());
+    answer.add_word(info.arch());
+    answer.add_word(info.license());
+    answer.add_word(info.origin());
+    answer.add_word(info.maintainer());
+    answer.add_word(info.url());
+    answer.add_word(info.repo_commit())
+}
+
+// Adds the lists of a package's information, and its fields after them.
+fn add_lists(info: &PkgInfo<'_>, answer: &mut Answer) {
+    add_dependencies(info.depends(), answer);
+    add_dependencies(info.provides(), answer);
+    add_dependencies(info.replaces(), answer);
+    add_dependencies(info.install_if(), answer);
+    add_dependencies(info.recommends(), answer);
+    answer.add_int(info.layer());
+    add_texts(info.tags(), answer);
+    answer.add_int(info.unused())
+}
+
+// Adds the seven scripts.
+fn add_scripts(scripts: &ScriptsView<'_>, answer: &mut Answer) {
+    answer.add_word(scripts.trigger());
+    answer.add_word(scripts.pre_install());
+    answer.add_word(scripts.post_install());
+    answer.add_word(scripts.pre_deinstall());
+    answer.add_word(scripts.post_deinstall());
+    answer.add_word(scripts.pre_upgrade());
+    answer.add_word(scripts.post_upgrade())
+}
+
+// Adds the fields of a package, with the names of its folders.
+fn add_package(shaped: Shaped<'_>, answer: &mut Answer)
+    // The table at the root is that of a package.
+    requires { table_of shaped ≡ Tables.Package }
+{
+    let adb = shaped.adb();
     let package = PackageView::of(adb, adb.root());
     // Of the package's information only the first field, the name, is added.
-    add_word(answer, package.info().name())?;
-    add_word(answer, b"[")?;
-    let folders = package.paths();
-    for i in 0..folders.len() {
-        add_word(answer, folders.get(i + 1).name())?;
-    }
-    add_word(answer, b"]")?;
+    answer.add_word(package.info().name());
+    add_folder_names(package.paths(), answer);
     // Of the scripts only the first one is added.
-    add_word(answer, package.scripts().trigger())?;
-    add_texts(package.triggers(), answer)?;
-    add_int(alloc, package.replaces_priority(), answer)
+    answer.add_word(package.scripts().trigger());
+    add_texts(package.triggers(), answer);
+    answer.add_int(package.replaces_priority())
+}
+
+// Adds the names of folders, in brackets.
+fn add_folder_names<'a>(folders: List<'a, DirInfo<'a>>, answer: &mut Answer) {
+    answer.add_word(b"[");
+    for i in 0..folders.len() {
+        answer.add_word(folders.get(i + 1).name());
+    }
+    answer.add_word(b"]")
 }
 
 // Adds the fields of an index, if it passes all tests.
-fn add_index(alloc: Global, adb: Adb<'_>, answer: &mut Vec<u8>) -> Result<(), AllocError> {
-    let shaped = match shape(adb, Which::Index) {
-        Ok(shaped) => shaped,
-        Err(cause) => return add_cause(alloc, cause, answer),
-    };
+fn add_index(alloc: Global, shaped: Shaped<'_>, answer: &mut Answer) -> Result<(), AllocError>
+    // The table at the root is that of an index.
+    requires { table_of shaped ≡ Tables.Index }
+{
     match Checked::new(alloc, shaped) {
-        Ok(checked) => add_index_fields(checked.index(), answer),
-        Err(ReadFault::Bad(cause)) => add_cause(alloc, cause, answer),
-        Err(ReadFault::Memory) => Err(AllocError),
+        Ok(checked) => add_index_fields(&checked.index(), answer),
+        Err(ReadFault::Bad(cause)) => answer.add_cause(cause),
+        Err(ReadFault::Memory) => return Err(AllocError),
     }
+    Ok(())
 }
 
 // Adds the fields of an index, with the names of its packages.
-fn add_index_fields(index: IndexView<'_>, answer: &mut Vec<u8>) -> Result<(), AllocError> {
-    add_word(answer, index.description())?;
-    add_word(answer, b"[")?;
+fn add_index_fields(index: &IndexView<'_>, answer: &mut Answer) {
+    answer.add_word(index.description());
+    answer.add_word(b"[");
     let packages = index.packages();
     for i in 0..packages.len() {
-        add_word(answer, packages.get(i + 1).name())?;
+        answer.add_word(packages.get(i + 1).name());
     }
-    add_word(answer, b"]")?;
-    add_word(answer, index.pkgname_spec())
+    answer.add_word(b"]");
+    answer.add_word(index.pkgname_spec())
 }
 
 // Adds the names of the packages of a database.
-fn add_database(alloc: Global, adb: Adb<'_>, answer: &mut Vec<u8>) -> Result<(), AllocError> {
-    if let Err(cause) = shape(adb, Which::Idb) {
-        return add_cause(alloc, cause, answer);
-    }
-    let packages = IdbView::of(adb, adb.root()).packages();
-    add_word(answer, b"[")?;
+fn add_database(database: &IdbView<'_>, answer: &mut Answer) {
+    let packages = database.packages();
+    answer.add_word(b"[");
     for i in 0..packages.len() {
-        add_word(answer, packages.get(i + 1).info().name())?;
+        answer.add_word(packages.get(i + 1).info().name());
     }
-    add_word(answer, b"]")
+    answer.add_word(b"]")
 }
 
 // Adds the names that an intent removes, and those that it writes.
-fn add_intent(alloc: Global, adb: Adb<'_>, answer: &mut Vec<u8>) -> Result<(), AllocError> {
-    if let Err(cause) = shape(adb, Which::Intent) {
-        return add_cause(alloc, cause, answer);
-    }
-    let intent = IntentView::of(adb, adb.root());
-    add_texts(intent.removals(), answer)?;
+fn add_intent(intent: &IntentView<'_>, answer: &mut Answer) {
+    add_texts(intent.removals(), answer);
     add_texts(intent.writes(), answer)
 }

@@ -1,159 +1,104 @@
 //! Answers questions about words (32-bit references) of a payload: `head`, and `word`, which adds
 //! the results of the readers of integers, blobs, arrays and objects. The rules are in
 //! `docs/formats.md`, "Values".
+use crate::answer::Answer;
 use adb_view::{Adb, Arr, Val};
 use base_core::Cause;
-use row_lines::{add_number, add_word, number_of};
-use std::alloc::{AllocError, Global};
-
-/// Adds the cause of a failed test, as its variant and its fields.
-pub(crate) fn add_cause(
-    alloc: Global,
-    cause: Cause,
-    answer: &mut Vec<u8>,
-) -> Result<(), AllocError> {
-    let text = format!(in alloc; "{cause:?}")?;
-    add_word(answer, text.as_bytes())
-}
-
-/// Adds `ok`, or the cause in `found`.
-pub(crate) fn add_outcome(
-    alloc: Global,
-    found: Result<(), Cause>,
-    answer: &mut Vec<u8>,
-) -> Result<(), AllocError> {
-    match found {
-        Ok(()) => add_word(answer, b"ok"),
-        Err(cause) => add_cause(alloc, cause, answer),
-    }
-}
+use row_lines::number_of;
 
 /// The number that a word of a row is; 0 if it is no number of 32 bits.
 pub(crate) fn int_of(word: &[u8]) -> u32 {
-    number_of(word)
-        .and_then(|number| u32::try_from(number).ok())
-        .unwrap_or(0)
-}
-
-/// Answers `head`: adds the word of the payload's root, or the fault of its head.
-pub(crate) fn add_head(
-    alloc: Global,
-    payload: &[u8],
-    answer: &mut Vec<u8>,
-) -> Result<(), AllocError> {
-    match Adb::new(payload) {
-        Ok(adb) if adb.payload() == payload => {
-            add_value(alloc, adb.root(), answer)?;
-            add_word(
-                answer,
-                if adb.root().is_null() {
-                    b"null"
-                } else {
-                    b"root"
-                },
-            )
-        }
-        // This never happens: an `Adb` has the payload of which it was made.
-        Ok(_) => answer.extend_from_slice(b"another payload"),
-        Err(cause) => add_cause(alloc, cause, answer),
+    match number_of(word) {
+        Some(number) => u32::try_from(number).unwrap_or(0),
+        None => 0,
     }
 }
 
-/// Adds a word in eight hexadecimal digits.
-fn add_value(alloc: Global, value: Val, answer: &mut Vec<u8>) -> Result<(), AllocError> {
-    let word = value.word();
-    let text = format!(in alloc; "{word:08x}")?;
-    add_word(answer, text.as_bytes())
+/// Answers `head`: adds the word of the payload's root, or the fault of its head.
+pub(crate) fn add_head(payload: &[u8], answer: &mut Answer) {
+    match Adb::new(payload) {
+        Ok(adb) if adb.payload() == payload => add_root(adb.root(), answer),
+        // This never happens: an `Adb` has the payload of which it was made.
+        Ok(_) => answer.add_word(b"another payload"),
+        Err(cause) => answer.add_cause(cause),
+    }
+}
+
+/// Adds the word of a payload's root, and whether it is null.
+fn add_root(root: Val, answer: &mut Answer) {
+    answer.add_value(root);
+    answer.add_word(if root.is_null() { b"null" } else { b"root" })
 }
 
 /// Answers `word W`: adds the results of the four readers (integer, blob, array, object) for the
 /// word W. A reader adds nothing if the word is of another kind.
-pub(crate) fn add_reads(
-    alloc: Global,
-    payload: &[u8],
-    word: &[u8],
-    answer: &mut Vec<u8>,
-) -> Result<(), AllocError> {
+pub(crate) fn add_reads(payload: &[u8], word: &[u8], answer: &mut Answer) {
     let Ok(adb) = Adb::new(payload) else {
-        return answer.extend_from_slice(b"no payload");
+        return answer.add_word(b"no payload");
     };
     let value = Val::of(int_of(word));
+    add_leaves(adb, value, answer);
+    add_runs(adb, value, answer)
+}
+
+/// Adds the results of the readers of integers and blobs.
+fn add_leaves(adb: Adb<'_>, value: Val, answer: &mut Answer) {
     match adb.int(value) {
         Ok(number) => {
-            add_word(answer, b"integer ")?;
-            add_number(alloc, answer, u128::from(number))?;
+            answer.add_word(b"integer");
+            answer.add_int(number)
         }
-        Err(cause) => add_fault_unless_wrong_kind(cause, value, b"integer", answer)?,
+        Err(cause) => add_fault_unless_wrong_kind(cause, value, b"integer", answer),
     }
     match adb.blob(value) {
         Ok(bytes) => {
-            add_word(answer, b"blob ")?;
-            answer.extend_from_slice(bytes)?;
+            answer.add_word(b"blob");
+            answer.add_word(bytes)
         }
-        Err(cause) => add_fault_unless_wrong_kind(cause, value, b"blob", answer)?,
+        Err(cause) => add_fault_unless_wrong_kind(cause, value, b"blob", answer),
     }
-    add_runs(alloc, adb, value, answer)
 }
 
 /// Adds the results of the readers of arrays and objects, and the first two fields of an object.
-fn add_runs(
-    alloc: Global,
-    adb: Adb<'_>,
-    value: Val,
-    answer: &mut Vec<u8>,
-) -> Result<(), AllocError> {
+fn add_runs(adb: Adb<'_>, value: Val, answer: &mut Answer) {
     match adb.arr(value) {
-        Ok(found) => add_entries(alloc, found, b"array", answer)?,
-        Err(cause) => add_fault_unless_wrong_kind(cause, value, b"array", answer)?,
+        Ok(found) => add_entries(found, b"array", answer),
+        Err(cause) => add_fault_unless_wrong_kind(cause, value, b"array", answer),
     }
     // The first two fields of the object are read as well.
     match adb.obj::<2>(value) {
         Ok(found) => {
-            add_entries(alloc, found.entries(), b"object", answer)?;
-            add_word(answer, b"fields")?;
-            add_value(alloc, found.field(1), answer)?;
-            add_value(alloc, found.field(2), answer)
+            add_entries(found.entries(), b"object", answer);
+            answer.add_word(b"fields");
+            answer.add_value(found.field(1));
+            answer.add_value(found.field(2))
         }
         Err(cause) => add_fault_unless_wrong_kind(cause, value, b"object", answer),
     }
 }
 
 /// Adds `what`, which says what was read, and the words of its entries, or `empty`.
-fn add_entries(
-    alloc: Global,
-    found: Arr<'_>,
-    what: &[u8],
-    answer: &mut Vec<u8>,
-) -> Result<(), AllocError> {
-    add_word(answer, what)?;
+fn add_entries(found: Arr<'_>, what: &[u8], answer: &mut Answer) {
+    answer.add_word(what);
     if found.is_empty() {
-        return add_word(answer, b"empty");
+        answer.add_word(b"empty");
     }
     for i in 0..found.len() {
-        add_value(alloc, found.get(i + 1), answer)?;
+        answer.add_value(found.get(i + 1));
     }
-    Ok(())
 }
 
 /// Adds a fault of the reader of `what`, unless the fault is that the word is of another kind.
-fn add_fault_unless_wrong_kind(
-    cause: Cause,
-    value: Val,
-    what: &[u8],
-    answer: &mut Vec<u8>,
-) -> Result<(), AllocError> {
-    let word = value.word();
-    if cause == (Cause::WrongKind { word }) {
-        return Ok(());
+fn add_fault_unless_wrong_kind(cause: Cause, value: Val, what: &[u8], answer: &mut Answer) {
+    match cause {
+        Cause::WrongKind { word } if word == value.word() => {}
+        Cause::Outside { word } if word == value.word() => {
+            answer.add_word(what);
+            answer.add_word(b"outside")
+        }
+        _ => {
+            answer.add_word(what);
+            answer.add_word(b"another fault")
+        }
     }
-    add_word(answer, what)?;
-    let is_outside = cause == (Cause::Outside { word });
-    add_word(
-        answer,
-        if is_outside {
-            b"outside"
-        } else {
-            b"another fault"
-        },
-    )
 }
