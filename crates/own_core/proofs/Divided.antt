@@ -8,7 +8,7 @@ use Rattle.path_claim_lists.specs.path_claims.declared.claim.Claim.{Claim}
 use Rattle.path_claim_lists.proofs.Lists.{take_whole}
 use Rattle.own_core.specs.Divided.{AreDividedByAnswer, claims_with_one_if}
 use Rattle.own_core.specs.Fates.{marked_claims}
-use Rattle.own_core.specs.Found.{AreAnswersByFiles, IsByFile}
+use Rattle.own_core.specs.Found.{IsByFile}
 use Rattle.own_core.proofs.TreeLoops.{found_after, found_len}
 use Rattle.own_core.proofs.Written.{seen_more}
 

@@ -6,7 +6,7 @@ use Rattle.path_claim_lists.specs.path_claims.Claims.{PathClaim}
 use Rattle.path_claim_lists.specs.path_claims.Seen.{claim_seen}
 use Rattle.path_claim_lists.specs.path_claims.declared.claim.Claim.{Claim}
 use Rattle.path_claim_lists.proofs.path_claims.Places.{map_len, no_some, seen_at, value_or}
-use Rattle.path_claim_lists.proofs.Lists.{some_at, take_whole}
+use Rattle.path_claim_lists.proofs.Lists.{take_whole}
 use Rattle.own_core.specs.Fates.{marked_claims}
 
 pub map_more : {X Y : Type 0} (f : X → Y) (xs : List X) (x : X) → map f (xs ++ x ∷ []) ≡ map f xs ++ f x ∷ []

@@ -14,8 +14,9 @@ claims_with_one_if false c claims = claims
 
 -- There is an answer for each of the claims: the one that `said` gives for it and the file under its path. The claims
 -- whose answers pass the test `first` are `ones`, and those whose answers pass the test `second` are `others`.
-pub record AreDividedByAnswer {Y : Type 0} (said : PathClaim → Option (List ℕ) → Y) (first second : Y → Bool)
-    (history : List TreeState) (claims ones others : List PathClaim) : Type 0 where
+pub record AreDividedByAnswer {Y : Type 0} (said : PathClaim → Option (List ℕ) → Y)
+    (first second : Y → Bool) (history : List TreeState)
+    (claims ones others : List PathClaim) : Type 0 where
   -- the answer for each claim
   pub answers : List Y
   -- each answer is right for the file under the claim's path: the tree's, if the tree is observable

@@ -82,10 +82,11 @@ fn added_files<'n, T: Tree>(
     requires claims { HasClaimsOfPackages change.now }
     // Each claim is of a file of one of the members after the change.
     requires files { AreClaimsOf (members_of change.now.members.now) (map claim_seen coming.now) }
-    // On Ok, the claims are divided by fates, each of which is right for the file under its path, if
-    // the tree is observable, and otherwise for some file there.
-    ensures files { IfOk result (λ files. AreDividedByAnswer (claim_fate (file_change_of change.now))
-        (are_equal_fates goes_in) (are_equal_fates goes_aside) (T.history tree.old)
+    // On Ok, the claims are divided by fates, each of which is right for the file under its path,
+    // if the tree is observable, and otherwise for some file there.
+    ensures files { IfOk result (λ files. AreDividedByAnswer
+        (claim_fate (file_change_of change.now)) (are_equal_fates goes_in)
+        (are_equal_fates goes_aside) (T.history tree.old)
         (map claim_seen coming.now) (map claim_seen files.ins.items)
         (map claim_seen files.asides.items)) }
     // The tree is only read: no file changes, no I/O error is hidden, and no call is a misuse.
@@ -240,8 +241,9 @@ fn left_over_files<'o, T: Tree>(
         (map claim_seen left.now) }
     // On Ok, the claims are divided by whether the file is kept. This is right for the file under
     // the claim's path, if the tree is observable, and otherwise for some file there.
-    ensures files { IfOk result (λ files. AreDividedByAnswer (is_file_kept (file_change_of change.now))
-        (are_equal_flags false) (are_equal_flags true) (T.history tree.old)
+    ensures files { IfOk result (λ files. AreDividedByAnswer
+        (is_file_kept (file_change_of change.now)) (are_equal_flags false)
+        (are_equal_flags true) (T.history tree.old)
         (map claim_seen left.now) (map claim_seen files.removed.items)
         (map claim_seen files.kept.items)) }
     // The tree is only read: no file changes, no I/O error is hidden, and no call is a misuse.
