@@ -6,7 +6,7 @@ use Rattle.path_claim_lists.specs.path_claims.Claims.{PathClaim}
 use Rattle.path_claim_lists.specs.path_claims.Seen.{claim_seen}
 use Rattle.path_claim_lists.specs.path_claims.declared.claim.Claim.{Claim}
 use Rattle.path_claim_lists.proofs.path_claims.Places.{map_len, no_some, seen_at, value_or}
-use Rattle.path_claim_lists.proofs.Lists.{some_at, take_whole}
+use Rattle.path_claim_lists.proofs.Lists.{take_whole}
 use Rattle.own_core.specs.Fates.{marked_claims}
 
 pub map_more : {X Y : Type 0} (f : X → Y) (xs : List X) (x : X) → map f (xs ++ x ∷ []) ≡ map f xs ++ f x ∷ []
@@ -62,52 +62,7 @@ beside_at f xs ys i d e h l = ap (λ zs. slice_index_or zs i e) h ∙ at f xs i 
 
 -- ---- by marks
 
-pub marked_step : {Y : Type 0} (test : Y → Bool) (cs : List PathClaim) (ms : List Y) (i : ℕ) (c : PathClaim) (m : Y) → slice_get cs i ≡ Some c → slice_get ms i ≡ Some m
-    → marked_claims test (take (suc i) cs) (take (suc i) ms) ≡ marked_claims test (take i cs) (take i ms) ++ cond (test m) (c ∷ []) []
-marked_step test [] ms i c m g k = absurd (no_some c g)
-marked_step test (x ∷ cs) [] i c m g k = absurd (no_some m k)
-marked_step test (x ∷ cs) (y ∷ ms) zero c m g k = (λ j. cond (test (ap (value_or y) k j)) (ap (value_or x) g j ∷ []) [])
-marked_step test (x ∷ cs) (y ∷ ms) (suc i) c m g k =
-    step_on (test y) x (marked_claims test (take i cs) (take i ms)) (marked_claims test (take (suc i) cs) (take (suc i) ms)) (cond (test m) (c ∷ []) []) (marked_step test cs ms i c m g k)
-  where
-    step_on : (b : Bool) (x : PathClaim) (old new more : List PathClaim) → new ≡ old ++ more → cond b (x ∷ new) new ≡ cond b (x ∷ old) old ++ more
-    step_on true x old new more h = ap (λ r. x ∷ r) h
-    step_on false x old new more h = h
-
-pub marked_one : {Y Z : Type 0} (s : Z → Y) (test : Y → Bool) (xs gs hs : List Claim) (ms : List Z) (i : ℕ) (d : Claim) (e : Z) (t : Bool) → i < length xs → length ms ≡ length xs
-    → t ≡ test (s (slice_index_or ms i e)) → t ≡ true → hs ≡ gs ++ slice_index_or xs i d ∷ [] → map claim_seen gs ≡ marked_claims test (take i (map claim_seen xs)) (take i (map s ms))
-    → map claim_seen hs ≡ marked_claims test (take (i + 1) (map claim_seen xs)) (take (i + 1) (map s ms))
-marked_one s test xs gs hs ms i d e t l len is passes h inv =
-    let n : i + 1 ≡ suc i = omega arith in
-    ap (map claim_seen) h ∙ (map_more claim_seen gs (slice_index_or xs i d)
-    ∙ ((λ j. inv j ++ cond ((sym passes ∙ is) j) (claim_seen (slice_index_or xs i d) ∷ []) [])
-    ∙ (sym (marked_step test (map claim_seen xs) (map s ms) i (claim_seen (slice_index_or xs i d)) (s (slice_index_or ms i e)) (seen_at claim_seen xs i d l) (seen_at s ms i e (omega arith)))
-    ∙ ap (λ k. marked_claims test (take k (map claim_seen xs)) (take k (map s ms))) (sym n))))
-
-pub unmarked_one : {Y Z : Type 0} (s : Z → Y) (test : Y → Bool) (xs gs hs : List Claim) (ms : List Z) (i : ℕ) (e : Z) (t : Bool) → i < length xs → length ms ≡ length xs
-    → t ≡ test (s (slice_index_or ms i e)) → t ≡ false → hs ≡ gs → map claim_seen gs ≡ marked_claims test (take i (map claim_seen xs)) (take i (map s ms))
-    → map claim_seen hs ≡ marked_claims test (take (i + 1) (map claim_seen xs)) (take (i + 1) (map s ms))
-unmarked_one s test xs gs hs ms i e t l len is fails h inv =
-    let n : i + 1 ≡ suc i = omega arith in
-    let k : length (map claim_seen xs) ≡ length xs = map_len claim_seen xs in
-    let f = some_at (map claim_seen xs) i (omega (arith, k, l)) in
-    ap (map claim_seen) h ∙ (sym (none_more (map claim_seen gs))
-    ∙ ((λ j. inv j ++ cond ((sym fails ∙ is) j) (f.0 ∷ []) [])
-    ∙ (sym (marked_step test (map claim_seen xs) (map s ms) i f.0 (s (slice_index_or ms i e)) f.1 (seen_at s ms i e (omega arith)))
-    ∙ ap (λ k. marked_claims test (take k (map claim_seen xs)) (take k (map s ms))) (sym n))))
-
-pub marked_whole : {Y Z : Type 0} (s : Z → Y) (test : Y → Bool) (xs gs : List Claim) (ms : List Z) (i : ℕ) → length xs ≤ i → length ms ≡ length xs
-    → map claim_seen gs ≡ marked_claims test (take i (map claim_seen xs)) (take i (map s ms)) → map claim_seen gs ≡ marked_claims test (map claim_seen xs) (map s ms)
-marked_whole s test xs gs ms i l len inv =
-    let n : length (map claim_seen xs) ≡ length xs = map_len claim_seen xs in
-    let m : length (map s ms) ≡ length ms = map_len s ms in
-    inv ∙ (λ j. marked_claims test (take_whole (map claim_seen xs) i (omega (arith, n, l)) j) (take_whole (map s ms) i (omega (arith, m, l, len)) j))
-
 -- marks that are those of a test
 pub marked_by : {Y : Type 0} (test : Y → Bool) (t : PathClaim → Y) (cs : List PathClaim) → marked_claims test cs (map t cs) ≡ filter (λ c. test (t c)) cs
 marked_by test t [] = refl
 marked_by test t (c ∷ cs) = ap (λ r. cond (test (t c)) (c ∷ r) r) (marked_by test t cs)
-
-pub same_map : {X : Type 0} (xs : List X) → map (λ x. x) xs ≡ xs
-same_map [] = refl
-same_map (x ∷ xs) = ap (λ r. x ∷ r) (same_map xs)

@@ -16,6 +16,7 @@ pub mod Kept
 pub mod Listings
 pub mod ChangeClaims
 pub mod TreeLoops
+pub mod Divided
 pub mod FoundFiles
 pub mod OneFile
 pub mod MarkedClaims

@@ -1,21 +1,16 @@
 -- Some claims of a list: those that a test or a mark picks.
-use Rattle.std.proofs.Common.{◌≡◌, inl, inr, ℕ, suc, zero, Bool, true, false, cond, List, [], ◌∷◌, length, map, Option, Some, ap, sym, ◌∙◌, subst}
+use Rattle.std.proofs.Common.{◌≡◌, inl, inr, ℕ, suc, zero, Bool, true, false, cond, List, [], ◌∷◌, Some, ap, sym, ◌∙◌, subst}
 use Rattle.std.specs.Prelude.{slice_get}
 use Rattle.std.specs.List.{filter, find}
 use Rattle.std.specs.List.Sorted.{IsSorted}
-use Rattle.base_core.specs.Tree.{TreeState}
 use Rattle.base_core.proofs.Rising as Names
 use Rattle.change_files.specs.db_core.Members.{Member}
 use Rattle.path_claim_lists.specs.path_claims.Claims.{PathClaim, claim_cmp}
-use Rattle.path_claim_lists.specs.path_claims.Seen.{claim_seen}
-use Rattle.path_claim_lists.specs.path_claims.declared.claim.Claim.{Claim}
-use Rattle.path_claim_lists.proofs.path_claims.Places.{map_len, no_some}
+use Rattle.path_claim_lists.proofs.path_claims.Places.{no_some}
 use Rattle.path_claim_lists.proofs.Firsts.{paths}
 use Rattle.own_core.specs.ClaimEntries.{AreClaimsOf}
 use Rattle.own_core.specs.Fates.{marked_claims}
-use Rattle.own_core.specs.Found.{AreAnswersByFiles}
 use Rattle.own_core.proofs.ChangeClaims.{rising_sorted}
-use Rattle.own_core.proofs.TreeLoops.{found_len}
 
 pub found_from : {X : Type 0} (p : X → Bool) (xs : List X) (x : X) → find p xs ≡ Some x → (k : ℕ) × (slice_get xs k ≡ Some x)
 found_from p [] x e = absurd (no_some x e)
@@ -80,12 +75,6 @@ filtered_rises t (c ∷ cs) r = go (t c) (filtered_rises t cs r.1)
     go : (b : Bool) → Names.Rises (paths (filter t cs)) → Names.Rises (paths (cond b (c ∷ filter t cs) (filter t cs)))
     go true rest = (λ q here. r.0 q (in_filtered t cs q here), rest)
     go false rest = rest
-
-pub marks_len : {Y Z : Type 0} (s : Z → Y) (said : PathClaim → Option (List ℕ) → Y) (h : List TreeState) (xs : List Claim) (fs : List Z) → AreAnswersByFiles said h (map claim_seen xs) (map s fs) → length fs ≡ length xs
-marks_len s said h xs fs are = sym (map_len s fs) ∙ (found_len said h (map claim_seen xs) (map s fs) are ∙ map_len claim_seen xs)
-
-pub flags_len : (said : PathClaim → Option (List ℕ) → Bool) (h : List TreeState) (xs : List Claim) (fs : List Bool) → AreAnswersByFiles said h (map claim_seen xs) fs → length fs ≡ length xs
-flags_len said h xs fs are = found_len said h (map claim_seen xs) fs are ∙ map_len claim_seen xs
 
 pub marked_sorted : {Y : Type 0} (test : Y → Bool) (cs xs : List PathClaim) (ms : List Y) → Names.Rises (paths cs) → xs ≡ marked_claims test cs ms → IsSorted claim_cmp xs
 marked_sorted test cs xs ms r e =

@@ -16,6 +16,7 @@ pub mod Going
 pub mod Found
 pub mod Parts
 -- modules that only contracts of inner functions and proofs cite
+pub mod Divided
 pub mod NamesChanged
 pub mod ListsSeen
 pub mod FaultsSeen

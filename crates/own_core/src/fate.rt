@@ -1,9 +1,9 @@
-//! `fates_of`, which decides what is done with each file that an added package owns; `parts_of` of
-//! this crate calls it.
+//! `fate_of`, which decides what is done with a file that an added package owns; `added_files` of
+//! `src/parts.rt` calls it.
 //! The rule is in `docs/commands.md`, "What a change does with files", what is said there of
 //! configuration files: when such a file counts as changed, and where the new file is then written.
 
-ghost use Rattle.std.specs.Prelude.{◌≡◌, ◌↔◌, ◌∷◌, ◌++◌, [], Option, true, false, map, IfOk, IsTrue, IsSomeAnd, OnOk};
+ghost use Rattle.std.specs.Prelude.{◌≡◌, ◌↔◌, Option, true, false, IfOk, IsTrue, IsSomeAnd};
 ghost use Rattle.path_claim_lists.specs.adb_fields.JoinedPath.{joined_path};
 ghost use Rattle.adb_view.specs.Plain.{Plain};
 ghost use Rattle.base_core.specs.Read.{OnlyReads};
@@ -12,9 +12,9 @@ ghost use Rattle.change_files.specs.FileChange.{old_file_entry};
 ghost use Rattle.change_files.specs.db_core.Seen.{members_of};
 ghost use Rattle.change_files.specs.file_guard.Listed.{DescribesEntry};
 ghost use Rattle.path_claim_lists.specs.path_claims.Seen.{claim_seen};
-ghost use Rattle.own_core.specs.ClaimEntries.{AreClaimsOf, IsClaimOf};
+ghost use Rattle.own_core.specs.ClaimEntries.{IsClaimOf};
 ghost use Rattle.own_core.specs.Fates.{DescribesEntryIfAny, claim_fate, fate_seen, is_apk_new_name_free};
-ghost use Rattle.own_core.specs.Found.{AreAnswersByFiles, IsByFile};
+ghost use Rattle.own_core.specs.Found.{IsByFile};
 ghost use Rattle.own_core.specs.Sides.{HasClaimsOfPackages, file_change_of};
 
 use crate::claim_change::ClaimChange;
@@ -163,7 +163,7 @@ fn guarded_fate<T: Tree>(
 
 /// What is done with an added file, by its claim. A file that is not below `etc` is written under
 /// its path; then the tree is not read.
-fn fate_of<T: Tree>(
+pub(crate) fn fate_of<T: Tree>(
     alloc: Global,
     tree: &mut T,
     change: &ClaimChange<'_, '_, '_>,
@@ -185,39 +185,4 @@ fn fate_of<T: Tree>(
         return guarded_fate(alloc, tree, change, claim);
     }
     Ok(AddedFileFate::GoesIn)
-}
-
-/// Adds a fate at the end of the list.
-fn add_fate(fates: &mut Vec<AddedFileFate>, fate: AddedFileFate) -> Result<(), AllocError>
-    ensures { OnOk result (fates.new.items ≡ fates.old.items ++ fate ∷ []) }
-{
-    fates.push(fate)?;
-    Ok(())
-}
-
-/// What is done with each added file, in the order of the claims `coming`.
-pub(crate) fn fates_of<T: Tree>(
-    alloc: Global,
-    tree: &mut T,
-    change: &ClaimChange<'_, '_, '_>,
-    coming: &[Claim<'_>],
-) -> Result<Vec<AddedFileFate>, TreeFault>
-    // `change` has the claims of the packages before the change (`before`) and after it (`after`).
-    requires claims { HasClaimsOfPackages change.now }
-    // Each claim is of a file of one of the members after the change.
-    requires files { AreClaimsOf (members_of change.now.members.now) (map claim_seen coming.now) }
-    // On Ok, each fate is right for the file under its path, if the tree is observable, and
-    // otherwise for some file there.
-    ensures fates { IfOk result (λ fates. AreAnswersByFiles (claim_fate (file_change_of change.now))
-        (T.history tree.old) (map claim_seen coming.now) (map fate_seen fates.items)) }
-    // The tree is only read: no file changes, no I/O error is hidden, and no call is a misuse.
-    ensures tree { OnlyReads TreeFault.Disk (T.history tree.old) (T.history tree.new)
-        (T.counts tree.old) (T.counts tree.new) result }
-{
-    let mut fates = Vec::new(alloc);
-    for claim in coming {
-        let fate = fate_of(alloc, tree, change, claim)?;
-        add_fate(&mut fates, fate)?;
-    }
-    Ok(fates)
 }

@@ -4,26 +4,28 @@
 //! (the old database lists them, and no package lists them after the change), and which
 //! configuration files are kept.
 
-ghost use Rattle.std.specs.Prelude.{◌≡◌, IfOk, OnOk, Some, [], ◌∷◌, ◌++◌, length, map};
+ghost use Rattle.std.specs.Prelude.{◌≡◌, IfOk, OnOk, false, map, true};
 ghost use Rattle.std.specs.List.{filter};
 ghost use Rattle.std.specs.List.Sorted.{IsSorted};
 ghost use Rattle.path_claim_lists.specs.adb_fields.JoinedPath.{joined_path};
 ghost use Rattle.base_core.specs.Listed.{AreSortedDistinctTexts};
 ghost use Rattle.base_core.specs.Read.{OnlyReads};
+ghost use Rattle.change_files.specs.Fate.{goes_aside, goes_in};
 ghost use Rattle.change_files.specs.db_core.Members.{members_of_kept};
 ghost use Rattle.change_files.specs.db_core.Seen.{members_of, packages_of};
 ghost use Rattle.path_claim_lists.specs.path_claims.Claims.{claim_cmp};
 ghost use Rattle.path_claim_lists.specs.path_claims.Seen.{claim_seen};
 ghost use Rattle.own_core.specs.ClaimEntries.{AreClaimsOf, IsClaimOf};
-ghost use Rattle.own_core.specs.Fates.{fate_seen, are_equal_fates, are_equal_flags, marked_claims};
-ghost use Rattle.own_core.specs.Found.{AreAnswersByFiles, IsByFile};
+ghost use Rattle.own_core.specs.Divided.{AreDividedByAnswer, claims_with_one_if};
+ghost use Rattle.own_core.specs.Fates.{are_equal_fates, are_equal_flags, claim_fate, fate_seen};
+ghost use Rattle.own_core.specs.Found.{IsByFile};
 ghost use Rattle.own_core.specs.Going.{is_file_kept, is_apk_new_name_of, is_path_left_over};
 ghost use Rattle.own_core.specs.Parts.{AreFilesByFate};
 ghost use Rattle.own_core.specs.Sides.{HasClaimsOfPackages, claims_before, file_change_of};
 
 use crate::claim_change::ClaimChange;
 use crate::entries::listed_before;
-use crate::fate::{AddedFileFate, fates_of, is_present_and_modified_from_entry};
+use crate::fate::{AddedFileFate, fate_of, is_present_and_modified_from_entry};
 use crate::guarded::{is_protected_path, path_of_apk_new_name};
 use base_core::{Tree, TreeFault};
 use change_files::compare_file;
@@ -31,39 +33,75 @@ use path_claim_lists::{Claim, FilePath, find_claim, find_next_claim, name_of_pat
 use std::alloc::{AllocError, Global};
 use std::marker::PhantomData;
 
-/// Whether two fates are the same.
-fn are_equal_fates(one: AddedFileFate, other: AddedFileFate) -> bool
-    ensures { result ≡ are_equal_fates (fate_seen one) (fate_seen other) }
+/// The claims of the added files that are written.
+#[derive(Drop)]
+struct AddedFiles<'n> {
+    /// Those of the files that are written under their own paths.
+    ins: Vec<Claim<'n>>,
+    /// Those of the files that are written aside, as `PATH.apk-new` beside the user's file.
+    asides: Vec<Claim<'n>>,
+}
+
+/// Adds the claim of an added file to the list for its fate. There is none if it is not written.
+fn add_by_fate<'n>(
+    files: &mut AddedFiles<'n>,
+    claim: &Claim<'n>,
+    fate: AddedFileFate,
+) -> Result<(), AllocError>
+    // On Ok, the claim is added to `ins` exactly if the file is written under its path.
+    ensures ins { OnOk result (map claim_seen files.new.ins.items
+        ≡ claims_with_one_if (are_equal_fates goes_in (fate_seen fate)) (claim_seen claim.now)
+        (map claim_seen files.old.ins.items)) }
+    // On Ok, the claim is added to `asides` exactly if the file is written aside.
+    ensures asides { OnOk result (map claim_seen files.new.asides.items
+        ≡ claims_with_one_if (are_equal_fates goes_aside (fate_seen fate)) (claim_seen claim.now)
+        (map claim_seen files.old.asides.items)) }
 {
-    match (one, other) {
-        (AddedFileFate::GoesIn, AddedFileFate::GoesIn) => true,
-        (AddedFileFate::GivesWay, AddedFileFate::GivesWay) => true,
-        (AddedFileFate::GoesAside, AddedFileFate::GoesAside) => true,
-        _ => false,
+    match fate {
+        AddedFileFate::GoesIn => {
+            files.ins.push(*claim)?;
+            Ok(())
+        }
+        AddedFileFate::GoesAside => {
+            files.asides.push(*claim)?;
+            Ok(())
+        }
+        AddedFileFate::GivesWay => Ok(()),
     }
 }
 
-/// Of the claims of added files (`coming`), those whose file has this fate. `fates` has the fate of
-/// each, in the same order.
-fn claims_with<'n>(
+/// The claims of the added files that are written, in the order of `coming`, the claims of all
+/// added files.
+fn added_files<'n, T: Tree>(
     alloc: Global,
+    tree: &mut T,
+    change: &ClaimChange<'_, '_, '_>,
     coming: &[Claim<'n>],
-    fates: &[AddedFileFate],
-    fate: AddedFileFate,
-) -> Result<Vec<Claim<'n>>, AllocError>
-    // There is one fate for each claim.
-    requires { length fates.now ≡ length coming.now }
-    // On Ok, these are the claims whose fate is the given one.
-    ensures { IfOk result (λ some. map claim_seen some.items ≡ marked_claims
-        (are_equal_fates (fate_seen fate)) (map claim_seen coming.now) (map fate_seen fates.now)) }
+) -> Result<AddedFiles<'n>, TreeFault>
+    // `change` has the claims of the packages before the change (`before`) and after it (`after`).
+    requires claims { HasClaimsOfPackages change.now }
+    // Each claim is of a file of one of the members after the change.
+    requires files { AreClaimsOf (members_of change.now.members.now) (map claim_seen coming.now) }
+    // On Ok, the claims are divided by fates, each of which is right for the file under its path,
+    // if the tree is observable, and otherwise for some file there.
+    ensures files { IfOk result (λ files. AreDividedByAnswer
+        (claim_fate (file_change_of change.now)) (are_equal_fates goes_in)
+        (are_equal_fates goes_aside) (T.history tree.old)
+        (map claim_seen coming.now) (map claim_seen files.ins.items)
+        (map claim_seen files.asides.items)) }
+    // The tree is only read: no file changes, no I/O error is hidden, and no call is a misuse.
+    ensures tree { OnlyReads TreeFault.Disk (T.history tree.old) (T.history tree.new)
+        (T.counts tree.old) (T.counts tree.new) result }
 {
-    let mut some = Vec::new(alloc);
-    for i in 0..coming.len() {
-        if are_equal_fates(fate, fates[i]) {
-            some.push(coming[i])?;
-        }
+    let mut files = AddedFiles {
+        ins: Vec::new(alloc),
+        asides: Vec::new(alloc),
+    };
+    for claim in coming {
+        let fate = fate_of(alloc, tree, change, claim)?;
+        add_by_fate(&mut files, claim, fate)?;
     }
-    Ok(some)
+    Ok(files)
 }
 
 /// Whether a file of a package is written aside under this path: the path is `PATH.apk-new` for the
@@ -158,70 +196,69 @@ fn is_file_kept<T: Tree>(
     Ok(is_present_and_modified_from_entry(found))
 }
 
-/// Adds a flag at the end of the list.
-fn add_flag(flags: &mut Vec<bool>, flag: bool) -> Result<(), AllocError>
-    ensures { OnOk result (flags.new.items ≡ flags.old.items ++ flag ∷ []) }
+/// The claims of the files that are left over, listed only before the change.
+#[derive(Drop)]
+struct LeftOverFiles<'o> {
+    /// Those of the files that are removed.
+    removed: Vec<Claim<'o>>,
+    /// Those of the files that are kept, since they are configuration that the user changed.
+    kept: Vec<Claim<'o>>,
+}
+
+/// Adds the claim of a file that is left over to the list of the kept or of the removed files.
+fn add_left_over<'o>(
+    files: &mut LeftOverFiles<'o>,
+    claim: &Claim<'o>,
+    is_kept: bool,
+) -> Result<(), AllocError>
+    // On Ok, the claim is added to `removed` exactly if the file is not kept.
+    ensures removed { OnOk result (map claim_seen files.new.removed.items
+        ≡ claims_with_one_if (are_equal_flags false is_kept) (claim_seen claim.now)
+        (map claim_seen files.old.removed.items)) }
+    // On Ok, the claim is added to `kept` exactly if the file is kept.
+    ensures kept { OnOk result (map claim_seen files.new.kept.items
+        ≡ claims_with_one_if (are_equal_flags true is_kept) (claim_seen claim.now)
+        (map claim_seen files.old.kept.items)) }
 {
-    flags.push(flag)?;
+    if is_kept {
+        files.kept.push(*claim)?;
+        return Ok(());
+    }
+    files.removed.push(*claim)?;
     Ok(())
 }
 
-/// For each of the claims `left`, whose paths no package lists any more, whether the user's file is
+/// The claims `left`, whose paths no package lists any more, divided by whether the user's file is
 /// kept.
-fn stays_of<T: Tree>(
+fn left_over_files<'o, T: Tree>(
     alloc: Global,
     tree: &mut T,
     change: &ClaimChange<'_, '_, '_>,
-    left: &[Claim<'_>],
-) -> Result<Vec<bool>, TreeFault>
+    left: &[Claim<'o>],
+) -> Result<LeftOverFiles<'o>, TreeFault>
     // Each claim is of a file of a package of the old database.
     requires { AreClaimsOf (members_of_kept (packages_of change.now.db.now))
         (map claim_seen left.now) }
-    // On Ok, each flag is right for the file under the claim's path, if the tree is observable, and
-    // otherwise for some file there.
-    ensures stays { IfOk result (λ stays. AreAnswersByFiles
-        (is_file_kept (file_change_of change.now))
-        (T.history tree.old) (map claim_seen left.now) stays.items) }
+    // On Ok, the claims are divided by whether the file is kept. This is right for the file under
+    // the claim's path, if the tree is observable, and otherwise for some file there.
+    ensures files { IfOk result (λ files. AreDividedByAnswer
+        (is_file_kept (file_change_of change.now)) (are_equal_flags false)
+        (are_equal_flags true) (T.history tree.old)
+        (map claim_seen left.now) (map claim_seen files.removed.items)
+        (map claim_seen files.kept.items)) }
     // The tree is only read: no file changes, no I/O error is hidden, and no call is a misuse.
     ensures tree { OnlyReads TreeFault.Disk (T.history tree.old) (T.history tree.new)
         (T.counts tree.old) (T.counts tree.new) result }
 {
-    let mut stays = Vec::new(alloc);
+    let mut files = LeftOverFiles {
+        removed: Vec::new(alloc),
+        kept: Vec::new(alloc),
+    };
     for claim in left {
-        let flag = is_file_kept(alloc, tree, change, claim)?;
-        add_flag(&mut stays, flag)?;
+        let is_kept = is_file_kept(alloc, tree, change, claim)?;
+        add_left_over(&mut files, claim, is_kept)?;
     }
-    Ok(stays)
-}
-
-/// Whether two flags are the same.
-fn are_equal_flags(one: bool, other: bool) -> bool
-    ensures { result ≡ are_equal_flags one other }
-{
-    if one { other } else { !other }
-}
-
-/// Of the claims `left`, those whose flag is `flag`. `flags` has one flag for each claim, in the
-/// same order.
-fn claims_where<'o>(
-    alloc: Global,
-    left: &[Claim<'o>],
-    flags: &[bool],
-    flag: bool,
-) -> Result<Vec<Claim<'o>>, AllocError>
-    // There is one flag for each claim.
-    requires { length flags.now ≡ length left.now }
-    // On Ok, these are the claims whose flag is the given one.
-    ensures { IfOk result (λ some. map claim_seen some.items
-        ≡ marked_claims (are_equal_flags flag) (map claim_seen left.now) flags.now) }
-{
-    let mut some = Vec::new(alloc);
-    for i in 0..left.len() {
-        if are_equal_flags(flag, flags[i]) {
-            some.push(left[i])?;
-        }
-    }
-    Ok(some)
+    Ok(files)
 }
 
 /// The claims of the files of a change, divided by what is done with the files. Each list is in
@@ -261,17 +298,13 @@ pub fn parts_of<'o, 'n, T: Tree>(
     ensures tree { OnlyReads TreeFault.Disk (T.history tree.old) (T.history tree.new)
         (T.counts tree.old) (T.counts tree.new) result }
 {
-    let fates = fates_of(alloc, tree, change, coming)?;
-    let ins = claims_with(alloc, coming, &fates, AddedFileFate::GoesIn)?;
-    let asides = claims_with(alloc, coming, &fates, AddedFileFate::GoesAside)?;
-    let left = left_over_claims(alloc, change, &asides)?;
-    let stays = stays_of(alloc, tree, change, &left)?;
-    let removed = claims_where(alloc, &left, &stays, false)?;
-    let kept = claims_where(alloc, &left, &stays, true)?;
+    let added = added_files(alloc, tree, change, coming)?;
+    let left = left_over_claims(alloc, change, &added.asides)?;
+    let files = left_over_files(alloc, tree, change, &left)?;
     Ok(Parts {
-        ins,
-        asides,
-        removed,
-        kept,
+        ins: added.ins,
+        asides: added.asides,
+        removed: files.removed,
+        kept: files.kept,
     })
 }
