@@ -5,8 +5,10 @@
 //! Nothing is proved of what is compared: these are tests.
 #![tactic(auto)]
 
+mod answer;
 mod reading;
 
+pub use answer::Answer;
 use base_core::Words;
 pub use reading::{number_of, value_named, word_at, words_behind};
 use reading::{bytes_of, words_of};
@@ -23,7 +25,7 @@ pub trait Subject {
         &mut self,
         alloc: Global,
         words: &Words,
-        answer: &mut Vec<u8>,
+        answer: &mut Answer,
     ) -> Result<(), AllocError>;
 }
 
@@ -84,12 +86,13 @@ fn run_line<S: Subject>(
     // The words of the question, and the expected answer, both without escapes.
     let words = words_of(alloc, question)?;
     let wanted = bytes_of(alloc, wanted)?;
-    let mut answer = Vec::new(alloc);
+    let mut answer = Answer::new(alloc);
     subject.answer(alloc, &words, &mut answer)?;
-    if answer.as_slice() == wanted.as_slice() {
+    let found = answer.finish()?;
+    if found.as_slice() == wanted.as_slice() {
         return Ok(true);
     }
-    add_failure(report, line, &answer)?;
+    add_failure(report, line, &found)?;
     Ok(false)
 }
 
@@ -113,28 +116,8 @@ fn parts_of(line: &[u8]) -> Option<(&[u8], &[u8])> {
     None
 }
 
-/// Adds the decimal digits of a number to a text.
-pub fn add_number(alloc: Global, text: &mut Vec<u8>, number: u128) -> Result<(), AllocError> {
+/// Adds the decimal digits of a number to a report.
+fn add_number(alloc: Global, report: &mut Vec<u8>, number: u128) -> Result<(), AllocError> {
     let digits = format!(in alloc; "{number}")?;
-    text.extend_from_slice(digits.as_bytes())
-}
-
-/// Adds `yes` to a text if `holds`, and else `no`.
-pub fn add_yes_or_no(text: &mut Vec<u8>, holds: bool) -> Result<(), AllocError> {
-    text.extend_from_slice(if holds { b"yes" } else { b"no" })
-}
-
-/// Adds a word to a text, and a space before the word if the text is not empty.
-pub fn add_word(text: &mut Vec<u8>, word: &[u8]) -> Result<(), AllocError> {
-    if !text.is_empty() {
-        text.push(b' ')?;
-    }
-    text.extend_from_slice(word)
-}
-
-/// Adds a word `NAME=BYTES` to a text, and a space before the word if the text is not empty.
-pub fn add_named(text: &mut Vec<u8>, name: &[u8], bytes: &[u8]) -> Result<(), AllocError> {
-    add_word(text, name)?;
-    text.push(b'=')?;
-    text.extend_from_slice(bytes)
+    report.extend_from_slice(digits.as_bytes())
 }
