@@ -1,76 +1,33 @@
-//! The answer to a row, to which questions add words.
+//! Adds words to an answer that only the answers of this program have. A space precedes each word,
+//! unless the answer was empty: the empty word that is added first adds this space.
 use adb_view::Val;
 use base_core::Cause;
-use row_lines::add_word;
-use std::alloc::{AllocError, Global};
+use row_lines::Answer;
+use std::alloc::Global;
 
-/// The words of an answer, with spaces between them. If memory runs out, the answer takes no more
-/// words, and `move_to` fails.
-#[derive(Drop)]
-pub(crate) struct Answer {
-    /// The allocator of the words.
-    alloc: Global,
-    /// The words so far.
-    text: Vec<u8>,
-    /// Whether there was memory for all words.
-    outcome: Result<(), AllocError>,
+/// Adds a word: a number in decimal digits.
+pub(crate) fn add_int(number: u64, answer: &mut Answer) {
+    answer.add_word(b"");
+    answer.add_number(u128::from(number))
 }
 
-impl Answer {
-    /// An answer without words.
-    pub(crate) fn new(alloc: Global) -> Answer {
-        Answer {
-            alloc,
-            text: Vec::new(alloc),
-            outcome: Ok(()),
-        }
-    }
+/// Adds a word (32-bit reference) of a payload in eight hexadecimal digits.
+pub(crate) fn add_value(alloc: Global, value: Val, answer: &mut Answer) {
+    let word = value.word();
+    answer.add_word(b"");
+    answer.add_text(format!(in alloc; "{word:08x}"))
+}
 
-    /// Adds all words to the bytes of an answer.
-    pub(crate) fn move_to(self, answer: &mut Vec<u8>) -> Result<(), AllocError> {
-        self.outcome?;
-        answer.extend_from_slice(&self.text)
-    }
+/// Adds the cause of a failed test, as its variant and its fields.
+pub(crate) fn add_cause(alloc: Global, cause: Cause, answer: &mut Answer) {
+    answer.add_word(b"");
+    answer.add_text(format!(in alloc; "{cause:?}"))
+}
 
-    /// Adds a word. An empty word adds only the space before it.
-    pub(crate) fn add_word(&mut self, word: &[u8]) {
-        if self.outcome.is_ok() {
-            self.outcome = add_word(&mut self.text, word);
-        }
-    }
-
-    /// Adds a number in decimal digits.
-    pub(crate) fn add_int(&mut self, number: u64) {
-        let text = format!(in self.alloc; "{number}");
-        self.add_text(text)
-    }
-
-    /// Adds a word (32-bit reference) of a payload in eight hexadecimal digits.
-    pub(crate) fn add_value(&mut self, value: Val) {
-        let word = value.word();
-        let text = format!(in self.alloc; "{word:08x}");
-        self.add_text(text)
-    }
-
-    /// Adds the cause of a failed test, as its variant and its fields.
-    pub(crate) fn add_cause(&mut self, cause: Cause) {
-        let text = format!(in self.alloc; "{cause:?}");
-        self.add_text(text)
-    }
-
-    /// Adds the cause of a failed test, or `ok` if there is none.
-    pub(crate) fn add_outcome(&mut self, found: Option<Cause>) {
-        match found {
-            Some(cause) => self.add_cause(cause),
-            None => self.add_word(b"ok"),
-        }
-    }
-
-    /// Adds a text, if there was memory for it.
-    fn add_text(&mut self, text: Result<String, AllocError>) {
-        match text {
-            Ok(text) => self.add_word(text.as_bytes()),
-            Err(fault) => self.outcome = Err(fault),
-        }
+/// Adds the cause of a failed test, or `ok` if there is none.
+pub(crate) fn add_outcome(alloc: Global, found: Option<Cause>, answer: &mut Answer) {
+    match found {
+        Some(cause) => add_cause(alloc, cause, answer),
+        None => answer.add_word(b"ok"),
     }
 }

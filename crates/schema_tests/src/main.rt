@@ -11,10 +11,11 @@ mod shapes;
 mod views;
 mod words;
 
-use answer::Answer;
+use adb_schema::read_adb;
 use base_core::Words;
-use row_lines::{Subject, run_program, value_named, word_at};
-use shapes::{add_container, add_faults, add_many_files, add_rule, add_shape, add_visits};
+use payloads::table_of;
+use row_lines::{Answer, Subject, run_program, value_named, word_at};
+use shapes::{add_faults, add_many_files, add_read, add_rule, add_shape, add_visits};
 use std::alloc::{AllocError, Global};
 use std::io;
 use std::process::ExitCode;
@@ -70,52 +71,36 @@ struct CurrentPayload {
 }
 
 impl Subject for CurrentPayload {
-    // Adds the words of the answer to a question.
+    // Answers a question by its first word.
     fn answer(
-        &mut self,
-        alloc: Global,
-        words: &Words,
-        answer: &mut Vec<u8>,
-    ) -> Result<(), AllocError> {
-        let mut found = Answer::new(alloc);
-        self.add_answer(alloc, words, &mut found)?;
-        found.move_to(answer)
-    }
-}
-
-impl CurrentPayload {
-    // Answers a question by its first word. `payload` keeps the bytes that later questions read.
-    fn add_answer(
         &mut self,
         alloc: Global,
         words: &Words,
         answer: &mut Answer,
     ) -> Result<(), AllocError> {
         let Some(question) = value_named(&QUESTIONS, word_at(words, 0)) else {
-            answer.add_word(b"no question");
+            answer.push(b"no question");
             return Ok(());
         };
         match question {
             Question::Payload => {
                 self.bytes.clear();
-                self.bytes.extend_from_slice(word_at(words, 1))
+                return self.bytes.extend_from_slice(word_at(words, 1));
             }
-            Question::Head => {
-                add_head(&self.bytes, answer);
-                Ok(())
+            Question::Head => add_head(alloc, &self.bytes, answer),
+            Question::Word => add_reads(alloc, &self.bytes, word_at(words, 1), answer),
+            Question::Shape => return add_shape(alloc, words, answer),
+            Question::Faults => return add_faults(alloc, word_at(words, 1), answer),
+            Question::Visits => return add_visits(alloc, words, answer),
+            Question::ManyFiles => return add_many_files(alloc, word_at(words, 1), answer),
+            Question::Rules => return add_rule(alloc, words, answer),
+            Question::View => return add_view(alloc, words, answer),
+            Question::Container => {
+                let read = read_adb(alloc, word_at(words, 1), table_of(word_at(words, 2)));
+                return add_read(alloc, read, answer);
             }
-            Question::Word => {
-                add_reads(&self.bytes, word_at(words, 1), answer);
-                Ok(())
-            }
-            Question::Shape => add_shape(alloc, words, answer),
-            Question::Faults => add_faults(alloc, word_at(words, 1), answer),
-            Question::Visits => add_visits(alloc, words, answer),
-            Question::ManyFiles => add_many_files(alloc, word_at(words, 1), answer),
-            Question::Rules => add_rule(alloc, words, answer),
-            Question::View => add_view(alloc, words, answer),
-            Question::Container => add_container(alloc, words, answer),
         }
+        Ok(())
     }
 }
 

@@ -158,11 +158,16 @@ pub(crate) fn object_payload(
     Ok(payload)
 }
 
-/// The numbers that the words of a row from the index `first` on are.
-pub(crate) fn ints_of(alloc: Global, words: &Words, first: usize) -> Result<Vec<u32>, AllocError> {
-    let mut ints = Vec::new(alloc);
-    for i in first..words.len() {
-        ints.push(int_of(words.word(i)))?;
+/// A payload whose root is an object with the numbers that the words of a row from the index 3 on
+/// are, followed by the bytes `more`.
+pub(crate) fn row_payload(
+    alloc: Global,
+    words: &Words,
+    more: &[u8],
+) -> Result<Vec<u8>, AllocError> {
+    let mut entries = Vec::new(alloc);
+    for i in 3..words.len() {
+        entries.push(int_of(words.word(i)))?;
     }
-    Ok(ints)
+    object_payload(alloc, &entries, more)
 }

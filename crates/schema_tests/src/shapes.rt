@@ -2,13 +2,13 @@
 //! `many_files`, `rules` and `container` (see `Question` in `main.rt`). The rules of the tests are
 //! in `docs/formats.md`, "Tests of a container", and the words of values in "Values".
 
-use crate::answer::Answer;
-use crate::payloads::{ints_of, object_payload, payload_of, table_of};
+use crate::answer::{add_cause, add_int, add_outcome};
+use crate::payloads::{object_payload, payload_of, row_payload, table_of};
 use crate::words::int_of;
-use adb_schema::{Checked, Field, Kind, ReadFault, Which, fields_of, read_adb, shape};
+use adb_schema::{Checked, Kind, ReadFault, Shaped, Which, fields_of, shape};
 use adb_view::{Adb, Val, walk_fields};
 use base_core::{Cause, Words};
-use row_lines::word_at;
+use row_lines::{Answer, word_at};
 use std::alloc::{AllocError, Global};
 
 /// The word of the root in these payloads: an object (0xe) at the offset 8, after the head.
@@ -18,13 +18,10 @@ const ROOT: u32 = 0xe000_0008;
 /// shape").
 const MOST_VISITS: u32 = 4_194_304;
 
-/// The fault of a payload that should have the shape of the table `which`; None if it has this
-/// shape.
-fn fault_of(payload: &[u8], which: Which) -> Option<Cause> {
-    match Adb::new(payload) {
-        Ok(adb) => shape(adb, which).err(),
-        Err(cause) => Some(cause),
-    }
+/// The payload as an object of a table, or the first failed test of its head and of its shape (the
+/// types of its values).
+pub(crate) fn shaped_of(payload: &[u8], which: Which) -> Result<Shaped<'_>, Cause> {
+    shape(Adb::new(payload)?, which)
 }
 
 /// Answers `shape TABLE MORE WORD ..`: adds the fault of a payload that is an object with these
@@ -34,31 +31,10 @@ pub(crate) fn add_shape(
     words: &Words,
     answer: &mut Answer,
 ) -> Result<(), AllocError> {
-    // The words of the row from the word 3 on are the words of the object.
-    let entries = ints_of(alloc, words, 3)?;
-    let payload = object_payload(alloc, &entries, word_at(words, 2))?;
-    answer.add_outcome(fault_of(&payload, table_of(word_at(words, 1))));
+    let payload = row_payload(alloc, words, word_at(words, 2))?;
+    let shaped = shaped_of(&payload, table_of(word_at(words, 1)));
+    add_outcome(alloc, shaped.err(), answer);
     Ok(())
-}
-
-/// A word whose kind (top four bits) is not allowed for a field of the kind `kind`: a blob for an
-/// integer, and otherwise the integer 1.
-fn word_of_another_kind(kind: Kind) -> u32 {
-    match kind {
-        Kind::Int => 0x8000_0008,
-        _ => 0x1000_0001,
-    }
-}
-
-/// A word whose kind (top four bits) is allowed for a field of the kind `kind`, and whose offset
-/// (the other bits) is outside of every payload in these tests.
-fn word_outside_payload(kind: Kind) -> u32 {
-    match kind {
-        Kind::Int => 0x3fff_fff0,
-        Kind::Text | Kind::Hash => 0xafff_fff0,
-        Kind::Obj(_) => 0xefff_fff0,
-        Kind::TextArr | Kind::ObjArr(_) => 0xdfff_fff0,
-    }
 }
 
 /// Answers `faults TABLE`: adds for how many fields of the table both faults are reported, a word
@@ -74,34 +50,35 @@ pub(crate) fn add_faults(
     let mut before = Vec::new(alloc);
     let mut reported = 0u64;
     for field in fields_of(which) {
-        if has_both_faults(alloc, &mut before, *field, which)? {
+        let (wrong, outside) = faulty_words(field.kind);
+        if fault_after(alloc, &mut before, wrong, which)? == Some(Cause::WrongKind { word: wrong })
+            && fault_after(alloc, &mut before, outside, which)?
+                == Some(Cause::Outside { word: outside })
+        {
             reported = reported.saturating_add(1);
         }
         // The word 0 is NULL.
         before.push(0)?;
     }
-    answer.add_int(reported);
+    add_int(reported, answer);
     // The integer 1 after the last field, followed by a word without a meaning.
     before.push(0x1000_0001)?;
-    answer.add_outcome(fault_after(alloc, &mut before, 0xffff_ffff, which)?);
+    let found = fault_after(alloc, &mut before, 0xffff_ffff, which)?;
+    add_outcome(alloc, found, answer);
     Ok(())
 }
 
-/// Whether both faults of this field are reported: a word of another kind, and an offset outside of
-/// the payload. `before` are the words of the earlier fields.
-fn has_both_faults(
-    alloc: Global,
-    before: &mut Vec<u32>,
-    field: Field,
-    which: Which,
-) -> Result<bool, AllocError> {
-    let wrong = word_of_another_kind(field.kind);
-    let outside = word_outside_payload(field.kind);
-    Ok(
-        fault_after(alloc, before, wrong, which)? == Some(Cause::WrongKind { word: wrong })
-            && fault_after(alloc, before, outside, which)?
-                == Some(Cause::Outside { word: outside }),
-    )
+/// Two words that are faults in a field of this kind. The kind (top four bits) of the first word is
+/// not allowed there: it is a blob for an integer, and otherwise the integer 1. The kind of the
+/// second word is allowed, but its offset (the other bits) is outside of every payload in these
+/// tests.
+fn faulty_words(kind: Kind) -> (u32, u32) {
+    match kind {
+        Kind::Int => (0x8000_0008, 0x3fff_fff0),
+        Kind::Text | Kind::Hash => (0x1000_0001, 0xafff_fff0),
+        Kind::Obj(_) => (0x1000_0001, 0xefff_fff0),
+        Kind::TextArr | Kind::ObjArr(_) => (0x1000_0001, 0xdfff_fff0),
+    }
 }
 
 /// The fault of an object of the table `which` with the words `before`, and `word` after them; None
@@ -115,7 +92,7 @@ fn fault_after(
     before.push(word)?;
     let payload = object_payload(alloc, before, b"")?;
     before.pop();
-    Ok(fault_of(&payload, which))
+    Ok(shaped_of(&payload, which).err())
 }
 
 /// Answers `visits TABLE BEFORE WORD ..`: reads an object with these words as fields of the table,
@@ -126,13 +103,11 @@ pub(crate) fn add_visits(
     words: &Words,
     answer: &mut Answer,
 ) -> Result<(), AllocError> {
-    // The words of the row from the word 3 on are the words of the object.
-    let entries = ints_of(alloc, words, 3)?;
-    let payload = object_payload(alloc, &entries, b"")?;
+    let payload = row_payload(alloc, words, b"")?;
     let before = int_of(word_at(words, 2));
     match visits_of(&payload, table_of(word_at(words, 1)), before) {
-        Ok(visits) => answer.add_int(u64::from(visits)),
-        Err(cause) => answer.add_cause(cause),
+        Ok(visits) => add_int(u64::from(visits), answer),
+        Err(cause) => add_cause(alloc, cause, answer),
     }
     Ok(())
 }
@@ -160,29 +135,24 @@ pub(crate) fn add_many_files(
     // files), at 36 this array, and after it the array of folders.
     let mut more = Vec::new(alloc);
     more.extend_from_slice(b"\x04\0\0\0\0\0\0\0\0\0\0\0\x24\0\0\xd0")?;
-    // The array of files: null in each entry.
-    add_equal_entries(&mut more, count, 0)?;
-    // The array of folders: each entry is the object at the offset 20 (0x14).
-    add_equal_entries(&mut more, count, 0xe000_0014)?;
+    // Of both arrays the count of words, which counts itself too, and the entries: null for each
+    // file, and for each folder the object at the offset 20 (0x14).
+    for entry in &[0u32, 0xe000_0014] {
+        more.extend_from_slice(&(count + 1).to_le_bytes())?;
+        for _ in 0..count {
+            more.extend_from_slice(&entry.to_le_bytes())?;
+        }
+    }
     // The word of the array of folders: an array (0xd) at the offset 40 + 4 * N.
     let folders = 0xd000_0000 + 40 + 4 * count;
     // The package has no information, and these folders.
     let payload = object_payload(alloc, &[0, folders], &more)?;
-    answer.add_outcome(fault_of(&payload, Which::Package));
+    add_outcome(alloc, shaped_of(&payload, Which::Package).err(), answer);
     Ok(())
 }
 
-/// Writes the words of an array with `count` times the same entry: first the count of words, which
-/// counts itself too.
-fn add_equal_entries(bytes: &mut Vec<u8>, count: u32, entry: u32) -> Result<(), AllocError> {
-    bytes.extend_from_slice(&count.saturating_add(1).to_le_bytes())?;
-    for _ in 0..count {
-        bytes.extend_from_slice(&entry.to_le_bytes())?;
-    }
-    Ok(())
-}
-
-/// Answers `rules TABLE VALUE`: adds the first failed test of the value, or `ok`.
+/// Answers `rules TABLE VALUE`: adds the first failed test of the value, or `ok`: of its head, of
+/// its shape (the types of its values), and of its texts and numbers.
 pub(crate) fn add_rule(
     alloc: Global,
     words: &Words,
@@ -190,47 +160,23 @@ pub(crate) fn add_rule(
 ) -> Result<(), AllocError> {
     // The value is in the words of the row from the word 2 on.
     let payload = payload_of(alloc, words, 2)?;
-    answer.add_outcome(failed_test(alloc, &payload, table_of(word_at(words, 1)))?);
-    Ok(())
+    let read = match shaped_of(&payload, table_of(word_at(words, 1))) {
+        Ok(shaped) => Checked::new(alloc, shaped),
+        Err(cause) => Err(ReadFault::Bad(cause)),
+    };
+    add_read(alloc, read, answer)
 }
 
-/// The first failed test of a payload, if any: of its head, of its shape (the types of its values),
-/// and of its texts and numbers.
-fn failed_test(alloc: Global, payload: &[u8], which: Which) -> Result<Option<Cause>, AllocError> {
-    match Adb::new(payload) {
-        Ok(adb) => failed_test_of_values(alloc, adb, which),
-        Err(cause) => Ok(Some(cause)),
-    }
-}
-
-/// The first failed test of the values of a payload, if any.
-fn failed_test_of_values(
+/// Adds the first failed test of a read, or `ok`. Out of memory is returned as an error.
+pub(crate) fn add_read(
     alloc: Global,
-    adb: Adb<'_>,
-    which: Which,
-) -> Result<Option<Cause>, AllocError> {
-    match shape(adb, which) {
-        Ok(shaped) => cause_in(Checked::new(alloc, shaped)),
-        Err(cause) => Ok(Some(cause)),
-    }
-}
-
-/// Answers `container BYTES TABLE`: adds the first failed test of the container, or `ok`.
-pub(crate) fn add_container(
-    alloc: Global,
-    words: &Words,
+    read: Result<Checked<'_>, ReadFault>,
     answer: &mut Answer,
 ) -> Result<(), AllocError> {
-    let read = read_adb(alloc, word_at(words, 1), table_of(word_at(words, 2)));
-    answer.add_outcome(cause_in(read)?);
-    Ok(())
-}
-
-/// The first failed test of a read, or None if it succeeded. Out of memory is returned as an error.
-fn cause_in(found: Result<Checked<'_>, ReadFault>) -> Result<Option<Cause>, AllocError> {
-    match found {
-        Ok(_) => Ok(None),
-        Err(ReadFault::Bad(cause)) => Ok(Some(cause)),
-        Err(ReadFault::Memory) => Err(AllocError),
+    match read {
+        Ok(_) => answer.add_word(b"ok"),
+        Err(ReadFault::Bad(cause)) => add_cause(alloc, cause, answer),
+        Err(ReadFault::Memory) => return Err(AllocError),
     }
+    Ok(())
 }

@@ -5,15 +5,15 @@ ghost use Rattle.std.specs.Prelude.{◌≡◌};
 ghost use Rattle.adb_view.specs.ShapedPayload.{table_of};
 ghost use Rattle.adb_view.specs.declared.tables.Which.TheVariants as Tables;
 
-use crate::answer::Answer;
+use crate::answer::{add_cause, add_int};
 use crate::payloads::{payload_of, table_of};
+use crate::shapes::shaped_of;
 use adb_schema::{
-    AclView, Checked, DepView, DirInfo, FileInfo, IdbView, IndexView, IntentView, List,
-    PackageView, PkgInfo, ReadFault, ScriptsView, View, Which, shape,
+    AclView, Checked, DepView, DirInfo, FileInfo, IdbView, IntentView, List, PackageView, PkgInfo,
+    ReadFault, ScriptsView, Shaped, View, Which,
 };
-use adb_view::{Adb, Shaped};
-use base_core::{Cause, Words};
-use row_lines::word_at;
+use base_core::Words;
+use row_lines::{Answer, word_at};
 use std::alloc::{AllocError, Global};
 
 /// Answers `view TABLE VALUE`: adds each field of the value. Of a list it adds the name or text of
@@ -25,22 +25,13 @@ pub(crate) fn add_view(
 ) -> Result<(), AllocError> {
     // The value is in the words of the row from the word 2 on.
     let payload = payload_of(alloc, words, 2)?;
-    match shaped_of(&payload, table_of(word_at(words, 1))) {
-        Ok(shaped) => add_fields(alloc, shaped, answer),
+    let shaped = match shaped_of(&payload, table_of(word_at(words, 1))) {
+        Ok(shaped) => shaped,
         Err(cause) => {
-            answer.add_cause(cause);
-            Ok(())
+            add_cause(alloc, cause, answer);
+            return Ok(());
         }
-    }
-}
-
-// The payload as an object of a table, or the first failed test of its shape.
-fn shaped_of(payload: &[u8], which: Which) -> Result<Shaped<'_>, Cause> {
-    shape(Adb::new(payload)?, which)
-}
-
-// Adds each field of the root of a payload.
-fn add_fields(alloc: Global, shaped: Shaped<'_>, answer: &mut Answer) -> Result<(), AllocError> {
+    };
     let adb = shaped.adb();
     let root = adb.root();
     match shaped.which() {
@@ -80,12 +71,12 @@ fn add_dependencies<'a>(list: List<'a, DepView<'a>>, answer: &mut Answer) {
 fn add_dependency(dep: &DepView<'_>, answer: &mut Answer) {
     answer.add_word(dep.name());
     answer.add_word(dep.version());
-    answer.add_int(dep.matching())
+    add_int(dep.matching(), answer)
 }
 
 // Adds the fields of an access list.
 fn add_rights(rights: &AclView<'_>, answer: &mut Answer) {
-    answer.add_int(rights.mode());
+    add_int(rights.mode(), answer);
     answer.add_word(rights.user());
     answer.add_word(rights.group());
     add_texts(rights.xattrs(), answer)
@@ -100,19 +91,19 @@ fn add_file(shaped: Shaped<'_>, answer: &mut Answer)
     let file = FileInfo::of(adb, adb.root());
     answer.add_word(file.name());
     // Of the access list only the first field, the mode, is added.
-    answer.add_int(file.acl().mode());
-    answer.add_int(file.size());
-    answer.add_int(file.mtime());
+    add_int(file.acl().mode(), answer);
+    add_int(file.size(), answer);
+    add_int(file.mtime(), answer);
     answer.add_word(file.hashes());
     answer.add_word(file.target());
-    answer.add_int(file.unused())
+    add_int(file.unused(), answer)
 }
 
 // Adds the fields of a folder, with the names of its files.
 fn add_folder(folder: &DirInfo<'_>, answer: &mut Answer) {
     answer.add_word(folder.name());
     // Of the access list only the first field, the mode, is added.
-    answer.add_int(folder.acl().mode());
+    add_int(folder.acl().mode(), answer);
     answer.add_word(b"[");
     let files = folder.files();
     for i in 0..files.len() {
@@ -123,16 +114,6 @@ fn add_folder(folder: &DirInfo<'_>, answer: &mut Answer) {
 
 // Adds the fields of a package's information.
 fn add_info(info: &PkgInfo<'_>, answer: &mut Answer) {
-    add_info_texts(info, answer);
-    answer.add_int(info.build_time());
-    answer.add_int(info.installed_size());
-    answer.add_int(info.file_size());
-    answer.add_int(info.provider_priority());
-    add_lists(info, answer)
-}
-
-// Adds the texts of a package's information.
-fn add_info_texts(info: &PkgInfo<'_>, answer: &mut Answer) {
     answer.add_word(info.name());
     answer.add_word(info.version());
     answer.add_word(info.hashes());
@@ -142,19 +123,19 @@ fn add_info_texts(info: &PkgInfo<'_>, answer: &mut Answer) {
     answer.add_word(info.origin());
     answer.add_word(info.maintainer());
     answer.add_word(info.url());
-    answer.add_word(info.repo_commit())
-}
-
-// Adds the lists of a package's information, and its fields after them.
-fn add_lists(info: &PkgInfo<'_>, answer: &mut Answer) {
+    answer.add_word(info.repo_commit());
+    add_int(info.build_time(), answer);
+    add_int(info.installed_size(), answer);
+    add_int(info.file_size(), answer);
+    add_int(info.provider_priority(), answer);
     add_dependencies(info.depends(), answer);
     add_dependencies(info.provides(), answer);
     add_dependencies(info.replaces(), answer);
     add_dependencies(info.install_if(), answer);
     add_dependencies(info.recommends(), answer);
-    answer.add_int(info.layer());
+    add_int(info.layer(), answer);
     add_texts(info.tags(), answer);
-    answer.add_int(info.unused())
+    add_int(info.unused(), answer)
 }
 
 // Adds the seven scripts.
@@ -177,45 +158,39 @@ fn add_package(shaped: Shaped<'_>, answer: &mut Answer)
     let package = PackageView::of(adb, adb.root());
     // Of the package's information only the first field, the name, is added.
     answer.add_word(package.info().name());
-    add_folder_names(package.paths(), answer);
-    // Of the scripts only the first one is added.
-    answer.add_word(package.scripts().trigger());
-    add_texts(package.triggers(), answer);
-    answer.add_int(package.replaces_priority())
-}
-
-// Adds the names of folders, in brackets.
-fn add_folder_names<'a>(folders: List<'a, DirInfo<'a>>, answer: &mut Answer) {
     answer.add_word(b"[");
+    let folders = package.paths();
     for i in 0..folders.len() {
         answer.add_word(folders.get(i + 1).name());
     }
-    answer.add_word(b"]")
+    answer.add_word(b"]");
+    // Of the scripts only the first one is added.
+    answer.add_word(package.scripts().trigger());
+    add_texts(package.triggers(), answer);
+    add_int(package.replaces_priority(), answer)
 }
 
-// Adds the fields of an index, if it passes all tests.
+// Adds the fields of an index, with the names of its packages, if it passes all tests.
 fn add_index(alloc: Global, shaped: Shaped<'_>, answer: &mut Answer) -> Result<(), AllocError>
     // The table at the root is that of an index.
     requires { table_of shaped ≡ Tables.Index }
 {
     match Checked::new(alloc, shaped) {
-        Ok(checked) => add_index_fields(&checked.index(), answer),
-        Err(ReadFault::Bad(cause)) => answer.add_cause(cause),
+        Ok(checked) => {
+            let index = checked.index();
+            answer.add_word(index.description());
+            answer.add_word(b"[");
+            let packages = index.packages();
+            for i in 0..packages.len() {
+                answer.add_word(packages.get(i + 1).name());
+            }
+            answer.add_word(b"]");
+            answer.add_word(index.pkgname_spec())
+        }
+        Err(ReadFault::Bad(cause)) => add_cause(alloc, cause, answer),
         Err(ReadFault::Memory) => return Err(AllocError),
     }
     Ok(())
-}
-
-// Adds the fields of an index, with the names of its packages.
-fn add_index_fields(index: &IndexView<'_>, answer: &mut Answer) {
-    answer.add_word(index.description());
-    answer.add_word(b"[");
-    let packages = index.packages();
-    for i in 0..packages.len() {
-        answer.add_word(packages.get(i + 1).name());
-    }
-    answer.add_word(b"]");
-    answer.add_word(index.pkgname_spec())
 }
 
 // Adds the names of the packages of a database.
