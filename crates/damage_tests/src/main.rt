@@ -13,7 +13,7 @@ mod tally;
 
 use base_core::Words;
 use reading::Test;
-use row_lines::{Subject, run_program, value_named, word_at};
+use row_lines::{Answer, Subject, run_program, value_named, word_at};
 use std::alloc::{AllocError, Global};
 use std::io;
 use std::process::ExitCode;
@@ -26,13 +26,19 @@ enum Question {
     Container,
     /// The container is tested as it is.
     Itself(Test),
-    /// Each file is tested that differs from the container in one byte.
-    Changes(Test),
-    /// Each file is tested in which one word (four bytes) of the container is replaced by a word of
-    /// the container.
-    Words(Test),
-    /// The container is tested, cut off at each length.
-    Cuts(Test),
+    /// Each file is tested that has this damage.
+    Sweep(Damage, Test),
+}
+
+/// How the files of a sweep (a question about many files) differ from the container.
+#[derive(Clone, Copy)]
+enum Damage {
+    /// The value of one byte.
+    Changes,
+    /// One word (four bytes) is replaced by a word of the container.
+    Words,
+    /// The container is cut off.
+    Cuts,
 }
 
 // The first word of the rows of each question. The words of `.._words` are those of the container,
@@ -41,17 +47,17 @@ enum Question {
 const QUESTIONS: [(&[u8], Question); 13] = [
     (b"container", Question::Container),
     (b"verify", Question::Itself(Test::Whole)),
-    (b"verify_changes", Question::Changes(Test::Whole)),
-    (b"verify_words", Question::Words(Test::Whole)),
-    (b"verify_cuts", Question::Cuts(Test::Whole)),
+    (b"verify_changes", Question::Sweep(Damage::Changes, Test::Whole)),
+    (b"verify_words", Question::Sweep(Damage::Words, Test::Whole)),
+    (b"verify_cuts", Question::Sweep(Damage::Cuts, Test::Whole)),
     (b"pieces", Question::Itself(Test::Pieces)),
-    (b"pieces_changes", Question::Changes(Test::Pieces)),
-    (b"pieces_words", Question::Words(Test::Pieces)),
-    (b"pieces_cuts", Question::Cuts(Test::Pieces)),
+    (b"pieces_changes", Question::Sweep(Damage::Changes, Test::Pieces)),
+    (b"pieces_words", Question::Sweep(Damage::Words, Test::Pieces)),
+    (b"pieces_cuts", Question::Sweep(Damage::Cuts, Test::Pieces)),
     (b"dump", Question::Itself(Test::Dump)),
-    (b"dump_changes", Question::Changes(Test::Dump)),
-    (b"dump_words", Question::Words(Test::Dump)),
-    (b"dump_cuts", Question::Cuts(Test::Dump)),
+    (b"dump_changes", Question::Sweep(Damage::Changes, Test::Dump)),
+    (b"dump_words", Question::Sweep(Damage::Words, Test::Dump)),
+    (b"dump_cuts", Question::Sweep(Damage::Cuts, Test::Dump)),
 ];
 
 /// The container that the last row `container` has given.
@@ -67,7 +73,7 @@ impl Subject for CurrentContainer {
         &mut self,
         alloc: Global,
         words: &Words,
-        answer: &mut Vec<u8>,
+        answer: &mut Answer,
     ) -> Result<(), AllocError> {
         match value_named(&QUESTIONS, word_at(words, 0)) {
             Some(Question::Container) => {
@@ -75,34 +81,56 @@ impl Subject for CurrentContainer {
                 self.bytes.extend_from_slice(word_at(words, 1))
             }
             Some(Question::Itself(test)) => {
-                let _ = test.read(alloc, &self.bytes, answer)?;
+                let mut line = Vec::new(alloc);
+                let _ = test.read(alloc, &self.bytes, &mut line)?;
+                answer.push(&line);
                 Ok(())
             }
-            Some(Question::Words(test)) => add_words(alloc, test, &self.bytes, answer),
-            Some(Question::Changes(test)) => add_changes(alloc, test, &self.bytes, answer),
-            Some(Question::Cuts(test)) => add_cuts(alloc, test, &self.bytes, answer),
-            None => answer.extend_from_slice(b"no question"),
+            Some(Question::Sweep(damage, test)) => {
+                add_sweep(alloc, damage, test, &self.bytes, answer)
+            }
+            None => {
+                answer.push(b"no question");
+                Ok(())
+            }
         }
     }
 }
 
 /// Adds to the answer the counts and the digest of the results of a test, over all files that
-/// differ from `file` in at most one byte: offset by offset, value by value.
-fn add_changes(
+/// differ from `file` in this way, in the order of the offsets or lengths. A line of the digest has
+/// the numbers that say how the file differs, and the result.
+fn add_sweep(
     alloc: Global,
+    damage: Damage,
     test: Test,
     file: &[u8],
-    answer: &mut Vec<u8>,
+    answer: &mut Answer,
 ) -> Result<(), AllocError> {
     let mut tally = Tally::new();
-    for at in 0..file.len() {
-        read_values_at(alloc, test, file, at, &mut tally)?;
+    match damage {
+        Damage::Changes => {
+            for at in 0..file.len() {
+                read_values_at(alloc, test, file, at, &mut tally)?;
+            }
+        }
+        Damage::Words => {
+            for index in 0..file.len() / 4 {
+                read_words_at(alloc, test, file, 4 * index, &mut tally)?;
+            }
+        }
+        Damage::Cuts => {
+            for len in 0..=file.len() {
+                tally.add(alloc, test, format!(in alloc; "{len} "), &file[..len])?;
+            }
+        }
     }
-    tally.add_to(alloc, answer)
+    tally.add_to(alloc, answer);
+    Ok(())
 }
 
-/// Tests the file with each of the 256 values of the byte at the offset `at`, and counts the
-/// results. A line of the digest has the offset, the value and the result.
+/// Tests the file with each of the 256 values of the byte at the offset `at`. A line of the digest
+/// has the offset, the value and the result.
 fn read_values_at(
     alloc: Global,
     test: Test,
@@ -115,31 +143,14 @@ fn read_values_at(
         if let Some(byte) = changed.get_mut(at) {
             *byte = value;
         }
-        let mut line = format!(in alloc; "{at} {value} ")?.into_bytes();
-        let kind = test.read(alloc, &changed, &mut line)?;
-        tally.count(kind, &line);
+        tally.add(alloc, test, format!(in alloc; "{at} {value} "), &changed)?;
     }
     Ok(())
 }
 
-/// Adds to the answer the counts and the digest of the results of a test, over all files in which
-/// one word of `file` is replaced by one of its words: offset by offset, and at each offset word by
-/// word. A word is the four bytes at an offset that is a multiple of four.
-fn add_words(
-    alloc: Global,
-    test: Test,
-    file: &[u8],
-    answer: &mut Vec<u8>,
-) -> Result<(), AllocError> {
-    let mut tally = Tally::new();
-    for index in 0..file.len() / 4 {
-        read_words_at(alloc, test, file, 4 * index, &mut tally)?;
-    }
-    tally.add_to(alloc, answer)
-}
-
-/// Tests the file with the word at the offset `at` replaced by each word of the file, and counts
-/// the results. A line of the digest has the offsets of both words and the result.
+/// Tests the file with the word at the offset `at` replaced by each word of the file. A word is the
+/// four bytes at an offset that is a multiple of four. A line of the digest has the offsets of both
+/// words and the result.
 fn read_words_at(
     alloc: Global,
     test: Test,
@@ -154,28 +165,9 @@ fn read_words_at(
         let from = 4 * index;
         let mut changed = file.to_vec(alloc)?;
         changed[at..at + 4].copy_from_slice(&file[from..from + 4]);
-        let mut line = format!(in alloc; "{at} {from} ")?.into_bytes();
-        let kind = test.read(alloc, &changed, &mut line)?;
-        tally.count(kind, &line);
+        tally.add(alloc, test, format!(in alloc; "{at} {from} "), &changed)?;
     }
     Ok(())
-}
-
-/// Adds to the answer the counts and the digest of the results of a test, over the file cut off at
-/// each length, from 0 to the whole length. A line of the digest has the length and the result.
-fn add_cuts(
-    alloc: Global,
-    test: Test,
-    file: &[u8],
-    answer: &mut Vec<u8>,
-) -> Result<(), AllocError> {
-    let mut tally = Tally::new();
-    for len in 0..=file.len() {
-        let mut line = format!(in alloc; "{len} ")?.into_bytes();
-        let kind = test.read(alloc, &file[..len], &mut line)?;
-        tally.count(kind, &line);
-    }
-    tally.add_to(alloc, answer)
 }
 
 /// Answers the rows of standard input, one after another.

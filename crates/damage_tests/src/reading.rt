@@ -2,13 +2,10 @@
 //! result as a line. The tests are in
 //! `docs/formats.md`, "Tests of a container", and the printed text in "Dump text".
 
-ghost use Rattle.std.specs.Prelude.{IsTrue, is_some};
-ghost use Rattle.adb_schema.specs.Soundness.{header_schema_if_root_table};
-
 use crate::tally::{AnswerKind, kind_of};
 use adb_block::Blocks;
 use adb_dump::dump;
-use adb_schema::{ReadFault, Shaped, Which, shape};
+use adb_schema::{ReadFault, Shaped, shape};
 use adb_view::Adb;
 use base_core::{Cause, Name, Text, TreeFault};
 use package_verifier::{PackageTest, test_package};
@@ -39,23 +36,31 @@ impl Test {
         line: &mut Vec<u8>,
     ) -> Result<AnswerKind, AllocError> {
         let fault = match self {
-            Test::Whole => fault_of(alloc, file)?,
-            Test::Pieces => fault_in_pieces(alloc, file)?,
+            Test::Whole => fault_of(alloc, file),
+            Test::Pieces => fault_in_pieces(alloc, file),
             Test::Dump => match text_of(alloc, file) {
                 Ok(text) => {
                     line.extend_from_slice(text.as_bytes())?;
                     line.push(b'\n')?;
                     return Ok(AnswerKind::Sound);
                 }
-                Err(ReadFault::Bad(cause)) => Some(cause),
-                Err(ReadFault::Memory) => return Err(AllocError),
+                Err(ReadFault::Bad(cause)) => Ok(Some(cause)),
+                Err(ReadFault::Memory) => Err(AllocError),
             },
         };
-        match fault {
-            None => line.extend_from_slice(b"sound\n")?,
-            Some(cause) => add_cause(alloc, cause, line)?,
+        let Some(cause) = fault? else {
+            line.extend_from_slice(b"sound\n")?;
+            return Ok(AnswerKind::Sound);
+        };
+        // The text of a cause is that which `apk verify` prints for its first argument, but without
+        // `ERROR: word 1: ` before it.
+        let mut page = MemorySink::new(alloc);
+        if write_error(&Refusal::FileBad { place: 1, cause }, &mut page).is_err() {
+            return Err(AllocError);
         }
-        Ok(kind_of(fault))
+        let text = page.bytes();
+        line.extend_from_slice(text.strip_prefix(b"ERROR: word 1: ").unwrap_or(text))?;
+        Ok(kind_of(cause))
     }
 }
 
@@ -92,44 +97,19 @@ fn fault_in_pieces(alloc: Global, file: &[u8]) -> Result<Option<Cause>, AllocErr
 fn text_of(alloc: Global, file: &[u8]) -> Result<Text, ReadFault> {
     let mut blocks = Blocks::new(file)?;
     let found = blocks.schema();
-    match table_of_schema(found) {
-        Some(which) => text_of_blocks(alloc, &mut blocks, which),
-        None => Err(ReadFault::Bad(Cause::WrongSchema { found })),
-    }
-}
-
-/// The dump text of a file with these blocks, whose root value is an object of the table `which`.
-fn text_of_blocks(alloc: Global, blocks: &mut Blocks<'_>, which: Which) -> Result<Text, ReadFault>
-    // The table is that of the root value of some schema of containers.
-    requires { IsTrue (is_some (header_schema_if_root_table which)) }
-{
+    let Some(which) = table_of_schema(found) else {
+        return Err(ReadFault::Bad(Cause::WrongSchema { found }));
+    };
     let Some(block) = blocks.next()? else {
         return Err(ReadFault::Memory);
     };
     let shaped: Shaped<'_> = shape(Adb::new(block.payload)?, which)?;
-    check_framing(blocks)?;
-    let text = dump(alloc, &shaped)?;
-    Ok(text)
-}
-
-/// Tests the kinds and the lengths in the headers of all blocks after the first one.
-fn check_framing(blocks: &mut Blocks<'_>) -> Result<(), Cause> {
-    // The loop has a bound that is never reached, since no file has so many blocks.
+    // Of the blocks after the first one, the kinds and the lengths in their headers are tested. The
+    // loop has a bound that is never reached, since no file has so many blocks.
     for _ in 0..u64::MAX {
         if blocks.next()?.is_none() {
             break;
         }
     }
-    Ok(())
-}
-
-/// Adds the text of the cause to `line`, with a line end, as `apk verify` prints it for its first
-/// argument, but without `ERROR: word 1: ` before it.
-fn add_cause(alloc: Global, cause: Cause, line: &mut Vec<u8>) -> Result<(), AllocError> {
-    let mut page = MemorySink::new(alloc);
-    if write_error(&Refusal::FileBad { place: 1, cause }, &mut page).is_err() {
-        return Err(AllocError);
-    }
-    let text = page.bytes();
-    line.extend_from_slice(text.strip_prefix(b"ERROR: word 1: ").unwrap_or(text))
+    Ok(dump(alloc, &shaped)?)
 }

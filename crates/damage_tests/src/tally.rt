@@ -1,14 +1,15 @@
 //! Counts the results of tests by their kinds, and computes a digest over their lines. The kinds
 //! are the causes in `docs/commands.md`, "Error lines", and `sound` for a file without a fault.
 
+use crate::reading::Test;
 use base_core::Cause;
-use row_lines::{add_number, add_word};
+use row_lines::Answer;
 use sha2::{Digest, Sha256};
 use std::alloc::{AllocError, Global};
 
 /// The kind of a result: the file is sound, or its first failed test has a cause of this kind. The
-/// text of each kind is in `KIND_NAMES`.
-#[derive(Clone, Copy, PartialEq, Eq)]
+/// text of each kind is in `KIND_NAMES`, at its place in this list.
+#[derive(Clone, Copy)]
 pub(crate) enum AnswerKind {
     Sound,
     NotAdb,
@@ -31,47 +32,46 @@ pub(crate) enum AnswerKind {
 /// How many kinds of results there are.
 const KINDS: usize = 16;
 
-/// Each kind with the text by which answers name it, in the order in which counts are printed.
+/// The text by which answers name each kind, in the order of `AnswerKind`, which is the order in
+/// which counts are printed.
 #[rattlefmt::skip]
-const KIND_NAMES: [(AnswerKind, &[u8]); KINDS] = [
-    (AnswerKind::Sound, b"sound"),
-    (AnswerKind::NotAdb, b"not an ADB file"),
-    (AnswerKind::Compressed, b"compressed ADB file"),
-    (AnswerKind::Truncated, b"truncated"),
-    (AnswerKind::BlockOrder, b"block out of order"),
-    (AnswerKind::CompatVersion, b"incompatible version"),
-    (AnswerKind::WrongSchema, b"wrong schema"),
-    (AnswerKind::Outside, b"value points outside"),
-    (AnswerKind::WrongKind, b"value has the wrong kind"),
-    (AnswerKind::TooLarge, b"values are too many"),
-    (AnswerKind::BadText, b"bad field"),
-    (AnswerKind::Repeated, b"field repeated"),
-    (AnswerKind::DataOrder, b"contents where others were expected"),
-    (AnswerKind::DataSize, b"contents of another length"),
-    (AnswerKind::HashDiffers, b"hash where another was expected"),
-    (AnswerKind::TextLine, b"bad line"),
+const KIND_NAMES: [&[u8]; KINDS] = [
+    b"sound",
+    b"not an ADB file",
+    b"compressed ADB file",
+    b"truncated",
+    b"block out of order",
+    b"incompatible version",
+    b"wrong schema",
+    b"value points outside",
+    b"value has the wrong kind",
+    b"values are too many",
+    b"bad field",
+    b"field repeated",
+    b"contents where others were expected",
+    b"contents of another length",
+    b"hash where another was expected",
+    b"bad line",
 ];
 
-/// The kind of the result for a file whose first failed test has this cause; None if no test
-/// failed.
-pub(crate) fn kind_of(fault: Option<Cause>) -> AnswerKind {
-    match fault {
-        None => AnswerKind::Sound,
-        Some(Cause::NotAdb) => AnswerKind::NotAdb,
-        Some(Cause::Compressed) => AnswerKind::Compressed,
-        Some(Cause::Truncated { .. }) => AnswerKind::Truncated,
-        Some(Cause::BlockOrder { .. }) => AnswerKind::BlockOrder,
-        Some(Cause::CompatVersion) => AnswerKind::CompatVersion,
-        Some(Cause::WrongSchema { .. }) => AnswerKind::WrongSchema,
-        Some(Cause::Outside { .. }) => AnswerKind::Outside,
-        Some(Cause::WrongKind { .. }) => AnswerKind::WrongKind,
-        Some(Cause::TooLarge { .. }) => AnswerKind::TooLarge,
-        Some(Cause::BadText { .. }) => AnswerKind::BadText,
-        Some(Cause::Repeated { .. }) => AnswerKind::Repeated,
-        Some(Cause::DataOrder { .. }) => AnswerKind::DataOrder,
-        Some(Cause::DataSize { .. }) => AnswerKind::DataSize,
-        Some(Cause::HashDiffers { .. }) => AnswerKind::HashDiffers,
-        Some(Cause::TextLine { .. }) => AnswerKind::TextLine,
+/// The kind of the result for a file whose first failed test has this cause.
+pub(crate) fn kind_of(cause: Cause) -> AnswerKind {
+    match cause {
+        Cause::NotAdb => AnswerKind::NotAdb,
+        Cause::Compressed => AnswerKind::Compressed,
+        Cause::Truncated { .. } => AnswerKind::Truncated,
+        Cause::BlockOrder { .. } => AnswerKind::BlockOrder,
+        Cause::CompatVersion => AnswerKind::CompatVersion,
+        Cause::WrongSchema { .. } => AnswerKind::WrongSchema,
+        Cause::Outside { .. } => AnswerKind::Outside,
+        Cause::WrongKind { .. } => AnswerKind::WrongKind,
+        Cause::TooLarge { .. } => AnswerKind::TooLarge,
+        Cause::BadText { .. } => AnswerKind::BadText,
+        Cause::Repeated { .. } => AnswerKind::Repeated,
+        Cause::DataOrder { .. } => AnswerKind::DataOrder,
+        Cause::DataSize { .. } => AnswerKind::DataSize,
+        Cause::HashDiffers { .. } => AnswerKind::HashDiffers,
+        Cause::TextLine { .. } => AnswerKind::TextLine,
     }
 }
 
@@ -93,32 +93,36 @@ impl Tally {
         }
     }
 
-    /// Counts a result of this kind, and adds its line to the digest.
-    pub(crate) fn count(&mut self, kind: AnswerKind, line: &[u8]) {
-        self.digest.update(line);
-        for i in 0..KINDS {
-            if KIND_NAMES[i].0 == kind {
-                self.counts[i] = self.counts[i].saturating_add(1);
-            }
-        }
+    /// Tests a file, and counts the result. The line that is added to the digest is `start` (how
+    /// the file differs, if there was memory for it) and the result.
+    pub(crate) fn add(
+        &mut self,
+        alloc: Global,
+        test: Test,
+        start: Result<String, AllocError>,
+        file: &[u8],
+    ) -> Result<(), AllocError> {
+        let mut line = start?.into_bytes();
+        let kind = test.read(alloc, file, &mut line)? as usize;
+        self.digest.update(&line);
+        self.counts[kind] = self.counts[kind].saturating_add(1);
+        Ok(())
     }
 
     /// Adds, for each kind that has results, the kind's text and their number; and then the digest
     /// in hexadecimal.
-    pub(crate) fn add_to(self, alloc: Global, text: &mut Vec<u8>) -> Result<(), AllocError> {
+    pub(crate) fn add_to(self, alloc: Global, answer: &mut Answer) {
         for i in 0..KINDS {
             if self.counts[i] > 0 {
-                add_word(text, KIND_NAMES[i].1)?;
-                text.push(b' ')?;
-                add_number(alloc, text, u128::from(self.counts[i]))?;
-                text.push(b',')?;
+                answer.add_word(KIND_NAMES[i]);
+                answer.push(b" ");
+                answer.add_number(u128::from(self.counts[i]));
+                answer.push(b",");
             }
         }
-        text.push(b' ')?;
+        answer.push(b" ");
         for byte in self.digest.finalize() {
-            let digits = format!(in alloc; "{byte:02x}")?;
-            text.extend_from_slice(digits.as_bytes())?;
+            answer.add_text(format!(in alloc; "{byte:02x}"));
         }
-        Ok(())
     }
 }

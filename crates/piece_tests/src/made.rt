@@ -3,7 +3,6 @@
 
 ghost use Rattle.std.specs.Prelude.{◌<◌, ◌^◌, length};
 
-use adb_schema::PACKAGE_WORD;
 use sha1::Sha1;
 use sha2::Digest;
 use std::alloc::{AllocError, Global};
@@ -35,14 +34,17 @@ pub(crate) fn bytes_of(alloc: Global, len: u32) -> Result<Vec<u8>, AllocError> {
     Ok(bytes)
 }
 
+/// The eight bytes that a block of contents begins with: the position of the folder, and that of
+/// the file in it. Both count from 1.
+pub(crate) fn positions(folder: u32, file: u32) -> [u8; 8] {
+    (u64::from(file) << 32 | u64::from(folder)).to_le_bytes()
+}
+
 /// The container of a package with files of these sizes in one folder, and with this flaw.
 pub(crate) fn package_of(alloc: Global, sizes: &[u32], flaw: Flaw) -> Result<Vec<u8>, AllocError> {
-    let mut file = Vec::new(alloc);
-    file.extend_from_slice(b"ADB.")?;
-    file.extend_from_slice(&PACKAGE_WORD.to_le_bytes())?;
-    let payload = payload_of(alloc, sizes)?;
+    let mut file = b"ADB.pckg".to_vec(alloc)?;
     // Kind 0: the block of the values.
-    add_block(&mut file, 0, &payload)?;
+    add_block(&mut file, 0, &payload_of(alloc, sizes)?)?;
     for i in 0..sizes.len() {
         if sizes[i] > 0 {
             // Only the last file has the flaw.
@@ -51,69 +53,64 @@ pub(crate) fn package_of(alloc: Global, sizes: &[u32], flaw: Flaw) -> Result<Vec
             } else {
                 Flaw::None
             };
-            let contents = contents_with(alloc, sizes, i, flaw)?;
             // Kind 2: a block of contents. An empty file has none.
-            add_block(&mut file, 2, &contents)?;
+            add_block(&mut file, 2, &contents_of(alloc, sizes, i, flaw)?)?;
         }
     }
     Ok(file)
 }
 
 /// The payload of the block with the contents of the file with the index `i`, counted from 0, with
-/// a flaw.
-fn contents_with(alloc: Global, sizes: &[u32], i: usize, flaw: Flaw) -> Result<Vec<u8>, AllocError>
+/// a flaw. It has the positions of the folder and of the file in it, and then the bytes of the file,
+/// none of which is 255 without a flaw.
+fn contents_of(alloc: Global, sizes: &[u32], i: usize, flaw: Flaw) -> Result<Vec<u8>, AllocError>
     // The index is that of one of the files.
     requires { i < length sizes.now }
 {
-    match flaw {
-        Flaw::Repeated => contents_of(alloc, 0, sizes[0]),
-        _ => {
-            let contents = contents_of(alloc, i, sizes[i])?;
-            flawed(alloc, &contents, flaw)
-        }
-    }
-}
-
-/// The payload of the block with the contents of a file that follows `before` other files. It has
-/// the positions of the folder and of the file in it, which count from 1, and then the bytes of the
-/// file.
-fn contents_of(alloc: Global, before: usize, size: u32) -> Result<Vec<u8>, AllocError> {
-    let mut payload = Vec::new(alloc);
+    let i = match flaw {
+        Flaw::Repeated => 0,
+        _ => i,
+    };
     // All files are in folder 1.
-    payload.extend_from_slice(&1u32.to_le_bytes())?;
-    payload.extend_from_slice(&low_word(before.saturating_add(1)).to_le_bytes())?;
-    payload.extend_from_slice(&bytes_of(alloc, size)?)?;
-    Ok(payload)
-}
-
-/// The payload of a block of contents, with a flaw. The bytes of the file follow the two positions,
-/// which are eight bytes. No byte of the file is 255 without a flaw.
-fn flawed(alloc: Global, payload: &[u8], flaw: Flaw) -> Result<Vec<u8>, AllocError> {
-    let mut bytes = payload.to_vec(alloc)?;
+    let mut payload = positions(1, low_word(i) + 1).to_vec(alloc)?;
+    payload.extend_from_slice(&bytes_of(alloc, sizes[i])?)?;
     match flaw {
         Flaw::Spoiled(at) => {
+            // The positions are eight bytes.
             let at = at.saturating_add(8);
-            if at < bytes.len() {
-                bytes[at] = 255;
+            if at < payload.len() {
+                payload[at] = 255;
             }
         }
-        Flaw::Shortened(len) => bytes.truncate(len),
+        Flaw::Shortened(len) => payload.truncate(len),
         Flaw::None | Flaw::Repeated => {}
     }
-    Ok(bytes)
+    Ok(payload)
 }
 
 /// The payload of a package with files of these sizes, named `a`, `b` and so on. It begins with
 /// `INFO`, in which the object at offset 12 is the package's information. The top four bits of a
-/// word are its kind: 0xd for an array, 0xe for an object.
+/// word are its kind: 0x1 for a number, 0x8 for a blob, 0xd for an array, 0xe for an object.
 pub(crate) fn payload_of(alloc: Global, sizes: &[u32]) -> Result<Vec<u8>, AllocError> {
     let mut payload = INFO.to_vec(alloc)?;
     let mut files = Vec::new(alloc);
     let mut letter = b'a';
     for size in sizes {
         let hash = Sha1::digest(&bytes_of(alloc, *size)?);
-        let object = add_file(&mut payload, letter, *size, &hash)?;
-        files.push(0xe000_0000 | object)?;
+        // Two blobs: the name of the file, and its digest of 20 bytes. A blob begins with its
+        // length, which is one byte.
+        let name = low_word(payload.len());
+        payload.extend_from_slice(&[1, letter, 20])?;
+        payload.extend_from_slice(&hash)?;
+        // The fields: name, access list, size, time and hash.
+        let words = [
+            0x8000_0000 | name,
+            0,
+            0x1000_0000 | *size,
+            0,
+            0x8000_0000 | (name + 2),
+        ];
+        files.push(0xe000_0000 | add_words(&mut payload, &words)?)?;
         letter = letter.wrapping_add(1);
     }
     // From here on, the names are offsets: of the array of files, the folder, the array of folders,
@@ -127,32 +124,6 @@ pub(crate) fn payload_of(alloc: Global, sizes: &[u32]) -> Result<Vec<u8>, AllocE
         payload[4..8].copy_from_slice(&(0xe000_0000 | root).to_le_bytes());
     }
     Ok(payload)
-}
-
-/// Adds the entry of a file whose name is this letter, with this size and digest, and returns the
-/// offset of the object. The words of its fields refer to blobs (0x8), have the size (0x1), or are
-/// NULL (0).
-fn add_file(
-    payload: &mut Vec<u8>,
-    letter: u8,
-    size: u32,
-    hash: &[u8; 20],
-) -> Result<u32, AllocError> {
-    let name = low_word(payload.len());
-    payload.extend_from_slice(&[1, letter])?;
-    let digest = low_word(payload.len());
-    // A blob begins with its length: one byte here, before the digest.
-    payload.push(20)?;
-    payload.extend_from_slice(hash)?;
-    // The fields: name, access list, size, time and hash.
-    let words = [
-        0x8000_0000 | name,
-        0,
-        0x1000_0000 | size,
-        0,
-        0x8000_0000 | digest,
-    ];
-    add_words(payload, &words)
 }
 
 /// Adds the object or the array of these words, at an offset that is a multiple of four, and

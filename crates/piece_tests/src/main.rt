@@ -12,19 +12,19 @@ ghost use Rattle.adb_view.specs.declared.tables.Which.TheVariants as Tables;
 mod made;
 mod package;
 
-use crate::made::{bytes_of, payload_of};
-use crate::package::{Asked, add_asked, add_fronts};
+use crate::made::{bytes_of, payload_of, positions};
+use crate::package::{Asked, Reading, add_asked, add_cuts};
 use adb_schema::Checked;
 use adb_view::{Adb, Which, shape};
 use base_core::{Cause, Words};
-use pkg_core::{FileCheck, Part, Walk, open_file};
-use row_lines::{Subject, add_number, add_word, number_of, run_program, value_named, word_at};
+use pkg_core::{Part, Walk, open_file};
+use row_lines::{Answer, Subject, number_of, run_program, value_named, word_at};
 use std::alloc::{AllocError, Global};
 use std::io;
 use std::process::ExitCode;
 
 /// The most bytes of a row's file.
-const MOST_BYTES: u32 = 1_000_000;
+const MOST_BYTES: u128 = 1_000_000;
 
 /// The most pieces of a row's file.
 const MOST_PIECES: usize = 100;
@@ -70,31 +70,24 @@ impl Subject for Files {
         &mut self,
         alloc: Global,
         words: &Words,
-        answer: &mut Vec<u8>,
+        answer: &mut Answer,
     ) -> Result<(), AllocError> {
         match value_named(&QUESTIONS, word_at(words, 0)) {
-            Some(Question::Pieces) => add_pieces(alloc, words, answer),
-            Some(Question::Open) => add_opened(alloc, words, answer),
-            Some(Question::Cuts) => add_fronts(alloc, word_at(words, 1), answer),
+            Some(Question::Pieces) => add_of_one_file(alloc, false, words, answer),
+            Some(Question::Open) => add_of_one_file(alloc, true, words, answer),
+            Some(Question::Cuts) => add_cuts(alloc, word_at(words, 1), 0, Reading::Front, answer),
             Some(Question::Package(asked)) => add_asked(alloc, asked, words, answer),
-            None => answer.extend_from_slice(b"no question"),
+            None => {
+                answer.push(b"no question");
+                Ok(())
+            }
         }
     }
 }
 
 /// The number that the word of a row is, but at most `MOST_BYTES`; 0 if the word is no number.
 pub(crate) fn small_number(word: &[u8]) -> u32 {
-    let number = number_of(word).unwrap_or(0);
-    u32::try_from(number).unwrap_or(0).min(MOST_BYTES)
-}
-
-/// The eight bytes that a block of contents begins with: the position of the folder, and that of
-/// the file in it.
-fn positions(folder: u32, file: u32) -> [u8; 8] {
-    let mut bytes = [0; 8];
-    bytes[..4].copy_from_slice(&folder.to_le_bytes());
-    bytes[4..].copy_from_slice(&file.to_le_bytes());
-    bytes
+    number_of(word).unwrap_or(0).min(MOST_BYTES) as u32
 }
 
 /// The values of the package with this payload; None if a test fails. The contract says that they
@@ -102,124 +95,124 @@ fn positions(folder: u32, file: u32) -> [u8; 8] {
 fn values(alloc: Global, payload: &[u8]) -> Option<Checked<'_>>
     ensures { IfSome result (λ checked. table_of_checked checked ≡ Tables.Package) }
 {
-    let adb = Adb::new(payload).ok()?;
-    let shaped = shape(adb, Which::Package).ok()?;
+    let Ok(adb) = Adb::new(payload) else {
+        return None;
+    };
+    let Ok(shaped) = shape(adb, Which::Package) else {
+        return None;
+    };
     Checked::new(alloc, shaped).ok()
 }
 
-/// Answers `pieces LEN` and `pieces LEN AT`: adds the pieces of one file of LEN bytes. With AT, the
-/// byte of the file at this offset is wrong, so that the digest of the file differs.
-fn add_pieces(alloc: Global, words: &Words, answer: &mut Vec<u8>) -> Result<(), AllocError> {
-    let len = small_number(word_at(words, 1));
-    let mut bytes = bytes_of(alloc, len)?;
+/// Answers `pieces`, or `open` if `opens` holds. Both are about a package with one file.
+fn add_of_one_file(
+    alloc: Global,
+    opens: bool,
+    words: &Words,
+    answer: &mut Answer,
+) -> Result<(), AllocError> {
+    let len = if opens {
+        OPENED
+    } else {
+        small_number(word_at(words, 1))
+    };
     let payload = payload_of(alloc, &[len])?;
-    if let Some(at) = number_of(word_at(words, 2)) {
-        let at = usize::try_from(at).unwrap_or(0);
+    let Some(checked) = values(alloc, &payload) else {
+        answer.add_word(b"no package");
+        return Ok(());
+    };
+    // The files that the package lists, in their order.
+    let mut walk = Walk::new(checked.package().paths());
+    if opens {
+        add_opened(alloc, &mut walk, words, answer);
+        return Ok(());
+    }
+    let mut bytes = bytes_of(alloc, len)?;
+    if words.len() > 2 {
+        let at = small_number(word_at(words, 2)) as usize;
         if at < bytes.len() {
             // No byte of the file is 255.
             bytes[at] = 255;
         }
     }
-    let Some(checked) = values(alloc, &payload) else {
-        return add_word(answer, b"no package");
-    };
-    // The files that the package lists, in their order.
-    let mut walk = Walk::new(checked.package().paths());
-    // Eight bytes of positions precede the file, which is file 1 of folder 1.
-    match open_file(&mut walk, u64::from(len) + 8, &positions(1, 1)) {
-        Ok(file) => add_each(alloc, file, &bytes, answer),
-        Err(cause) => add_cause(alloc, cause, answer),
-    }
-}
-
-/// Adds to `answer` each piece of a file with these bytes, and the result after the last piece.
-fn add_each(
-    alloc: Global,
-    file: FileCheck<'_>,
-    bytes: &[u8],
-    answer: &mut Vec<u8>,
-) -> Result<(), AllocError> {
-    // The check of the bytes that are not taken yet; None after the last piece.
-    let mut left = Some(file);
-    // The bytes of the file that are not taken yet.
-    let mut rest = bytes;
-    for _ in 0..MOST_PIECES {
-        let Some(file) = left.take() else {
-            return add_word(answer, b"end");
-        };
-        let len = file.next_piece_len();
-        if len > rest.len() {
-            return add_word(answer, b"too few bytes");
-        }
-        match file.take(&rest[..len]) {
-            Ok((part, further)) => {
-                add_part(alloc, part, len, answer)?;
-                left = further;
-                rest = &rest[len..];
-            }
-            Err(cause) => return add_cause(alloc, cause, answer),
-        }
-    }
+    add_pieces(alloc, &mut walk, &bytes, answer);
     Ok(())
-}
-
-/// Adds to `answer` the positions of the folder and the file that a piece belongs to, and the
-/// length of the piece. Adds `last` if it is the last piece of the file.
-pub(crate) fn add_part(
-    alloc: Global,
-    part: Part,
-    len: usize,
-    answer: &mut Vec<u8>,
-) -> Result<(), AllocError> {
-    let text = format!(in alloc; "{}.{} {len}", part.path, part.file)?;
-    add_word(answer, text.as_bytes())?;
-    if part.last {
-        add_word(answer, b"last")?;
-    }
-    Ok(())
-}
-
-/// Adds to `answer` the cause of a refusal: its variant and its fields; for a wrong digest only the
-/// words `another digest`.
-pub(crate) fn add_cause(
-    alloc: Global,
-    cause: Cause,
-    answer: &mut Vec<u8>,
-) -> Result<(), AllocError> {
-    match cause {
-        Cause::HashDiffers { .. } => add_word(answer, b"another digest"),
-        _ => {
-            let text = format!(in alloc; "{cause:?}")?;
-            add_word(answer, text.as_bytes())
-        }
-    }
 }
 
 /// Answers `open FOLDER FILE LEN`: adds the result for a block of contents with these positions and
 /// this length of its payload. The only file of the package has three bytes. The same block is then
 /// opened once more, when no file is expected any more.
-fn add_opened(alloc: Global, words: &Words, answer: &mut Vec<u8>) -> Result<(), AllocError> {
-    let payload = payload_of(alloc, &[OPENED])?;
-    let Some(checked) = values(alloc, &payload) else {
-        return add_word(answer, b"no package");
-    };
-    let mut walk = Walk::new(checked.package().paths());
-    let folder = small_number(word_at(words, 1));
-    let file = small_number(word_at(words, 2));
-    let len = number_of(word_at(words, 3)).unwrap_or(0);
+fn add_opened(alloc: Global, walk: &mut Walk<'_>, words: &Words, answer: &mut Answer) {
+    let positions = positions(
+        small_number(word_at(words, 1)),
+        small_number(word_at(words, 2)),
+    );
     // The payload has at least the eight bytes of the positions.
+    let len = number_of(word_at(words, 3)).unwrap_or(0);
     let len = u64::try_from(len).unwrap_or(0).max(8);
-    let positions = positions(folder, file);
     for _ in 0..2 {
-        match open_file(&mut walk, len, &positions) {
+        match open_file(walk, len, &positions) {
             Ok(file) => {
-                add_word(answer, b"a piece of ")?;
-                add_number(alloc, answer, file.next_piece_len() as u128)?;
+                answer.add_word(b"a piece of ");
+                answer.add_number(file.next_piece_len() as u128);
             }
-            Err(cause) => add_cause(alloc, cause, answer)?,
+            Err(cause) => add_formatted(answer, cause_text(alloc, cause)),
         }
     }
-    Ok(())
+}
+
+/// Answers `pieces LEN` and `pieces LEN AT`: adds the pieces of the next file of the package, which
+/// is its only one and has these bytes. With AT, a byte differs from that of which the digest was
+/// made.
+fn add_pieces(alloc: Global, walk: &mut Walk<'_>, bytes: &[u8], answer: &mut Answer) {
+    // Eight bytes of positions precede the file, which is file 1 of folder 1.
+    let len = (bytes.len() as u64).saturating_add(8);
+    let mut file = match open_file(walk, len, &positions(1, 1)) {
+        Ok(file) => file,
+        Err(cause) => return add_formatted(answer, cause_text(alloc, cause)),
+    };
+    // The bytes of the file that are not taken yet.
+    let mut rest = bytes;
+    for _ in 0..MOST_PIECES {
+        let len = file.next_piece_len();
+        if len > rest.len() {
+            return answer.add_word(b"too few bytes");
+        }
+        match file.take(&rest[..len]) {
+            Ok((part, further)) => {
+                add_formatted(answer, part_text(alloc, part, len));
+                let Some(further) = further else {
+                    return answer.add_word(b"end");
+                };
+                file = further;
+                rest = &rest[len..];
+            }
+            Err(cause) => return add_formatted(answer, cause_text(alloc, cause)),
+        }
+    }
+}
+
+/// Adds to `answer` a text that was formatted, and a space before the text if the answer is not
+/// empty.
+pub(crate) fn add_formatted(answer: &mut Answer, text: Result<String, AllocError>) {
+    answer.add_word(b"");
+    answer.add_text(text)
+}
+
+/// The positions of the folder and the file that a piece belongs to, and the length of the piece;
+/// and `last` if it is the last piece of the file.
+pub(crate) fn part_text(alloc: Global, part: Part, len: usize) -> Result<String, AllocError> {
+    let last = if part.last { " last" } else { "" };
+    format!(in alloc; "{}.{} {len}{last}", part.path, part.file)
+}
+
+/// The cause of a refusal: its variant and its fields; for a wrong digest only the words `another
+/// digest`.
+pub(crate) fn cause_text(alloc: Global, cause: Cause) -> Result<String, AllocError> {
+    match cause {
+        Cause::HashDiffers { .. } => format!(in alloc; "another digest"),
+        _ => format!(in alloc; "{cause:?}"),
+    }
 }
 
 /// Answers the rows of standard input, one by one.

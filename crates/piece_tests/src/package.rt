@@ -2,13 +2,13 @@
 //! pieces. The tests are in `docs/formats.md`, "The other blocks", the last list.
 
 use crate::made::{Flaw, low_word, package_of};
-use crate::{add_cause, add_part, small_number};
+use crate::{add_formatted, cause_text, part_text, small_number};
 use adb_schema::PACKAGE_WORD;
 use base_core::{Name, TreeFault, Words};
 use package_reader::{FilePieces, Piece, PieceFault, PieceReader};
-use package_verifier::{PackageRead, TestedPackage, read_package};
-use pkg_core::{Contents, Front, FrontFault, PackageFault, read_front};
-use row_lines::{add_number, add_word, word_at};
+use package_verifier::{PackageRead, read_package};
+use pkg_core::{Contents, FrontFault, PackageFault, read_front};
+use row_lines::{Answer, word_at};
 use std::alloc::{AllocError, Global};
 use tree_memory::MemoryTree;
 
@@ -36,29 +36,16 @@ pub(crate) enum Asked {
     Ends,
 }
 
-/// What is read of a package, and what is added to the answer.
+/// What is read of a package.
 #[derive(Clone, Copy)]
-struct Reading<'r> {
-    /// Whether the front (header and first block) alone is read, and no piece.
-    front: bool,
-    /// Whether two numbers are added to the answer: of the calls on the tree after the front was
+pub(crate) enum Reading {
+    /// The front (header and first block) alone, and no piece.
+    Front,
+    /// All pieces.
+    Pieces,
+    /// All pieces. The result also has two numbers: of the calls on the tree after the front was
     /// read, and of the bytes of the longest read.
-    counts: bool,
-    /// If above 0, files are read again, from the file with this position down to the first file.
-    back: u32,
-    /// The bytes that replace the package before its files are read again; None if the package
-    /// stays.
-    changed: Option<&'r [u8]>,
-}
-
-impl Reading<'_> {
-    /// All pieces are read once, and nothing else is added to the answer.
-    const PIECES: Reading<'static> = Reading {
-        front: false,
-        counts: false,
-        back: 0,
-        changed: None,
-    };
+    CountedPieces,
 }
 
 /// Adds to `answer` the answer to a question about a package, as the README of this crate lists it.
@@ -67,7 +54,7 @@ pub(crate) fn add_asked(
     alloc: Global,
     asked: Asked,
     words: &Words,
-    answer: &mut Vec<u8>,
+    answer: &mut Answer,
 ) -> Result<(), AllocError> {
     // The offset or the length in the row, if the question takes one.
     let number = small_number(word_at(words, 1)) as usize;
@@ -79,311 +66,188 @@ pub(crate) fn add_asked(
         Asked::Shorten => (2, Flaw::Shortened(number)),
         Asked::Change | Asked::Ends => (2, Flaw::None),
     };
-    let sizes = sizes_from(alloc, words, first)?;
-    let file = package_of(alloc, &sizes, flaw)?;
-    add_asked_of(alloc, asked, number, &sizes, &file, answer)
-}
-
-/// Adds to `answer` the answer to a question about the package in `file`. `number` is the offset or
-/// the length in the row, if the question takes one.
-fn add_asked_of(
-    alloc: Global,
-    asked: Asked,
-    number: usize,
-    sizes: &[u32],
-    file: &[u8],
-    answer: &mut Vec<u8>,
-) -> Result<(), AllocError> {
-    // What is read, if the question asks for no more than the pieces.
-    let mut reading = Reading::PIECES;
-    match asked {
-        Asked::Ends => return add_cuts(alloc, file, number, reading, answer),
-        Asked::Change => return add_changed(alloc, file, sizes, number, answer),
-        Asked::Read => reading.counts = true,
-        // The file that is read again first does not exist.
-        Asked::Back => reading.back = low_word(sizes.len()) + 1,
-        _ => {}
-    }
-    add_package(alloc, file, reading, answer)
-}
-
-/// Adds to `answer` the result of reading a package, and then of reading its files again, from the
-/// last to the first. In between, the byte at the offset `at` of the last file is changed.
-fn add_changed(
-    alloc: Global,
-    file: &[u8],
-    sizes: &[u32],
-    at: usize,
-    answer: &mut Vec<u8>,
-) -> Result<(), AllocError> {
-    let changed = package_of(alloc, sizes, Flaw::Spoiled(at))?;
-    let reading = Reading {
-        front: false,
-        counts: false,
-        back: low_word(sizes.len()),
-        changed: Some(&changed),
-    };
-    add_package(alloc, file, reading, answer)
-}
-
-/// The sizes of files in the words of the row from the index `first` on.
-fn sizes_from(alloc: Global, words: &Words, first: usize) -> Result<Vec<u32>, AllocError> {
     let mut sizes = Vec::new(alloc);
     for i in first..words.len() {
         if sizes.len() < MOST {
             sizes.push(small_number(word_at(words, i)))?;
         }
     }
-    Ok(sizes)
-}
-
-/// Answers `cuts BYTES`: adds the results for the front (header and first block) of a package whose
-/// file is cut to each length.
-pub(crate) fn add_fronts(
-    alloc: Global,
-    file: &[u8],
-    answer: &mut Vec<u8>,
-) -> Result<(), AllocError> {
-    let mut reading = Reading::PIECES;
-    reading.front = true;
-    add_cuts(alloc, file, 0, reading, answer)
+    let file = package_of(alloc, &sizes, flaw)?;
+    match asked {
+        Asked::Ends => add_cuts(alloc, &file, number, Reading::Pieces, answer),
+        _ => add_readings(alloc, asked, number, &sizes, &file, answer),
+    }
 }
 
 /// Adds to `answer` the results for a package that is cut to each length from `first` on. A length
 /// is added with its result if the result differs from that of the length before.
-fn add_cuts(
+pub(crate) fn add_cuts(
     alloc: Global,
     file: &[u8],
     first: usize,
-    reading: Reading<'_>,
-    answer: &mut Vec<u8>,
+    reading: Reading,
+    answer: &mut Answer,
 ) -> Result<(), AllocError> {
     // The result for the length before.
-    let mut last = Vec::new(alloc);
+    let mut last = String::new(alloc);
     for len in first..=file.len() {
-        let found = package_text(alloc, &file[..len], reading)?;
+        let (mut tree, name) = tree_with(alloc, &file[..len])?;
+        let found = package_text(alloc, &mut tree, &name, reading)?;
         if found != last {
-            add_cut(alloc, len, &found, answer)?;
+            answer.add_word(b"from ");
+            answer.add_number(len as u128);
+            answer.add_word(found.as_bytes());
         }
         last = found;
     }
     Ok(())
 }
 
-/// Adds to `answer` a length, and the result (`found`) for the package that is cut to this length.
-fn add_cut(
+/// Adds to `answer` the result of reading the package in `file`, and then, if the question asks for
+/// it, of reading its files again. `number` is the offset in the row, if the question takes one.
+fn add_readings(
     alloc: Global,
-    len: usize,
-    found: &[u8],
-    answer: &mut Vec<u8>,
+    asked: Asked,
+    number: usize,
+    sizes: &[u32],
+    file: &[u8],
+    answer: &mut Answer,
 ) -> Result<(), AllocError> {
-    add_word(answer, b"from ")?;
-    add_number(alloc, answer, len as u128)?;
-    add_word(answer, found)
-}
-
-/// The text that is added to the answer for the package in `file`.
-fn package_text(alloc: Global, file: &[u8], reading: Reading<'_>) -> Result<Vec<u8>, AllocError> {
-    let mut text = Vec::new(alloc);
-    add_package(alloc, file, reading, &mut text)?;
-    Ok(text)
+    let (mut tree, name) = tree_with(alloc, file)?;
+    let reading = match asked {
+        Asked::Read => Reading::CountedPieces,
+        _ => Reading::Pieces,
+    };
+    let text = package_text(alloc, &mut tree, &name, reading)?;
+    answer.push(text.as_bytes());
+    let files = low_word(sizes.len());
+    match asked {
+        // The file that is read again first does not exist.
+        Asked::Back => add_again(alloc, &mut tree, &name, None, files + 1, answer),
+        Asked::Change => {
+            let changed = package_of(alloc, sizes, Flaw::Spoiled(number))?;
+            add_again(alloc, &mut tree, &name, Some(&changed), files, answer)
+        }
+        _ => Ok(()),
+    }
 }
 
 // ---- a package in a tree
 
-/// Adds to `answer` the result of reading the package with these bytes, as a file in a tree.
-fn add_package(
-    alloc: Global,
-    file: &[u8],
-    reading: Reading<'_>,
-    answer: &mut Vec<u8>,
-) -> Result<(), AllocError> {
+/// A tree with a package of these bytes, and the name of the package in the tree.
+fn tree_with(alloc: Global, file: &[u8]) -> Result<(MemoryTree, Name), AllocError> {
     let Some(name) = Name::read(alloc, b"p")? else {
-        return Ok(());
+        return Err(AllocError);
     };
     let mut tree = MemoryTree::new(alloc);
-    put(&mut tree, &name, file)?;
-    add_readings(alloc, &mut tree, &name, reading, answer)
-}
-
-/// Puts a file into the tree, if the tree can have it.
-fn put(tree: &mut MemoryTree, name: &Name, bytes: &[u8]) -> Result<(), AllocError> {
-    if tree.can_put(name) {
-        tree.put(name, bytes)?;
+    if tree.can_put(&name) {
+        tree.put(&name, file)?;
     }
-    Ok(())
+    Ok((tree, name))
 }
 
-/// Adds to `answer` the result of reading the package under this name in the tree.
-fn add_readings(
+/// The result of reading the package under this name in the tree, as a text.
+fn package_text(
     alloc: Global,
     tree: &mut MemoryTree,
     name: &Name,
-    reading: Reading<'_>,
-    answer: &mut Vec<u8>,
-) -> Result<(), AllocError> {
-    match read_front(alloc, tree, name, PACKAGE_WORD) {
-        Ok(Some(front)) => add_after_front(alloc, tree, name, &front, reading, answer),
-        Ok(None) => add_word(answer, b"no file"),
-        Err(FrontFault::Bad(cause)) => add_cause(alloc, cause, answer),
-        Err(FrontFault::Disk) => add_word(answer, b"a fault"),
-        Err(FrontFault::Memory) => Err(AllocError),
-    }
-}
-
-/// Adds to `answer` the pieces of a package whose front (header and first block) was read. Then, if
-/// `reading` asks for them, adds the pieces of files that are read again, and the counts.
-fn add_after_front(
-    alloc: Global,
-    tree: &mut MemoryTree,
-    name: &Name,
-    front: &Front,
-    reading: Reading<'_>,
-    answer: &mut Vec<u8>,
-) -> Result<(), AllocError> {
+    reading: Reading,
+) -> Result<String, AllocError> {
+    let front = match read_front(alloc, tree, name, PACKAGE_WORD) {
+        Ok(Some(front)) => front,
+        Err(FrontFault::Bad(cause)) => return cause_text(alloc, cause),
+        // Not reached, as the tree has the file and does not fail.
+        Ok(None) | Err(FrontFault::Disk) => return format!(in alloc; "a fault"),
+        Err(FrontFault::Memory) => return Err(AllocError),
+    };
+    let contents = match Contents::new(alloc, &front) {
+        Ok(contents) => contents,
+        Err(PackageFault::Bad(cause)) => return cause_text(alloc, cause),
+        Err(PackageFault::Memory) => return Err(AllocError),
+    };
     // The number of calls on the tree so far.
     let calls = tree.calls();
-    let whole = add_contents(alloc, tree, name, front, reading.front, answer)?;
-    if whole && reading.back > 0 {
-        add_again(alloc, tree, name, reading, answer)?;
-    }
-    if reading.counts {
-        add_counts(alloc, tree, calls, answer)?;
-    }
-    Ok(())
-}
-
-/// Adds to `answer` how many calls on the tree followed the first `before` calls, and the length of
-/// the longest read.
-fn add_counts(
-    alloc: Global,
-    tree: &MemoryTree,
-    before: u64,
-    answer: &mut Vec<u8>,
-) -> Result<(), AllocError> {
-    let calls = tree.calls().saturating_sub(before);
-    add_word(answer, b"calls ")?;
-    add_number(alloc, answer, u128::from(calls))?;
-    add_word(answer, b"longest ")?;
-    add_number(alloc, answer, u128::from(tree.longest_read()))
-}
-
-/// Adds to `answer` the pieces of a package, or why its values are bad. Returns whether all pieces
-/// were read.
-fn add_contents(
-    alloc: Global,
-    tree: &mut MemoryTree,
-    name: &Name,
-    front: &Front,
-    front_alone: bool,
-    answer: &mut Vec<u8>,
-) -> Result<bool, AllocError> {
-    match Contents::new(alloc, front) {
-        Ok(contents) => add_pieces(alloc, tree, name, front, &contents, front_alone, answer),
-        Err(PackageFault::Bad(cause)) => {
-            add_cause(alloc, cause, answer)?;
-            Ok(false)
+    let mut reader = PieceReader::new(&front, &contents, name);
+    match reading {
+        Reading::Front => {
+            let folders = contents.view().paths().len();
+            format!(in alloc; "a package with folders: {folders}")
         }
-        Err(PackageFault::Memory) => Err(AllocError),
+        Reading::Pieces => pieces_text(alloc, tree, &mut reader),
+        Reading::CountedPieces => {
+            let pieces = pieces_text(alloc, tree, &mut reader)?;
+            let calls = tree.calls().saturating_sub(calls);
+            let longest = tree.longest_read();
+            format!(in alloc; "{pieces} calls {calls} longest {longest}")
+        }
     }
 }
 
-/// Adds to `answer` the number of the package's folders if only the front is read, and otherwise
-/// the pieces. Returns whether all pieces were read.
-fn add_pieces(
-    alloc: Global,
-    tree: &mut MemoryTree,
-    name: &Name,
-    front: &Front,
-    contents: &Contents<'_>,
-    front_alone: bool,
-    answer: &mut Vec<u8>,
-) -> Result<bool, AllocError> {
-    if front_alone {
-        return add_folders(alloc, contents, answer);
-    }
-    let mut reader = PieceReader::new(front, contents, name);
-    add_all(alloc, tree, &mut reader, answer)
-}
-
-/// Adds to `answer` how many folders the package has. Returns false, as no piece is read.
-fn add_folders(
-    alloc: Global,
-    contents: &Contents<'_>,
-    answer: &mut Vec<u8>,
-) -> Result<bool, AllocError> {
-    add_word(answer, b"a package with folders: ")?;
-    add_number(alloc, answer, contents.view().paths().len() as u128)?;
-    Ok(false)
-}
-
-/// Adds to `answer` all pieces that are left, and returns whether the end was reached. After a
-/// fault, one more call is made, and its result is added too.
-fn add_all(
+/// All pieces that are left, and `end` if the end was reached. After a fault, one more call is made,
+/// and the text has its result too.
+fn pieces_text(
     alloc: Global,
     tree: &mut MemoryTree,
     reader: &mut PieceReader<'_>,
-    answer: &mut Vec<u8>,
-) -> Result<bool, AllocError> {
+) -> Result<String, AllocError> {
+    let mut text = String::new(alloc);
     let mut piece = Piece::new();
     // Whether a call had a fault before.
     let mut faulty = false;
     for _ in 0..MOST {
-        match reader.next_piece(tree, &mut piece) {
-            Ok(Some(part)) => add_part(alloc, part, piece.bytes().len(), answer)?,
-            Ok(None) => {
-                add_word(answer, b"end")?;
-                return Ok(true);
-            }
-            Err(fault) => {
-                add_fault(alloc, fault, answer)?;
-                if faulty {
-                    return Ok(false);
-                }
-                faulty = true;
-            }
+        let step = reader.next_piece(tree, &mut piece);
+        let found: Result<String, AllocError> = match step {
+            Ok(Some(part)) => part_text(alloc, part, piece.bytes().len()),
+            Ok(None) => format!(in alloc; "end"),
+            Err(fault) => fault_text(alloc, fault),
+        };
+        if !text.is_empty() {
+            text.push_str(" ")?;
+        }
+        text.push_str(&found?)?;
+        match step {
+            Ok(Some(_)) => {}
+            Err(_) if !faulty => faulty = true,
+            _ => break,
         }
     }
-    Ok(false)
+    Ok(text)
 }
 
-/// Tests the package, and replaces it by `reading.changed`, if these are given. Then adds to
-/// `answer` the lengths of the pieces of the files, from the position `reading.back` to the first.
+/// Tests the package, and replaces it by `changed`, if these bytes are given. Then adds to `answer`
+/// the lengths of the pieces of the files, from the position `back` to the first, until a file has a
+/// fault.
 fn add_again(
     alloc: Global,
     tree: &mut MemoryTree,
     name: &Name,
-    reading: Reading<'_>,
-    answer: &mut Vec<u8>,
-) -> Result<(), AllocError> {
-    match read_package(alloc, tree, name) {
-        Ok(PackageRead::Sound(package)) => {
-            if let Some(bytes) = reading.changed {
-                put(tree, name, bytes)?;
-            }
-            add_files(alloc, tree, &package, reading.back, answer)
-        }
-        Ok(PackageRead::Bad(cause)) => add_cause(alloc, cause, answer),
-        Ok(PackageRead::Absent) => add_word(answer, b"no file"),
-        Err(TreeFault::Disk) => add_word(answer, b"a fault"),
-        Err(TreeFault::Memory) => Err(AllocError),
-    }
-}
-
-/// Adds to `answer` the lengths of the pieces of the files from the position `back` to the first,
-/// until a file has a fault.
-fn add_files(
-    alloc: Global,
-    tree: &mut MemoryTree,
-    package: &TestedPackage,
+    changed: Option<&[u8]>,
     back: u32,
-    answer: &mut Vec<u8>,
+    answer: &mut Answer,
 ) -> Result<(), AllocError> {
+    let package = match read_package(alloc, tree, name) {
+        Ok(PackageRead::Sound(package)) => package,
+        Ok(PackageRead::Bad(cause)) => {
+            add_formatted(answer, cause_text(alloc, cause));
+            return Ok(());
+        }
+        // Not reached, as the tree has the file and does not fail.
+        Ok(PackageRead::Absent) | Err(TreeFault::Disk) => {
+            answer.add_word(b"a fault");
+            return Ok(());
+        }
+        Err(TreeFault::Memory) => return Err(AllocError),
+    };
+    if let Some(bytes) = changed {
+        if tree.can_put(name) {
+            tree.put(name, bytes)?;
+        }
+    }
     for i in 0..back {
         // All files are in folder 1, and count from 1.
         let mut file = package.file(1, back - i);
-        if !add_file(alloc, tree, &mut file, answer)? {
-            return Ok(());
+        if !add_file(alloc, tree, &mut file, answer) {
+            break;
         }
     }
     Ok(())
@@ -395,40 +259,37 @@ fn add_file(
     alloc: Global,
     tree: &mut MemoryTree,
     file: &mut FilePieces<'_>,
-    answer: &mut Vec<u8>,
-) -> Result<bool, AllocError> {
+    answer: &mut Answer,
+) -> bool {
     let mut piece = Piece::new();
     // Whether a call had a fault before.
     let mut faulty = false;
     for _ in 0..MOST {
         match file.next_piece(tree, &mut piece) {
-            Ok(true) => add_len(alloc, &piece, answer)?,
+            Ok(true) => {
+                answer.add_word(b"");
+                answer.add_number(piece.bytes().len() as u128);
+            }
             Ok(false) => {
-                add_word(answer, b"end")?;
-                return Ok(true);
+                answer.add_word(b"end");
+                return true;
             }
             Err(fault) => {
-                add_fault(alloc, fault, answer)?;
+                add_formatted(answer, fault_text(alloc, fault));
                 if faulty {
-                    return Ok(false);
+                    return false;
                 }
                 faulty = true;
             }
         }
     }
-    Ok(false)
+    false
 }
 
-/// Adds to `answer` how many bytes a piece has.
-fn add_len(alloc: Global, piece: &Piece, answer: &mut Vec<u8>) -> Result<(), AllocError> {
-    add_word(answer, b"")?;
-    add_number(alloc, answer, piece.bytes().len() as u128)
-}
-
-/// Adds to `answer` why no piece was read: the cause of a failed test, or that the tree failed.
-fn add_fault(alloc: Global, fault: PieceFault, answer: &mut Vec<u8>) -> Result<(), AllocError> {
+/// Why no piece was read: the cause of a failed test, or that the tree failed.
+fn fault_text(alloc: Global, fault: PieceFault) -> Result<String, AllocError> {
     match fault {
-        PieceFault::Bad(cause) => add_cause(alloc, cause, answer),
-        PieceFault::Disk => add_word(answer, b"a fault"),
+        PieceFault::Bad(cause) => cause_text(alloc, cause),
+        PieceFault::Disk => format!(in alloc; "a fault"),
     }
 }
