@@ -42,11 +42,12 @@ pub(crate) fn add_owners(
 /// it. Then each listed file has `1` if its package owns it, else `0`. At the end is the first
 /// contested path, if there is one, with the indexes of its rivals.
 fn add_found(found: &Owners<'_>, answer: &mut Answer) {
-    for i in 0..found.owners.len().min(found.claims.len()) {
+    for i in 0..found.claims.len() {
         let path = &found.claims[i].path;
         // The claims, that is, the entries of packages for files, are in byte order of their
         // paths, so claims of one path are adjacent. The path is added at the first of them.
-        if i == 0 || !found.claims[i - 1].path.compare(path).is_eq() {
+        let is_first = i == 0 || !found.claims[i - 1].path.compare(path).is_eq();
+        if is_first && i < found.owners.len() {
             add_path(path, answer);
             answer.push(b"=");
             match found.owners[i] {
