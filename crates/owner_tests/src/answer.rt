@@ -4,6 +4,7 @@
 use adb_schema::FilePath;
 use db_core::{Db, MOST_MEMBERS, Members};
 use file_owners::{Owners, owners_of_files};
+use pkg_core::Front;
 use row_lines::Answer;
 use row_members::{add_coming, front_of};
 use std::alloc::{AllocError, Global};
@@ -24,9 +25,28 @@ pub(crate) fn add_owners(
         };
         fronts.push(front)?;
     }
-    let db = Db::empty(alloc);
-    let mut members = Members::new(alloc, &db);
-    for front in &fronts {
+    add_owners_of(alloc, &fronts, answer)
+}
+
+/// Does what `add_owners` does, given the fronts of the packages.
+fn add_owners_of<'a>(
+    alloc: Global,
+    fronts: &'a [Front],
+    answer: &mut Answer,
+) -> Result<(), AllocError> {
+    add_owners_beside(alloc, &Db::empty(alloc), fronts, answer)
+}
+
+/// Does what `add_owners` does, given the database before the change, of which no package is kept,
+/// and the fronts of the added packages.
+fn add_owners_beside<'a>(
+    alloc: Global,
+    db: &Db<'a>,
+    fronts: &'a [Front],
+    answer: &mut Answer,
+) -> Result<(), AllocError> {
+    let mut members = Members::new(alloc, db);
+    for front in fronts {
         if !add_coming(alloc, &mut members, front)? {
             answer.push(b"a package is bad or not in order");
             return Ok(());

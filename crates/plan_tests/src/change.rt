@@ -44,19 +44,43 @@ pub(crate) fn add_plan(
     answer: &mut Answer,
 ) -> Result<Vec<u8>, AllocError> {
     let file = database_file(alloc, &change.before)?;
-    let db = match Db::read(alloc, &file) {
-        Ok(db) => db,
+    add_plan_over(alloc, tree, &file, &change.after, purge, answer)
+}
+
+/// Does what `add_plan` does, given the file of the database before the change, and the packages
+/// after it.
+fn add_plan_over(
+    alloc: Global,
+    tree: &mut MemoryTree,
+    file: &[u8],
+    packages: &[PackageAfter],
+    purge: bool,
+    answer: &mut Answer,
+) -> Result<Vec<u8>, AllocError> {
+    match Db::read(alloc, file) {
+        Ok(db) => add_plan_of(alloc, tree, &db, packages, purge, answer),
         Err(ReadFault::Bad(_)) => {
             answer.push(b"the database is bad");
-            return Ok(Vec::new(alloc));
+            Ok(Vec::new(alloc))
         }
-        Err(ReadFault::Memory) => return Err(AllocError),
-    };
-    let Some(members) = members_of(alloc, &db, &change.after)? else {
+        Err(ReadFault::Memory) => Err(AllocError),
+    }
+}
+
+/// Does what `add_plan` does, given the database before the change, and the packages after it.
+fn add_plan_of(
+    alloc: Global,
+    tree: &mut MemoryTree,
+    db: &Db<'_>,
+    packages: &[PackageAfter],
+    purge: bool,
+    answer: &mut Answer,
+) -> Result<Vec<u8>, AllocError> {
+    let Some(members) = members_of(alloc, db, packages)? else {
         answer.push(b"a package is bad, absent or not in order");
         return Ok(Vec::new(alloc));
     };
-    match plan(alloc, &db, &members, tree, purge) {
+    match plan(alloc, db, &members, tree, purge) {
         Ok(found) => {
             add_files(&found, answer);
             if let Ok(file) = write_db(alloc, &members, found.owned()) {
