@@ -9,7 +9,7 @@ mod package;
 use answer::add_owners;
 use base_core::Words;
 use package::package_of;
-use row_lines::{Subject, run_program, value_named, word_at};
+use row_lines::{Answer, Subject, run_program, value_named, word_at};
 use std::alloc::{AllocError, Global};
 use std::io;
 use std::process::ExitCode;
@@ -46,23 +46,18 @@ impl Subject for AddedPackages {
         &mut self,
         alloc: Global,
         words: &Words,
-        answer: &mut Vec<u8>,
+        answer: &mut Answer,
     ) -> Result<(), AllocError> {
         match value_named(&QUESTIONS, word_at(words, 0)) {
-            Some(Question::New) => {
-                self.packages.clear();
-                Ok(())
-            }
+            Some(Question::New) => self.packages.clear(),
             Some(Question::Package) => match package_of(alloc, words)? {
-                Some(package) => {
-                    self.packages.push(package)?;
-                    Ok(())
-                }
-                None => answer.extend_from_slice(b"no package"),
+                Some(package) => self.packages.push(package)?,
+                None => answer.push(b"no package"),
             },
-            Some(Question::Owners) => add_owners(alloc, &self.packages, answer),
-            None => answer.extend_from_slice(b"no question"),
+            Some(Question::Owners) => return add_owners(alloc, &self.packages, answer),
+            None => answer.push(b"no question"),
         }
+        Ok(())
     }
 }
 

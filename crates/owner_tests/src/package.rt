@@ -6,6 +6,14 @@ use gen_core::{GenFault, gen_};
 use row_lines::word_at;
 use std::alloc::{AllocError, Global};
 
+/// The lines of a folder before those of its files, without the bytes before the first of them.
+const FOLDER_LINES: &[u8] =
+    b"acl:\n      mode: 493\n      user: root\n      group: root\n    files:\n";
+
+/// The lines of a file after its name.
+const FILE_LINES: &[u8] =
+    b"        acl:\n          mode: 420\n          user: root\n          group: root\n";
+
 /// The container of the package that a row `package NAME VERSION PRIORITY PATHS REPLACES..`
 /// describes. PATHS are those of empty files, with commas between them. Each of REPLACES is
 /// `NAME:VERSION:MATCH`, where MATCH are the match bits of the version operator. None if no
@@ -65,60 +73,37 @@ fn add_files(dump: &mut Vec<u8>, paths: &[u8]) -> Result<(), AllocError> {
     for path in paths.split(|byte| *byte == b',') {
         let (folder, name) = folder_and_name(path);
         if previous != Some(folder) {
-            add_folder(dump, folder)?;
+            // The root folder, whose name is empty, has no line with a name, so its first line is
+            // that of the access list.
+            add_field(dump, b"  - name: ", folder)?;
+            dump.extend_from_slice(if folder.is_empty() { b"  - " } else { b"    " })?;
+            dump.extend_from_slice(FOLDER_LINES)?;
         }
         previous = Some(folder);
         add_field(dump, b"      - name: ", name)?;
-        add_rights(
-            dump,
-            b"        acl:\n          mode: 420\n          user: ",
-            b"          group: ",
-        )?;
+        dump.extend_from_slice(FILE_LINES)?;
     }
     Ok(())
-}
-
-/// Adds the lines of a folder, down to the line before its files. The root folder, whose name is
-/// empty, has no line with a name.
-fn add_folder(dump: &mut Vec<u8>, folder: &[u8]) -> Result<(), AllocError> {
-    if folder.is_empty() {
-        add_rights(
-            dump,
-            b"  - acl:\n      mode: 493\n      user: ",
-            b"      group: ",
-        )?;
-    } else {
-        add_field(dump, b"  - name: ", folder)?;
-        add_rights(
-            dump,
-            b"    acl:\n      mode: 493\n      user: ",
-            b"      group: ",
-        )?;
-    }
-    dump.extend_from_slice(b"    files:\n")
-}
-
-/// Adds the lines of an access list whose user and group are `root`. `user` and `group` are the
-/// texts that precede these two names.
-fn add_rights(dump: &mut Vec<u8>, user: &[u8], group: &[u8]) -> Result<(), AllocError> {
-    add_field(dump, user, b"root")?;
-    add_field(dump, group, b"root")
 }
 
 /// The text before the first byte `mark`, and the text after it. Without such a byte, the whole
 /// text and an empty one.
 fn split_at_first(text: &[u8], mark: u8) -> (&[u8], &[u8]) {
-    match text.iter().position(|byte| *byte == mark) {
-        Some(i) if i < text.len() => (&text[..i], &text[i + 1..]),
-        _ => (text, b""),
+    for i in 0..text.len() {
+        if text[i] == mark {
+            return (&text[..i], &text[i + 1..]);
+        }
     }
+    (text, b"")
 }
 
 /// The folder of a path, before its last slash, and the name after it. Without a slash the folder
 /// is empty.
 fn folder_and_name(path: &[u8]) -> (&[u8], &[u8]) {
-    match path.iter().rposition(|byte| *byte == b'/') {
-        Some(i) if i < path.len() => (&path[..i], &path[i + 1..]),
-        _ => (b"", path),
+    for i in (0..path.len()).rev() {
+        if path[i] == b'/' {
+            return (&path[..i], &path[i + 1..]);
+        }
     }
+    (b"", path)
 }

@@ -10,11 +10,10 @@ mod package;
 
 use adb_schema::ReadFault;
 use base_core::{Name, Words};
-use change::{ToldChange, add_plan};
+use change::{PackageAfter, ToldChange, add_plan};
 use db_core::Db;
-use row_lines::{
-    Subject, add_yes_or_no, number_of, run_program, value_named, word_at, words_behind,
-};
+use package::{added_package, number_in};
+use row_lines::{Answer, Subject, run_program, value_named, word_at, words_behind};
 use std::alloc::{AllocError, Global};
 use std::io;
 use std::process::ExitCode;
@@ -27,17 +26,20 @@ enum Question {
     New,
     /// `installed NAME VERSION PRIORITY FILES REPLACES ..`: a package before the change.
     Installed,
-    /// A package after the change: `stays NAME` for a kept one, and
-    /// `comes NAME VERSION PRIORITY FILES REPLACES ..` for an added one.
-    PackageAfter,
+    /// `stays NAME`: a kept package after the change.
+    Stays,
+    /// `comes NAME VERSION PRIORITY FILES REPLACES ..`: an added package after the change.
+    Comes,
     /// `file PATH BYTES`: a file is put into the tree.
     File,
     /// `fail_at N`: call number N on the tree will fail.
     Fail,
-    /// `plan`: the plan of the change.
-    Plan,
-    /// `purge`: the plan of the change with `--purge`.
-    Purge,
+    /// `plan`: the plan of the change, or `purge`: its plan with `--purge`, by which configuration
+    /// files that the user changed are removed with their package.
+    Plan {
+        /// Whether the plan is that with `--purge`.
+        purge: bool,
+    },
     /// `calls N`: whether the last plan made at most N calls on the tree.
     Calls,
     /// `owner PATH`: the package that lists PATH in the database after the last plan.
@@ -49,12 +51,12 @@ enum Question {
 const QUESTIONS: [(&[u8], Question); 10] = [
     (b"new", Question::New),
     (b"installed", Question::Installed),
-    (b"stays", Question::PackageAfter),
-    (b"comes", Question::PackageAfter),
+    (b"stays", Question::Stays),
+    (b"comes", Question::Comes),
     (b"file", Question::File),
     (b"fail_at", Question::Fail),
-    (b"plan", Question::Plan),
-    (b"purge", Question::Purge),
+    (b"plan", Question::Plan { purge: false }),
+    (b"purge", Question::Plan { purge: true }),
     (b"calls", Question::Calls),
     (b"owner", Question::Owner),
 ];
@@ -79,29 +81,11 @@ impl Planned {
             change: ToldChange {
                 before: Vec::new(alloc),
                 after: Vec::new(alloc),
-                purge: false,
             },
             tree: MemoryTree::new(alloc),
             calls_of_plan: 0,
             database: Vec::new(alloc),
         }
-    }
-
-    /// Adds to the answer the plan of the change, or why it has none. With `purge`, configuration
-    /// files that the user changed are removed with their package.
-    fn plan(&mut self, alloc: Global, purge: bool, answer: &mut Vec<u8>) -> Result<(), AllocError> {
-        self.change.purge = purge;
-        let calls_before = self.tree.calls();
-        self.database = add_plan(alloc, &mut self.tree, &self.change, answer)?;
-        self.calls_of_plan = self.tree.calls().saturating_sub(calls_before);
-        Ok(())
-    }
-
-    /// Answers `calls N`: adds to the answer whether the last plan made at most N calls on the
-    /// tree.
-    fn add_calls(&self, words: &Words, answer: &mut Vec<u8>) -> Result<(), AllocError> {
-        let most = number_of(word_at(words, 1)).unwrap_or(0);
-        add_yes_or_no(answer, u128::from(self.calls_of_plan) <= most)
     }
 }
 
@@ -111,35 +95,38 @@ impl Subject for Planned {
         &mut self,
         alloc: Global,
         words: &Words,
-        answer: &mut Vec<u8>,
+        answer: &mut Answer,
     ) -> Result<(), AllocError> {
         let Some(question) = value_named(&QUESTIONS, word_at(words, 0)) else {
-            return answer.extend_from_slice(b"no question");
+            answer.push(b"no question");
+            return Ok(());
         };
+        // What most questions are about: a name, a path or a number.
+        let subject = word_at(words, 1);
         match question {
-            Question::New => {
-                *self = Planned::new(alloc);
-                Ok(())
+            Question::New => *self = Planned::new(alloc),
+            // The package is described by all words of the row.
+            Question::Installed => self.change.before.push(words_behind(alloc, words, 0)?)?,
+            Question::Stays => {
+                let name = Vec::from_slice(alloc, subject)?;
+                self.change.after.push(PackageAfter::Kept(name))?
             }
-            Question::Installed => {
-                // The package is described by all words of the row.
-                self.change.before.push(words_behind(alloc, words, 0)?)?;
-                Ok(())
+            Question::Comes => {
+                let front = added_package(alloc, words)?;
+                self.change.after.push(PackageAfter::Added(front))?
             }
-            Question::PackageAfter => {
-                // The package is described by all words of the row.
-                self.change.after.push(words_behind(alloc, words, 0)?)?;
-                Ok(())
+            Question::File => return put_file(alloc, &mut self.tree, words, answer),
+            // The calls on the tree count from this row on, and the first one is number 1.
+            Question::Fail => return self.tree.fail_at(&[number_in(subject)]),
+            Question::Plan { purge } => {
+                let calls_before = self.tree.calls();
+                self.database = add_plan(alloc, &mut self.tree, &self.change, purge, answer)?;
+                self.calls_of_plan = self.tree.calls().saturating_sub(calls_before)
             }
-            Question::File => put_file(alloc, &mut self.tree, words, answer),
-            Question::Fail => fail_at(alloc, &mut self.tree, words),
-            // Without `--purge`.
-            Question::Plan => self.plan(alloc, false, answer),
-            // With `--purge`.
-            Question::Purge => self.plan(alloc, true, answer),
-            Question::Calls => self.add_calls(words, answer),
-            Question::Owner => add_owner(alloc, &self.database, word_at(words, 1), answer),
+            Question::Calls => answer.add_yes_or_no(self.calls_of_plan <= number_in(subject)),
+            Question::Owner => return add_owner(alloc, &self.database, subject, answer),
         }
+        Ok(())
     }
 }
 
@@ -149,24 +136,14 @@ fn put_file(
     alloc: Global,
     tree: &mut MemoryTree,
     words: &Words,
-    answer: &mut Vec<u8>,
+    answer: &mut Answer,
 ) -> Result<(), AllocError> {
-    let Some(name) = Name::read(alloc, word_at(words, 1))? else {
-        return answer.extend_from_slice(b"no name");
-    };
-    if !tree.can_put(&name) {
-        return answer.extend_from_slice(b"no place");
+    match Name::read(alloc, word_at(words, 1))? {
+        Some(name) if tree.can_put(&name) => return tree.put(&name, word_at(words, 2)),
+        Some(_) => answer.push(b"no place"),
+        None => answer.push(b"no name"),
     }
-    tree.put(&name, word_at(words, 2))
-}
-
-/// Answers `fail_at N`: the call number N on the tree from now on, counted from 1, will fail.
-fn fail_at(alloc: Global, tree: &mut MemoryTree, words: &Words) -> Result<(), AllocError> {
-    let number = number_of(word_at(words, 1)).unwrap_or(0);
-    let call = u64::try_from(number).unwrap_or(0);
-    let mut calls = Vec::new(alloc);
-    calls.push(call)?;
-    tree.fail_at(&calls)
+    Ok(())
 }
 
 /// Answers `owner PATH`: adds to the answer the name of the package that lists PATH in the database
@@ -175,19 +152,21 @@ fn add_owner(
     alloc: Global,
     file: &[u8],
     path: &[u8],
-    answer: &mut Vec<u8>,
+    answer: &mut Answer,
 ) -> Result<(), AllocError> {
     let Some(path) = Name::read(alloc, path)? else {
-        return answer.extend_from_slice(b"no name");
+        answer.push(b"no name");
+        return Ok(());
     };
     match Db::read(alloc, file) {
         Ok(db) => match db.owner_of(&path) {
-            Some(index) => answer.extend_from_slice(db.package(index).info().name()),
-            None => answer.extend_from_slice(b"none"),
+            Some(index) => answer.push(db.package(index).info().name()),
+            None => answer.push(b"none"),
         },
-        Err(ReadFault::Bad(_)) => answer.extend_from_slice(b"bad"),
-        Err(ReadFault::Memory) => Err(AllocError),
+        Err(ReadFault::Bad(_)) => answer.push(b"bad"),
+        Err(ReadFault::Memory) => return Err(AllocError),
     }
+    Ok(())
 }
 
 /// Answers the rows of standard input, one after another.

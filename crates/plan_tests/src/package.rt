@@ -4,9 +4,11 @@
 
 use adb_schema::{IDB_WORD, PACKAGE_WORD};
 use adb_view::Val;
-use adb_write::{Writer, file_of};
+use adb_write::{Writer, file_in_place};
 use base_core::Words;
+use pkg_core::Front;
 use row_lines::{number_of, word_at};
+use row_members::front_of;
 use sha1::Sha1;
 use sha2::{Digest, Sha256};
 use std::alloc::{AllocError, Global};
@@ -33,15 +35,12 @@ const TARGET: usize = 5;
 /// The bytes before the text of a link's target (`docs/formats.md`, "The texts", field 406).
 const LINK: &[u8] = b"\x00\xa0";
 
-/// The bytes one of which may follow a path in the list of files of a row. After it the row
-/// describes the file (`write_file`).
-const MARKS: &[u8] = b"=#:>";
-
-/// The container of the package that the row describes, without the contents of its files.
-pub(crate) fn package_file(alloc: Global, row: &Words) -> Result<Vec<u8>, AllocError> {
+/// The front (header and first block) of the package that the row describes, or None if the package
+/// fails a test. Its container is without the contents of its files.
+pub(crate) fn added_package(alloc: Global, row: &Words) -> Result<Option<Front>, AllocError> {
     let mut writer = Writer::new(alloc);
     let root = write_package(alloc, &mut writer, row)?;
-    container(alloc, writer, root, PACKAGE_WORD)
+    front_of(alloc, &container(writer, root, PACKAGE_WORD)?)
 }
 
 /// The container of a database with the packages that these rows describe.
@@ -54,19 +53,16 @@ pub(crate) fn database_file(alloc: Global, rows: &[Words]) -> Result<Vec<u8>, Al
     let packages = writer.arr(&packages)?;
     let fields = [packages];
     let root = writer.obj(&fields)?;
-    container(alloc, writer, root, IDB_WORD)
+    container(writer, root, IDB_WORD)
 }
 
 /// The container whose payload is that of `writer`, with the root value `root`. A payload that is
 /// too large counts as out of memory.
-fn container(alloc: Global, writer: Writer, root: Val, schema: u32) -> Result<Vec<u8>, AllocError> {
-    let Ok(payload) = writer.finish(root) else {
-        return Err(AllocError);
-    };
-    if payload.len() > MOST_BYTES {
-        return Err(AllocError);
+fn container(writer: Writer, root: Val, schema: u32) -> Result<Vec<u8>, AllocError> {
+    match writer.finish(root) {
+        Ok(payload) if payload.len() <= MOST_BYTES => file_in_place(schema, payload),
+        _ => Err(AllocError),
     }
-    file_of(alloc, schema, &payload)
 }
 
 /// Writes the package that a row `WORD NAME VERSION PRIORITY FILES REPLACES..` describes, and
@@ -87,8 +83,8 @@ fn write_package(alloc: Global, writer: &mut Writer, row: &Words) -> Result<Val,
     writer.obj(&fields)
 }
 
-/// The decimal number in a word of a row, or 0 if the word is no number.
-fn number_in(word: &[u8]) -> u64 {
+/// The number in a word of a row, or 0 if the word is no number of at most 64 bits.
+pub(crate) fn number_in(word: &[u8]) -> u64 {
     u64::try_from(number_of(word).unwrap_or(0)).unwrap_or(0)
 }
 
@@ -100,88 +96,59 @@ fn write_number(writer: &mut Writer, number: u64) -> Result<Val, AllocError> {
     writer.int(number)
 }
 
-/// Writes the field `replaces` of the package: the words of the row from the sixth on.
+/// Writes the field `replaces` of the package: its entries are the words of the row from the sixth
+/// on, in the form `NAME:VERSION:MATCH`.
 fn write_replaces(alloc: Global, writer: &mut Writer, row: &Words) -> Result<Val, AllocError> {
     let mut replaces = Vec::new(alloc);
     for i in 5..row.len() {
-        replaces.push(write_replaced(writer, row.word(i))?)?;
+        let (name, rest) = split_at_first(row.word(i), b':');
+        let (version, matching) = split_at_first(rest, b':');
+        let name = writer.blob(name)?;
+        let version = writer.blob(version)?;
+        let matching = write_number(writer, number_in(matching))?;
+        replaces.push(writer.obj(&[name, version, matching])?)?;
     }
     writer.arr(&replaces)
-}
-
-/// Writes an entry of `replaces`, from its text `NAME:VERSION:MATCH` in a row.
-fn write_replaced(writer: &mut Writer, word: &[u8]) -> Result<Val, AllocError> {
-    let (name, rest) = split_at_first(word, b':');
-    let (version, matching) = split_at_first(rest, b':');
-    let name = writer.blob(name)?;
-    let version = writer.blob(version)?;
-    let matching = write_number(writer, number_in(matching))?;
-    let fields = [name, version, matching];
-    writer.obj(&fields)
-}
-
-/// The folders of a package that are written so far, and the files that are written so far of the
-/// folder that is to be written next.
-#[derive(Drop)]
-struct Folders {
-    /// The words (32-bit references) of the folders that are written so far.
-    written: Vec<Val>,
-    /// The words of those files of the next folder that are written so far.
-    files: Vec<Val>,
 }
 
 /// Writes the folders of a package with their files, from the list FILES of a row. Adjacent files
 /// of the list that have the same folder are in one folder of the package.
 fn write_folders(alloc: Global, writer: &mut Writer, files: &[u8]) -> Result<Val, AllocError> {
-    let mut folders = Folders {
-        written: Vec::new(alloc),
-        files: Vec::new(alloc),
-    };
-    // The folder of the previous file of the list.
-    let mut previous: Option<&[u8]> = None;
-    for file in files.split(|byte| *byte == b',') {
-        let (path, _) = path_and_description(file);
-        let (folder, _) = folder_and_name(path);
-        if previous != Some(folder) {
-            folders.end(writer, previous)?;
-        }
-        folders.add(alloc, writer, file)?;
-        previous = Some(folder);
-    }
     if files.is_empty() {
         return Ok(Val::of(0));
     }
-    folders.end(writer, previous)?;
-    writer.arr(&folders.written)
+    // The folders that are written so far, and the written files of the next one.
+    let mut folders = Vec::new(alloc);
+    let mut written = Vec::new(alloc);
+    // The folder of the previous file of the list.
+    let mut previous: Option<&[u8]> = None;
+    for file in files.split(|byte| *byte == b',') {
+        let (path, description) = path_and_description(file);
+        let (folder, name) = folder_and_name(path);
+        if let Some(ended) = previous {
+            if ended != folder {
+                folders.push(write_folder(writer, ended, &written)?)?;
+                written.clear();
+            }
+        }
+        // A path that ends in a slash is a folder without files.
+        if !name.is_empty() {
+            written.push(write_file(alloc, writer, name, description)?)?;
+        }
+        previous = Some(folder);
+    }
+    if let Some(ended) = previous {
+        folders.push(write_folder(writer, ended, &written)?)?;
+    }
+    writer.arr(&folders)
 }
 
-impl Folders {
-    /// Writes a file of the next folder. A path that ends in a slash is a folder without files.
-    fn add(&mut self, alloc: Global, writer: &mut Writer, file: &[u8]) -> Result<(), AllocError> {
-        let (path, description) = path_and_description(file);
-        let (_, name) = folder_and_name(path);
-        if name.is_empty() {
-            return Ok(());
-        }
-        let file = write_file(alloc, writer, name, description)?;
-        self.files.push(file)?;
-        Ok(())
-    }
-
-    /// Writes the folder with this name and the files that were written for it, if there is one.
-    fn end(&mut self, writer: &mut Writer, folder: Option<&[u8]>) -> Result<(), AllocError> {
-        let Some(name) = folder else {
-            return Ok(());
-        };
-        let name = writer.blob(name)?;
-        let files = writer.arr(&self.files)?;
-        // The word 0 is null: no access list.
-        let fields = [name, Val::of(0), files];
-        let written = writer.obj(&fields)?;
-        self.written.push(written)?;
-        self.files.clear();
-        Ok(())
-    }
+/// Writes the folder with this name and with these files, which are written already.
+fn write_folder(writer: &mut Writer, name: &[u8], files: &[Val]) -> Result<Val, AllocError> {
+    let name = writer.blob(name)?;
+    let files = writer.arr(files)?;
+    // The word 0 is null: no access list.
+    writer.obj(&[name, Val::of(0), files])
 }
 
 /// Writes the entry of a file. The description follows the path in the row: `=BYTES` stands for
@@ -205,42 +172,45 @@ fn write_file(
             fields[HASHES] = writer.blob(&Sha1::digest(bytes))?;
         }
         [b':', size @ ..] => fields[SIZE] = write_number(writer, number_in(size))?,
-        [b'>', text @ ..] => fields[TARGET] = write_target(alloc, writer, text)?,
+        [b'>', text @ ..] => {
+            let mut target = Vec::from_slice(alloc, LINK)?;
+            target.extend_from_slice(text)?;
+            fields[TARGET] = writer.blob(&target)?;
+        }
         _ => {}
     }
     writer.obj(&fields)
 }
 
-/// Writes the target of a symbolic link with this text.
-fn write_target(alloc: Global, writer: &mut Writer, text: &[u8]) -> Result<Val, AllocError> {
-    let mut target = Vec::from_slice(alloc, LINK)?;
-    target.extend_from_slice(text)?;
-    writer.blob(&target)
-}
-
 /// Splits an entry of the list FILES into the path, and the description, which begins with one of
-/// `MARKS`, or is empty.
+/// the bytes that `write_file` knows, or is empty.
 fn path_and_description(file: &[u8]) -> (&[u8], &[u8]) {
-    match file.iter().position(|byte| MARKS.contains(byte)) {
-        Some(i) if i < file.len() => (&file[..i], &file[i..]),
-        _ => (file, b""),
+    for i in 0..file.len() {
+        if matches!(file[i], b'=' | b'#' | b':' | b'>') {
+            return (&file[..i], &file[i..]);
+        }
     }
+    (file, b"")
 }
 
 /// The text before the first byte `mark`, and the text after it. Without such a byte, the whole
 /// text and an empty one.
 fn split_at_first(text: &[u8], mark: u8) -> (&[u8], &[u8]) {
-    match text.iter().position(|byte| *byte == mark) {
-        Some(i) if i < text.len() => (&text[..i], &text[i + 1..]),
-        _ => (text, b""),
+    for i in 0..text.len() {
+        if text[i] == mark {
+            return (&text[..i], &text[i + 1..]);
+        }
     }
+    (text, b"")
 }
 
 /// The folder of a path, before its last slash, and the name after it. Without a slash the folder
 /// is empty.
 fn folder_and_name(path: &[u8]) -> (&[u8], &[u8]) {
-    match path.iter().rposition(|byte| *byte == b'/') {
-        Some(i) if i < path.len() => (&path[..i], &path[i + 1..]),
-        _ => (b"", path),
+    for i in (0..path.len()).rev() {
+        if path[i] == b'/' {
+            return (&path[..i], &path[i + 1..]);
+        }
     }
+    (b"", path)
 }
