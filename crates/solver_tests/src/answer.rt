@@ -7,10 +7,10 @@ use adb_view::Adb;
 use base_core::Words;
 use dep_core::{World, read_dep};
 use pool_core::{CandId, Need, Pool, PoolFault, Sealed, Upgrade};
-use row_lines::{add_number, add_word, value_named};
+use row_lines::value_named;
 use row_packages::{Row, split_word};
-use solve_core::{Trace, solve};
-use std::alloc::{AllocError, AllocFailed, Global};
+use solve_core::solve;
+use std::alloc::{AllocError, Global};
 
 /// The most names that a command upgrades in a row; with more the answer is `no row`.
 const MOST_NAMES: usize = 1000;
@@ -32,13 +32,6 @@ enum RowFault {
 impl From<AllocError> for RowFault {
     // Out of memory, as the reason why a row has no answer.
     fn from(_: AllocError) -> RowFault {
-        RowFault::Memory
-    }
-}
-
-impl<T: Drop> From<AllocFailed<T>> for RowFault {
-    // Out of memory, in calls that return the value that was not stored.
-    fn from(_: AllocFailed<T>) -> RowFault {
         RowFault::Memory
     }
 }
@@ -110,30 +103,21 @@ struct Command<'a> {
 /// The answer to a question, computed as often as the row says, or why there is none.
 pub(crate) fn answer(alloc: Global, row: &Row<'_>, query: &[u8]) -> Result<Vec<u8>, AllocError> {
     let mut text = Vec::new(alloc);
-    add_answer(alloc, row, query, &mut text)?;
+    match add_answer(alloc, row, query, &mut text) {
+        Ok(()) => {}
+        Err(RowFault::Memory) => return Err(AllocError),
+        Err(RowFault::Text) => text.extend_from_slice(NO_ROW)?,
+        Err(RowFault::TooMany(count)) => {
+            add_number(alloc, u128::from(count), &mut text)?;
+            text.extend_from_slice(b" candidates are too many")?;
+        }
+    }
     Ok(text)
 }
 
-// Appends the answer to a question to `text`, or why there is none.
+// Reads the question, world and the names to upgrade. Computes the answer as often as the row says
+// (`times N`), and leaves the last answer in `text`.
 fn add_answer(
-    alloc: Global,
-    row: &Row<'_>,
-    query: &[u8],
-    text: &mut Vec<u8>,
-) -> Result<(), AllocError> {
-    match add_to_answer(alloc, row, query, text) {
-        Ok(()) => Ok(()),
-        Err(RowFault::Memory) => Err(AllocError),
-        Err(RowFault::Text) => text.extend_from_slice(NO_ROW),
-        Err(RowFault::TooMany(count)) => {
-            add_number(alloc, text, u128::from(count))?;
-            text.extend_from_slice(b" candidates are too many")
-        }
-    }
-}
-
-// Reads the question, world and the names to upgrade, and appends the answer to `text`.
-fn add_to_answer(
     alloc: Global,
     row: &Row<'_>,
     query: &[u8],
@@ -149,22 +133,15 @@ fn add_to_answer(
     let upgraded = words_of(alloc, row.upgraded)?;
     let command = Command {
         world: &world,
-        upgrade: upgrade_of(row.upgraded, &upgraded),
+        upgrade: match row.upgraded {
+            b"" => Upgrade::Nothing,
+            b"all" => Upgrade::All,
+            _ => Upgrade::Listed(&upgraded),
+        },
     };
-    add_last_answer(alloc, row, command, Query { question, rest }, text)
-}
-
-// Computes the answer as often as the row says (`times N`), and leaves the last answer in `text`.
-fn add_last_answer(
-    alloc: Global,
-    row: &Row<'_>,
-    command: Command<'_>,
-    query: Query<'_>,
-    text: &mut Vec<u8>,
-) -> Result<(), RowFault> {
     for _ in 0..row.times {
         text.clear();
-        add_one_answer(alloc, row, command, query, text)?;
+        add_one_answer(alloc, row, command, Query { question, rest }, text)?;
     }
     Ok(())
 }
@@ -179,48 +156,33 @@ fn add_one_answer(
     text: &mut Vec<u8>,
 ) -> Result<(), RowFault> {
     match query.question {
-        Question::Bytes => add_count(alloc, byte_count(row), text),
-        Question::Packages => add_count(alloc, package_count(alloc, row)?, text),
+        Question::Bytes => Ok(add_number(alloc, byte_count(row), text)?),
+        Question::Packages => Ok(add_number(alloc, package_count(alloc, row)?, text)?),
         Question::Twice => add_two_counts(alloc, row, command, text),
-        _ => add_answer_of_row(alloc, row, command, query, text),
+        _ => {
+            let pool = sealed(alloc, row, command.world, command.upgrade)?;
+            Ok(add_answer_of_pool(alloc, &pool, command.world, query, text)?)
+        }
     }
 }
 
-// Makes the pool of candidates of the row, and appends the answer about this pool.
-fn add_answer_of_row(
-    alloc: Global,
-    row: &Row<'_>,
-    command: Command<'_>,
-    query: Query<'_>,
-    text: &mut Vec<u8>,
-) -> Result<(), RowFault> {
-    let pool = sealed(alloc, row, command.world, command.upgrade)?;
-    Ok(add_answer_of_pool(alloc, &pool, command.world, query, text)?)
-}
-
-// Appends a count in decimal digits.
-fn add_count(alloc: Global, count: u64, text: &mut Vec<u8>) -> Result<(), RowFault> {
-    Ok(add_number(alloc, text, u128::from(count))?)
-}
-
 // How many bytes the payloads of the repositories' indexes have.
-fn byte_count(row: &Row<'_>) -> u64 {
-    let mut count = 0u64;
+fn byte_count(row: &Row<'_>) -> u128 {
+    let mut count = 0u128;
     for repository in &row.repositories {
-        count = count.saturating_add(repository.payload.len() as u64);
+        count = count.saturating_add(repository.payload.len() as u128);
     }
     count
 }
 
 // How many packages the repositories have, after their indexes were tested.
-fn package_count(alloc: Global, row: &Row<'_>) -> Result<u64, RowFault> {
-    let mut count = 0u64;
+fn package_count(alloc: Global, row: &Row<'_>) -> Result<u128, RowFault> {
+    let mut count = 0u128;
     for repository in &row.repositories {
         let Some(view) = view_of(alloc, &repository.payload) else {
             return Err(RowFault::Text);
         };
-        let packages = view.packages();
-        count = count.saturating_add(packages.len() as u64);
+        count = count.saturating_add(view.packages().len() as u128);
     }
     Ok(count)
 }
@@ -233,32 +195,9 @@ fn add_two_counts(
     text: &mut Vec<u8>,
 ) -> Result<(), RowFault> {
     let first = sealed(alloc, row, command.world, command.upgrade)?;
-    add_counts_with_second_pool(alloc, row, command, &first, text)
-}
-
-// Appends the number of candidates of a pool, and that of a second pool, which is made of the same
-// row.
-fn add_counts_with_second_pool(
-    alloc: Global,
-    row: &Row<'_>,
-    command: Command<'_>,
-    first: &Sealed<'_>,
-    text: &mut Vec<u8>,
-) -> Result<(), RowFault> {
     let second = sealed(alloc, row, command.world, command.upgrade)?;
-    Ok(add_counts(alloc, first.len(), second.len(), text)?)
-}
-
-// Appends two numbers in decimal digits, with a space between them.
-fn add_counts(
-    alloc: Global,
-    first: usize,
-    second: usize,
-    text: &mut Vec<u8>,
-) -> Result<(), AllocError> {
-    add_number(alloc, text, first as u128)?;
-    text.push(b' ')?;
-    add_number(alloc, text, second as u128)
+    let counts = format!(in alloc; "{} {}", first.len(), second.len())?;
+    Ok(text.extend_from_slice(counts.as_bytes())?)
 }
 
 // ---- the pool
@@ -273,50 +212,24 @@ fn sealed<'a>(
 ) -> Result<Sealed<'a>, RowFault>
     ensures { IfOk result (λ sealed. world.entry.now ≡ sealed.world) }
 {
-    let pool = pool_of(alloc, row)?;
-    Ok(pool.seal(world, upgrade)?)
-}
-
-// The pool of the packages of all repositories and of the installed packages, without a world.
-fn pool_of<'a>(alloc: Global, row: &'a Row<'a>) -> Result<Pool<'a>, RowFault> {
     let mut pool = Pool::new(alloc);
-    add_repositories(alloc, row, &mut pool)?;
-    if let Some(payload) = &row.installed {
-        add_installed(alloc, payload, &mut pool)?;
-    }
-    Ok(pool)
-}
-
-// Adds the packages of all repositories to the pool.
-fn add_repositories<'a>(
-    alloc: Global,
-    row: &'a Row<'a>,
-    pool: &mut Pool<'a>,
-) -> Result<(), RowFault> {
     for repository in &row.repositories {
         let Some(view) = view_of(alloc, &repository.payload) else {
             return Err(RowFault::Text);
         };
         pool.add_index(view, repository.number, repository.tag)?;
     }
-    Ok(())
-}
-
-// Adds the installed packages to the pool.
-fn add_installed<'a>(
-    alloc: Global,
-    payload: &'a [u8],
-    pool: &mut Pool<'a>,
-) -> Result<(), RowFault> {
-    let Some(view) = view_of(alloc, payload) else {
-        return Err(RowFault::Text);
-    };
-    let packages = view.packages();
-    for i in 0..packages.len() {
-        // Packages of the list count from 1.
-        pool.add_installed(packages.get(i + 1))?;
+    if let Some(payload) = &row.installed {
+        let Some(view) = view_of(alloc, payload) else {
+            return Err(RowFault::Text);
+        };
+        let packages = view.packages();
+        for i in 0..packages.len() {
+            // Packages of the list count from 1.
+            pool.add_installed(packages.get(i + 1))?;
+        }
     }
-    Ok(())
+    Ok(pool.seal(world, upgrade)?)
 }
 
 // The view of a payload as an index; None if the payload fails a test.
@@ -339,17 +252,6 @@ fn words_of(alloc: Global, text: &[u8]) -> Result<Words, RowFault> {
     Ok(words)
 }
 
-// Which names are upgraded: none if the text is empty, all if it is `all`, and else those listed.
-fn upgrade_of<'a>(text: &[u8], words: &'a Words) -> Upgrade<'a> {
-    if text.is_empty() {
-        return Upgrade::Nothing;
-    }
-    if text == b"all".as_slice() {
-        return Upgrade::All;
-    }
-    Upgrade::Listed(words)
-}
-
 // ---- answers of the pool
 
 // Appends the answer to a question about a pool of candidates. The given world must be that of the
@@ -365,25 +267,18 @@ fn add_answer_of_pool(
 {
     match query.question {
         Question::Offers => add_candidates(alloc, pool, pool.offers(query.rest), text),
-        Question::Options => add_options_of_text(alloc, pool, query.rest, text),
+        Question::Options => match read_dep(query.rest) {
+            Some(dep) => add_options(alloc, pool, &Need::Entry(dep), text),
+            None => text.extend_from_slice(NO_ROW),
+        },
         Question::Named => add_options(alloc, pool, &Need::Named(query.rest), text),
         Question::Select => add_selection(alloc, pool, world, text),
-        Question::Count => add_selection_count(alloc, pool, world, text),
+        Question::Count => match solve(alloc, pool, world)? {
+            Some(trace) => add_number(alloc, trace.len() as u128, text),
+            None => text.extend_from_slice(b"none"),
+        },
         // The question `candidates`.
-        _ => add_number(alloc, text, pool.len() as u128),
-    }
-}
-
-// Appends the candidates for a dependency, best first, or `no row` if the text is no dependency.
-fn add_options_of_text(
-    alloc: Global,
-    pool: &Sealed<'_>,
-    dependency: &[u8],
-    text: &mut Vec<u8>,
-) -> Result<(), AllocError> {
-    match read_dep(dependency) {
-        Some(dep) => add_options(alloc, pool, &Need::Entry(dep), text),
-        None => text.extend_from_slice(NO_ROW),
+        _ => add_number(alloc, pool.len() as u128, text),
     }
 }
 
@@ -409,35 +304,9 @@ fn add_selection(
 ) -> Result<(), AllocError>
     requires { world.now ≡ pool.now.world }
 {
-    match solve(alloc, pool, world)? {
-        Some(trace) => add_choices(alloc, pool, &trace, text),
-        None => text.extend_from_slice(b"none"),
-    }
-}
-
-// Appends how many candidates the preferred selection has, or `none`. The given world must be that
-// of the pool.
-fn add_selection_count(
-    alloc: Global,
-    pool: &Sealed<'_>,
-    world: &World,
-    text: &mut Vec<u8>,
-) -> Result<(), AllocError>
-    requires { world.now ≡ pool.now.world }
-{
-    match solve(alloc, pool, world)? {
-        Some(trace) => add_number(alloc, text, trace.len() as u128),
-        None => text.extend_from_slice(b"none"),
-    }
-}
-
-// Appends the candidates of a selection, in the order in which the solver chose them.
-fn add_choices(
-    alloc: Global,
-    pool: &Sealed<'_>,
-    trace: &Trace,
-    text: &mut Vec<u8>,
-) -> Result<(), AllocError> {
+    let Some(trace) = solve(alloc, pool, world)? else {
+        return text.extend_from_slice(b"none");
+    };
     for i in 0..trace.len() {
         add_candidate(alloc, pool, trace.get(i), text)?;
     }
@@ -465,19 +334,37 @@ fn add_candidate(
     id: CandId,
     text: &mut Vec<u8>,
 ) -> Result<(), AllocError> {
+    let space: &[u8] = if text.is_empty() { b"" } else { b" " };
     // The pool has no candidate at this place; no question gives such a place.
     let Some(details) = pool.at(id) else {
-        return add_word(text, b"none of the pool");
+        return add_parts(&[space, b"none of the pool"], text);
     };
-    add_word(text, details.name())?;
-    text.push(b'-')?;
-    if let Some(version) = details.version() {
-        text.extend_from_slice(version.text())?;
+    let version: &[u8] = match details.version() {
+        Some(version) => version.text(),
+        None => b"",
+    };
+    add_parts(&[space, details.name(), b"-", version], text)?;
+    match details.repo() {
+        Some(1) => Ok(()),
+        number => {
+            text.extend_from_slice(b"/")?;
+            add_number(alloc, u128::from(number.unwrap_or(0)), text)
+        }
     }
-    let number = details.repo().unwrap_or(0);
-    if number != 1 {
-        text.push(b'/')?;
-        add_number(alloc, text, u128::from(number))?;
+}
+
+// ---- texts
+
+// Appends the decimal digits of a number.
+fn add_number(alloc: Global, number: u128, text: &mut Vec<u8>) -> Result<(), AllocError> {
+    let digits = format!(in alloc; "{number}")?;
+    text.extend_from_slice(digits.as_bytes())
+}
+
+/// Appends these parts, one after another.
+pub(crate) fn add_parts(parts: &[&[u8]], text: &mut Vec<u8>) -> Result<(), AllocError> {
+    for part in parts {
+        text.extend_from_slice(part)?;
     }
     Ok(())
 }

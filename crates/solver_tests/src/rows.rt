@@ -1,6 +1,6 @@
 //! Runs all rows of a text, compares their answers with the expected ones, and makes the printed
 //! report. The README of this crate describes the lines of rows.
-use crate::answer::answer;
+use crate::answer::{add_parts, answer};
 use row_lines::value_named;
 use row_packages::{Row, number_of, split_word};
 use std::alloc::{AllocError, Global};
@@ -20,7 +20,15 @@ pub(crate) fn run_rows(
         answers: 0,
         failed: 0,
     };
-    run.take_text(text, report)?;
+    for line in text.split(|byte| *byte == b'\n') {
+        run.take_line(line, report)?;
+    }
+    run.set_question(None, report)?;
+    let counts = format!(in alloc;
+        "{} rows, {} answers, {} failed\n",
+        run.rows, run.answers, run.failed
+    )?;
+    report.extend_from_slice(counts.as_bytes())?;
     Ok(run.failed == 0)
 }
 
@@ -84,15 +92,6 @@ struct Run<'t> {
 }
 
 impl<'t> Run<'t> {
-    // Takes all lines of a text in turn, and appends the counts to the report.
-    fn take_text(&mut self, text: &'t [u8], report: &mut Vec<u8>) -> Result<(), AllocError> {
-        for line in text.split(|byte| *byte == b'\n') {
-            self.take_line(line, report)?;
-        }
-        self.end_row(report)?;
-        self.add_counts(report)
-    }
-
     // Takes one line; its first word says what to do.
     fn take_line(&mut self, line: &'t [u8], report: &mut Vec<u8>) -> Result<(), AllocError> {
         let (word, rest) = split_word(line);
@@ -100,48 +99,39 @@ impl<'t> Run<'t> {
             return self.fail(line, b"the line is no row's", report);
         };
         match kind {
-            Line::Comment => Ok(()),
-            Line::Row => self.begin_row(rest, report),
-            Line::Repository => self.row.add_repository(self.alloc, rest),
-            Line::Installed => self.row.set_installed(self.alloc, rest),
-            Line::Question => self.begin_question(rest, report),
-            Line::Expected => self.end_question(Some(rest), report),
-            Line::Printed => self.end_question(None, report),
-            _ => {
-                self.set(kind, rest);
-                Ok(())
-            }
-        }
-    }
-
-    // Sets the world, the names to upgrade, or (`Line::Times`) how often each answer is computed.
-    fn set(&mut self, kind: Line, rest: &'t [u8]) {
-        match kind {
+            Line::Comment => {}
+            Line::Row => return self.begin_row(rest, report),
+            Line::Repository => return self.row.add_repository(self.alloc, rest),
+            Line::Installed => return self.row.set_installed(self.alloc, rest),
             Line::World => self.row.world = rest,
             Line::Upgrade => self.row.upgraded = rest,
-            _ => self.row.times = number_of(rest),
+            Line::Times => self.row.times = number_of(rest),
+            Line::Question => return self.set_question(Some(rest), report),
+            Line::Expected => return self.end_question(Some(rest), report),
+            Line::Printed => return self.end_question(None, report),
         }
-    }
-
-    // Stores a question until the line with its expected answer.
-    fn begin_question(&mut self, query: &'t [u8], report: &mut Vec<u8>) -> Result<(), AllocError> {
-        self.end_row(report)?;
-        self.query = Some(query);
         Ok(())
     }
 
     // Begins a new row, whose name is the first word of its title.
     fn begin_row(&mut self, title: &'t [u8], report: &mut Vec<u8>) -> Result<(), AllocError> {
-        self.end_row(report)?;
+        self.set_question(None, report)?;
         let (name, _) = split_word(title);
         self.row = Row::new(self.alloc, name);
         self.rows = self.rows.saturating_add(1);
         Ok(())
     }
 
+    // Stores a question until the line with its expected answer; None where no question follows.
     // Reports the last question as a failure if no line with its expected answer followed it.
-    fn end_row(&mut self, report: &mut Vec<u8>) -> Result<(), AllocError> {
-        match self.query.take() {
+    fn set_question(
+        &mut self,
+        next: Option<&'t [u8]>,
+        report: &mut Vec<u8>,
+    ) -> Result<(), AllocError> {
+        let last = self.query.take();
+        self.query = next;
+        match last {
             None => Ok(()),
             Some(query) => self.fail(query, b"no answer is wanted", report),
         }
@@ -160,35 +150,18 @@ impl<'t> Run<'t> {
         self.answers = self.answers.saturating_add(1);
         let found = answer(self.alloc, &self.row, query)?;
         match wanted {
-            None => self.add_line(&[self.row.name, b": ", query, b": ", &found], report),
+            None => add_parts(&[self.row.name, b": ", query, b": ", &found, b"\n"], report),
             Some(wanted) if wanted == found.as_slice() => Ok(()),
             Some(_) => self.fail(query, &found, report),
         }
     }
 
-    // Appends a line to the report, which consists of these parts, one after another.
-    fn add_line(&self, parts: &[&[u8]], report: &mut Vec<u8>) -> Result<(), AllocError> {
-        for part in parts {
-            report.extend_from_slice(part)?;
-        }
-        report.extend_from_slice(b"\n")
-    }
-
     // Appends a failure to the report: the question or the line that failed, and why. Counts it.
     fn fail(&mut self, what: &[u8], why: &[u8], report: &mut Vec<u8>) -> Result<(), AllocError> {
         self.failed = self.failed.saturating_add(1);
-        self.add_line(
-            &[b"FAILED ", self.row.name, b": ", what, b": ", why],
+        add_parts(
+            &[b"FAILED ", self.row.name, b": ", what, b": ", why, b"\n"],
             report,
         )
-    }
-
-    // Appends to the report how many rows and answers there were, and how many failed.
-    fn add_counts(&self, report: &mut Vec<u8>) -> Result<(), AllocError> {
-        let text = format!(in self.alloc;
-            "{} rows, {} answers, {} failed\n",
-            self.rows, self.answers, self.failed
-        )?;
-        report.extend_from_slice(text.as_bytes())
     }
 }

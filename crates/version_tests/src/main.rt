@@ -8,12 +8,15 @@ mod versions;
 mod worlds;
 
 use base_core::Words;
-use row_lines::{Subject, add_yes_or_no, run_program, value_named, word_at};
+use dep_core::{is_dependency_name_by_bytes_and_length, is_package_name, read_dep};
+use row_lines::{Answer, Subject, run_program, value_named, word_at};
 use std::alloc::{AllocError, Global};
 use std::io;
 use std::process::ExitCode;
 use versions::{add_operators, match_of, order_of, reads_as_itself};
-use worlds::{add_dependency, add_edits, add_meeting, add_repositories, add_world, is_name};
+use worlds::{
+    add_dependency, add_edits, add_meeting, add_repositories, add_world, dependency_of_fields,
+};
 
 /// The kinds of questions, with what is answered; the README of this crate says more.
 #[derive(Clone, Copy)]
@@ -27,12 +30,16 @@ enum Question {
     Match,
     /// `operators`: the match bits of all operators.
     Operators,
-    /// `dependency TEXT`, `value NAME VERSION MATCH`: the text of the dependency.
+    /// `dependency TEXT`: the text of the dependency that a text is.
     Dependency,
+    /// `value NAME VERSION MATCH`: the text of the dependency that has these fields.
+    Value,
     /// `meets DEPENDENCY NAME VERSION`: whether this package meets the dependency.
     Meets,
-    /// `name TEXT`, `package TEXT`: whether the text may name a dependency, or a package.
+    /// `name TEXT`: whether the text may name a dependency.
     Name,
+    /// `package TEXT`: whether the text may name a package.
+    Package,
     /// `world TEXT`: the text of world as it is written, or its first bad line.
     World,
     /// `edits WORLD EDIT ..`: the results of edits of world.
@@ -49,10 +56,10 @@ const QUESTIONS: [(&[u8], Question); 12] = [
     (b"match", Question::Match),
     (b"operators", Question::Operators),
     (b"dependency", Question::Dependency),
-    (b"value", Question::Dependency),
+    (b"value", Question::Value),
     (b"meets", Question::Meets),
     (b"name", Question::Name),
-    (b"package", Question::Name),
+    (b"package", Question::Package),
     (b"world", Question::World),
     (b"edits", Question::Edits),
     (b"repositories", Question::Repositories),
@@ -68,23 +75,33 @@ impl Subject for LowCrates {
         &mut self,
         alloc: Global,
         words: &Words,
-        answer: &mut Vec<u8>,
+        answer: &mut Answer,
     ) -> Result<(), AllocError> {
         let Some(question) = value_named(&QUESTIONS, word_at(words, 0)) else {
-            return answer.extend_from_slice(b"no question");
+            answer.push(b"no question");
+            return Ok(());
         };
+        // The words behind the word of the question. A word that is not there is empty.
+        let first = word_at(words, 1);
+        let second = word_at(words, 2);
+        let third = word_at(words, 3);
         match question {
-            Question::Version => add_yes_or_no(answer, reads_as_itself(word_at(words, 1))),
-            Question::Order => answer.extend_from_slice(order_of(words)),
-            Question::Match => answer.extend_from_slice(match_of(words)),
-            Question::Operators => add_operators(alloc, answer),
-            Question::Dependency => add_dependency(alloc, words, answer),
-            Question::Meets => add_meeting(words, answer),
-            Question::Name => add_yes_or_no(answer, is_name(words)),
-            Question::World => add_world(alloc, word_at(words, 1), answer),
-            Question::Edits => add_edits(alloc, words, answer),
-            Question::Repositories => add_repositories(alloc, word_at(words, 1), answer),
+            Question::Version => answer.add_yes_or_no(reads_as_itself(first)),
+            Question::Order => answer.push(order_of(first, second)),
+            Question::Match => answer.push(match_of(first, second, third)),
+            Question::Operators => add_operators(answer),
+            Question::Dependency => return add_dependency(alloc, read_dep(first), answer),
+            Question::Value => {
+                return add_dependency(alloc, dependency_of_fields(first, second, third), answer);
+            }
+            Question::Meets => add_meeting(first, second, third, answer),
+            Question::Name => answer.add_yes_or_no(is_dependency_name_by_bytes_and_length(first)),
+            Question::Package => answer.add_yes_or_no(is_package_name(first)),
+            Question::World => return add_world(alloc, first, answer),
+            Question::Edits => return add_edits(alloc, words, answer),
+            Question::Repositories => return add_repositories(alloc, first, answer),
         }
+        Ok(())
     }
 }
 

@@ -1,8 +1,6 @@
 //! Answers questions about versions: which texts are versions, their order, and what operators
 //! match. The rules are in `docs/formats.md`, "Versions".
-use base_core::Words;
-use row_lines::{add_number, add_word, number_of, word_at};
-use std::alloc::{AllocError, Global};
+use row_lines::{Answer, number_of};
 use std::cmp::Ordering;
 use version_core::{Op, Version};
 
@@ -17,31 +15,25 @@ pub(crate) fn reads_as_itself(text: &[u8]) -> bool {
 
 /// Answers `order A B`: the sign (`<`, `=` or `>`) between the versions A and B, or `no order` if
 /// comparing B with A does not give the reverse.
-pub(crate) fn order_of(words: &Words) -> &'static [u8] {
-    let (Some(left), Some(right)) = (
-        Version::read(word_at(words, 1)),
-        Version::read(word_at(words, 2)),
-    ) else {
+pub(crate) fn order_of(left: &[u8], right: &[u8]) -> &'static [u8] {
+    let (Some(left), Some(right)) = (Version::read(left), Version::read(right)) else {
         return b"no versions";
     };
-    let order = left.compare(&right);
-    if right.compare(&left) != order.reverse() {
-        return b"no order";
-    }
-    match order {
-        Ordering::Less => b"<",
-        Ordering::Equal => b"=",
-        Ordering::Greater => b">",
+    match (left.compare(&right), right.compare(&left)) {
+        (Ordering::Less, Ordering::Greater) => b"<",
+        (Ordering::Equal, Ordering::Equal) => b"=",
+        (Ordering::Greater, Ordering::Less) => b">",
+        _ => b"no order",
     }
 }
 
 /// Answers `match A BITS B`: whether the version A matches the version B with the operator of these
 /// match bits.
-pub(crate) fn match_of(words: &Words) -> &'static [u8] {
+pub(crate) fn match_of(found: &[u8], bits: &[u8], wanted: &[u8]) -> &'static [u8] {
     let (Some(found), Some(op), Some(wanted)) = (
-        Version::read(word_at(words, 1)),
-        operator_of(word_at(words, 2)),
-        Version::read(word_at(words, 3)),
+        Version::read(found),
+        operator_of(bits),
+        Version::read(wanted),
     ) else {
         return b"no versions";
     };
@@ -59,12 +51,13 @@ fn operator_of(bits: &[u8]) -> Option<Op> {
 }
 
 /// Answers `operators`: the numbers from 0 to 255 that are the match bits of an operator.
-pub(crate) fn add_operators(alloc: Global, answer: &mut Vec<u8>) -> Result<(), AllocError> {
+pub(crate) fn add_operators(answer: &mut Answer) {
     for bits in 0..=u8::MAX {
-        if Op::of(bits).map(|op| op.bits()) == Some(bits) {
-            add_word(answer, b"")?;
-            add_number(alloc, answer, u128::from(bits))?;
+        if let Some(op) = Op::of(bits) {
+            if op.bits() == bits {
+                answer.add_word(b"");
+                answer.add_number(u128::from(bits));
+            }
         }
     }
-    Ok(())
 }

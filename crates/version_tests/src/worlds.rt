@@ -3,32 +3,26 @@
 //! are in `docs/formats.md`, "Dependencies", "World" and "Repositories".
 
 use base_core::Words;
-use dep_core::{
-    Dep, Repos, ReposFault, World, WorldFault, dep_of, dep_text,
-    is_dependency_name_by_bytes_and_length, is_package_name, read_dep,
-};
-use row_lines::{add_number, add_word, add_yes_or_no, number_of, word_at};
+use dep_core::{Dep, Repos, ReposFault, World, WorldFault, dep_of, dep_text, read_dep};
+use row_lines::{Answer, number_of, word_at};
 use std::alloc::{AllocError, Global};
 use version_core::Version;
 
 /// Answers `world TEXT`: the text of world after it was read and written again, or its first bad
 /// line.
-pub(crate) fn add_world(
-    alloc: Global,
-    text: &[u8],
-    answer: &mut Vec<u8>,
-) -> Result<(), AllocError> {
+pub(crate) fn add_world(alloc: Global, text: &[u8], answer: &mut Answer) -> Result<(), AllocError> {
     match World::read(alloc, text) {
-        Ok(world) => answer.extend_from_slice(world.text(alloc)?.as_bytes()),
-        Err(WorldFault::Bad { line }) => add_bad_line(alloc, line, answer),
-        Err(WorldFault::Memory) => Err(AllocError),
+        Ok(world) => answer.push(world.text(alloc)?.as_bytes()),
+        Err(WorldFault::Bad { line }) => add_bad_line(line, answer),
+        Err(WorldFault::Memory) => return Err(AllocError),
     }
+    Ok(())
 }
 
 // Adds to the answer the number of the first bad line.
-fn add_bad_line(alloc: Global, line: u64, answer: &mut Vec<u8>) -> Result<(), AllocError> {
-    answer.extend_from_slice(b"line ")?;
-    add_number(alloc, answer, u128::from(line))
+fn add_bad_line(line: u64, answer: &mut Answer) {
+    answer.push(b"line ");
+    answer.add_number(u128::from(line))
 }
 
 /// Answers `edits WORLD EDIT ..`: makes the edits one after another, and adds the result of each
@@ -36,10 +30,11 @@ fn add_bad_line(alloc: Global, line: u64, answer: &mut Vec<u8>) -> Result<(), Al
 pub(crate) fn add_edits(
     alloc: Global,
     words: &Words,
-    answer: &mut Vec<u8>,
+    answer: &mut Answer,
 ) -> Result<(), AllocError> {
     let Ok(mut world) = World::read(alloc, word_at(words, 1)) else {
-        return answer.extend_from_slice(b"no world");
+        answer.push(b"no world");
+        return Ok(());
     };
     for i in 2..words.len() {
         add_edit(alloc, &mut world, words.word(i), answer)?;
@@ -49,55 +44,35 @@ pub(crate) fn add_edits(
 
 // Makes one edit of world, or adds to the answer what an edit asks for. `+TEXT` adds a dependency,
 // `-NAME` removes the entry of this name, and the answer is whether there was one. `#` asks for the
-// number of entries, `?INDEX` for an entry, and `=` for the text of world.
+// number of entries, `?INDEX` for an entry (counted from 0, and given in digits), and `=` for the
+// text of world.
 fn add_edit(
     alloc: Global,
     world: &mut World,
     edit: &[u8],
-    answer: &mut Vec<u8>,
+    answer: &mut Answer,
 ) -> Result<(), AllocError> {
+    if let [b'+', text @ ..] = edit {
+        // A text that is no dependency changes nothing.
+        return match read_dep(text) {
+            Some(dep) => world.add(&dep),
+            None => Ok(()),
+        };
+    }
+    // Each other edit has an answer, which is a word of its own.
+    answer.add_word(b"");
     match edit {
-        [b'+', text @ ..] => add_to(world, text),
-        [b'-', name @ ..] => add_removal(world.del(name), answer),
-        [b'#'] => {
-            add_word(answer, b"")?;
-            add_number(alloc, answer, world.len() as u128)
-        }
-        [b'?', index @ ..] => add_entry(alloc, world, index, answer),
-        _ => add_word(answer, world.text(alloc)?.as_bytes()),
+        [b'-', name @ ..] => answer.add_yes_or_no(world.del(name)),
+        [b'#'] => answer.add_number(world.len() as u128),
+        [b'?', index @ ..] => match number_of(index) {
+            Some(i) if i < world.len() as u128 => {
+                return add_dependency(alloc, Some(world.entry(i as usize)), answer);
+            }
+            _ => answer.push(b"none"),
+        },
+        _ => answer.push(world.text(alloc)?.as_bytes()),
     }
-}
-
-// Adds the dependency that a text is to world. A text that is no dependency changes nothing.
-fn add_to(world: &mut World, text: &[u8]) -> Result<(), AllocError> {
-    match read_dep(text) {
-        Some(dep) => world.add(&dep),
-        None => Ok(()),
-    }
-}
-
-// Adds to the answer whether world had an entry to remove.
-fn add_removal(was_there: bool, answer: &mut Vec<u8>) -> Result<(), AllocError> {
-    add_word(answer, b"")?;
-    add_yes_or_no(answer, was_there)
-}
-
-// Adds to the answer the entry of world with this index, which is counted from 0 and given in
-// digits; or `none`.
-fn add_entry(
-    alloc: Global,
-    world: &World,
-    index: &[u8],
-    answer: &mut Vec<u8>,
-) -> Result<(), AllocError> {
-    add_word(answer, b"")?;
-    let index = number_of(index).and_then(|index| usize::try_from(index).ok());
-    match index {
-        Some(i) if i < world.len() => {
-            answer.extend_from_slice(dep_text(alloc, &world.entry(i))?.as_bytes())
-        }
-        _ => answer.extend_from_slice(b"none"),
-    }
+    Ok(())
 }
 
 /// Answers `repositories TEXT`: adds the tag and the path of each repository in a list, or the
@@ -105,17 +80,20 @@ fn add_entry(
 pub(crate) fn add_repositories(
     alloc: Global,
     text: &[u8],
-    answer: &mut Vec<u8>,
+    answer: &mut Answer,
 ) -> Result<(), AllocError> {
-    let repos = match Repos::read(alloc, text) {
-        Ok(repos) => repos,
-        Err(ReposFault::Bad { line }) => return add_bad_line(alloc, line, answer),
+    match Repos::read(alloc, text) {
+        Ok(repos) => {
+            for i in 0..repos.len() {
+                answer.add_word(b"@");
+                if let Some(tag) = repos.tag(i) {
+                    answer.push(tag);
+                }
+                answer.add_word(repos.path(i).as_bytes());
+            }
+        }
+        Err(ReposFault::Bad { line }) => add_bad_line(line, answer),
         Err(ReposFault::Memory) => return Err(AllocError),
-    };
-    for i in 0..repos.len() {
-        add_word(answer, b"@")?;
-        answer.extend_from_slice(repos.tag(i).unwrap_or(b""))?;
-        add_word(answer, repos.path(i).as_bytes())?;
     }
     Ok(())
 }
@@ -124,40 +102,32 @@ pub(crate) fn add_repositories(
 /// `none`.
 pub(crate) fn add_dependency(
     alloc: Global,
-    words: &Words,
-    answer: &mut Vec<u8>,
+    dep: Option<Dep<'_>>,
+    answer: &mut Answer,
 ) -> Result<(), AllocError> {
-    match dependency_of(words) {
-        Some(dep) => answer.extend_from_slice(dep_text(alloc, &dep)?.as_bytes()),
-        None => answer.extend_from_slice(b"none"),
+    match dep {
+        Some(dep) => answer.push(dep_text(alloc, &dep)?.as_bytes()),
+        None => answer.push(b"none"),
     }
+    Ok(())
 }
 
-// The dependency of a question: read from a text, or made of the three values that a dependency has
-// in a package: name, version and match bits.
-fn dependency_of(words: &Words) -> Option<Dep<'_>> {
-    if word_at(words, 0) == b"dependency".as_slice() {
-        return read_dep(word_at(words, 1));
-    }
-    let matching = u64::try_from(number_of(word_at(words, 3))?).ok()?;
-    dep_of(word_at(words, 1), word_at(words, 2), matching)
+/// The dependency that has these three fields in a package: name, version and match bits, which are
+/// given in digits.
+pub(crate) fn dependency_of_fields<'w>(
+    name: &'w [u8],
+    version: &'w [u8],
+    matching: &[u8],
+) -> Option<Dep<'w>> {
+    let matching = u64::try_from(number_of(matching)?).ok()?;
+    dep_of(name, version, matching)
 }
 
 /// Answers `meets DEPENDENCY NAME VERSION`: adds whether a package with this name and this version
 /// meets the dependency.
-pub(crate) fn add_meeting(words: &Words, answer: &mut Vec<u8>) -> Result<(), AllocError> {
-    let version = Version::read(word_at(words, 3));
-    match read_dep(word_at(words, 1)) {
-        Some(dep) => add_yes_or_no(answer, dep.met_by(word_at(words, 2), version.as_ref())),
-        None => answer.extend_from_slice(b"no dependency"),
+pub(crate) fn add_meeting(dependency: &[u8], name: &[u8], version: &[u8], answer: &mut Answer) {
+    match read_dep(dependency) {
+        Some(dep) => answer.add_yes_or_no(dep.met_by(name, Version::read(version).as_ref())),
+        None => answer.push(b"no dependency"),
     }
-}
-
-/// Answers `name TEXT` and `package TEXT`: whether the text can be the name of a dependency, or the
-/// name of a package.
-pub(crate) fn is_name(words: &Words) -> bool {
-    if word_at(words, 0) == b"package".as_slice() {
-        return is_package_name(word_at(words, 1));
-    }
-    is_dependency_name_by_bytes_and_length(word_at(words, 1))
 }
