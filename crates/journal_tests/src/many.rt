@@ -66,11 +66,17 @@ fn intent_file(alloc: Global, count: usize) -> Result<Option<Vec<u8>>, AllocErro
     // The word 0 is null: there are no removals.
     let root = writer.obj(&[Val::of(0), writes])?;
     match writer.finish(root) {
-        Ok(payload) if payload.len() <= MOST_BYTES => {
-            Ok(Some(file_of(alloc, INTENT_WORD, &payload)?))
-        }
-        _ => Ok(None),
+        Ok(payload) => file_of_payload(alloc, &payload),
+        Err(_) => Ok(None),
     }
+}
+
+/// The file of a journal entry with this payload, or None if the payload is too long.
+fn file_of_payload(alloc: Global, payload: &[u8]) -> Result<Option<Vec<u8>>, AllocError> {
+    if payload.len() > MOST_BYTES {
+        return Ok(None);
+    }
+    Ok(Some(file_of(alloc, INTENT_WORD, payload)?))
 }
 
 /// How many writes of the journal entry `file` are read back with the name that belongs to their
