@@ -8,7 +8,7 @@ ghost use Rattle.journal_core.specs.Staged.{new_stage_of_removals_and_writes};
 use base_core::{Disk, Name, Names};
 use journal_core::Stage;
 use journal_recovery::recover;
-use row_lines::{add_word, value_named};
+use row_lines::{Answer, value_named};
 use std::alloc::{AllocError, Global};
 use tree_memory::MemoryTree;
 
@@ -44,12 +44,12 @@ pub(crate) fn change_named(word: &[u8]) -> Option<StagedChange> {
 }
 
 /// Adds the word for the progress of a change to the answer.
-pub(crate) fn add_reached(answer: &mut Vec<u8>, reached: Reached) -> Result<(), AllocError> {
-    match reached {
-        Reached::Nothing => add_word(answer, b"nothing"),
-        Reached::Published => add_word(answer, b"published"),
-        Reached::Finished => add_word(answer, b"finished"),
-    }
+pub(crate) fn add_reached(answer: &mut Answer, reached: Reached) {
+    answer.add_word(match reached {
+        Reached::Nothing => b"nothing",
+        Reached::Published => b"published",
+        Reached::Finished => b"finished",
+    })
 }
 
 /// Recovers the tree, makes the change, and returns how far the change came. This is `Nothing` if

@@ -17,7 +17,7 @@ use base_core::Words;
 use intents::{add_change, add_cuts, add_recovery};
 use many::add_many_writes;
 use replacing::add_replacements;
-use row_lines::{Subject, run_program, value_named, word_at};
+use row_lines::{Answer, Subject, run_program, value_named, word_at};
 use std::alloc::{AllocError, Global};
 use std::io;
 use std::process::ExitCode;
@@ -68,10 +68,11 @@ impl Subject for Sweeps {
         &mut self,
         alloc: Global,
         words: &Words,
-        answer: &mut Vec<u8>,
+        answer: &mut Answer,
     ) -> Result<(), AllocError> {
         let Some(question) = value_named(&QUESTIONS, word_at(words, 0)) else {
-            return answer.extend_from_slice(b"no question");
+            answer.push(b"no question");
+            return Ok(());
         };
         match question {
             Question::Change => add_change(alloc, words, answer),

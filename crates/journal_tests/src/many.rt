@@ -8,7 +8,7 @@ use adb_write::{Writer, file_of};
 use base_core::{Name, Words};
 use journal_intent::PreparedIntent;
 use journal_recovery::recover;
-use row_lines::add_word;
+use row_lines::Answer;
 use std::alloc::{AllocError, Global};
 use tree_memory::MemoryTree;
 
@@ -29,80 +29,46 @@ const MOST_WRITES: u64 = 65_536;
 pub(crate) fn add_many_writes(
     alloc: Global,
     words: &Words,
-    answer: &mut Vec<u8>,
+    answer: &mut Answer,
 ) -> Result<(), AllocError> {
     let count = long_at(words, 1).min(MOST_WRITES) as usize;
     let waiting = long_at(words, 2).min(MOST_WRITES) as usize;
     let Some(file) = intent_file(alloc, count)? else {
-        return answer.extend_from_slice(b"no intent");
+        answer.push(b"no intent");
+        return Ok(());
     };
-    add_count(alloc, answer, b"read", names_read(alloc, &file)?)?;
-    add_recovered(alloc, &file, count, waiting, answer)
-}
-
-/// Recovers a new tree with the journal entry `file`, which has `count` writes; the files of the
-/// last `waiting` writes are still staged. Adds the results of the recovery.
-fn add_recovered(
-    alloc: Global,
-    file: &[u8],
-    count: usize,
-    waiting: usize,
-    answer: &mut Vec<u8>,
-) -> Result<(), AllocError> {
     let mut tree = MemoryTree::new(alloc);
-    add_recovered_tree(alloc, &mut tree, file, count, waiting, answer)
-}
-
-/// Puts these files into the tree and recovers it. Adds whether the recovery succeeds, how many
-/// calls wrote, and how many files have their final names.
-fn add_recovered_tree(
-    alloc: Global,
-    tree: &mut MemoryTree,
-    file: &[u8],
-    count: usize,
-    waiting: usize,
-    answer: &mut Vec<u8>,
-) -> Result<(), AllocError> {
-    put_many_writes(alloc, tree, file, count, waiting)?;
-    let recovered = recover(alloc, tree).is_ok();
-    add_word(answer, if recovered { b"ok" } else { b"refused" })?;
-    add_count(alloc, answer, b"writes", tree.writes())?;
-    add_count(alloc, answer, b"names", names_in_place(alloc, tree)?)
+    put_many_writes(alloc, &mut tree, &file, count, waiting)?;
+    add_count(answer, b"read", names_read(alloc, file)?);
+    let recovered = recover(alloc, &mut tree).is_ok();
+    answer.add_word(if recovered { b"ok" } else { b"refused" });
+    add_count(answer, b"writes", tree.writes());
+    add_count(answer, b"names", names_in_place(alloc, &tree)?);
+    Ok(())
 }
 
 /// The name of the write with this index: `f` and a number of six digits.
-fn name_text(alloc: Global, i: usize) -> Result<Vec<u8>, AllocError> {
+fn name_text(alloc: Global, i: usize) -> Result<String, AllocError> {
     let number = FIRST_NUMBER.saturating_add(i);
-    let text = format!(in alloc; "f{number}")?;
-    Vec::from_slice(alloc, text.as_bytes())
+    format!(in alloc; "f{number}")
 }
 
-/// The file of a journal entry with `count` writes, or None if the writer refuses it or its payload
-/// is too long.
+/// The file of a journal entry with no removals and `count` writes, or None if the writer refuses
+/// it or its payload is too long.
 fn intent_file(alloc: Global, count: usize) -> Result<Option<Vec<u8>>, AllocError> {
     let mut writer = Writer::new(alloc);
     let mut writes = Vec::new(alloc);
     for i in 0..count {
-        writes.push(write_name(alloc, &mut writer, i)?)?;
+        let name = name_text(alloc, i)?;
+        writes.push(writer.blob(name.as_bytes())?)?;
     }
-    let root = write_root(&mut writer, &writes)?;
+    let writes = writer.arr(&writes)?;
+    // The word 0 is null: there are no removals.
+    let root = writer.obj(&[Val::of(0), writes])?;
     match writer.finish(root) {
         Ok(payload) => file_of_payload(alloc, &payload),
         Err(_) => Ok(None),
     }
-}
-
-/// Adds the name of the write with this index to the payload of a journal entry.
-fn write_name(alloc: Global, writer: &mut Writer, i: usize) -> Result<Val, AllocError> {
-    let name = name_text(alloc, i)?;
-    writer.blob(&name)
-}
-
-/// Adds the root value to the payload of a journal entry: no removals, and these writes.
-fn write_root(writer: &mut Writer, writes: &[Val]) -> Result<Val, AllocError> {
-    let writes = writer.arr(writes)?;
-    // The word 0 is null: there are no removals.
-    writer.obj(&[Val::of(0), writes])
 }
 
 /// The file of a journal entry with this payload, or None if the payload is too long.
@@ -115,8 +81,7 @@ fn file_of_payload(alloc: Global, payload: &[u8]) -> Result<Option<Vec<u8>>, All
 
 /// How many writes of the journal entry `file` are read back with the name that belongs to their
 /// index; 0 if the entry is refused.
-fn names_read(alloc: Global, file: &[u8]) -> Result<u64, AllocError> {
-    let file = Vec::from_slice(alloc, file)?;
+fn names_read(alloc: Global, file: Vec<u8>) -> Result<u64, AllocError> {
     let Ok(intent) = PreparedIntent::of_file(alloc, file) else {
         return Ok(0);
     };
@@ -132,11 +97,12 @@ fn names_read(alloc: Global, file: &[u8]) -> Result<u64, AllocError> {
 /// Whether this is the name of the write with this index.
 fn is_name_at(alloc: Global, name: &Name, i: usize) -> Result<bool, AllocError> {
     let text = name_text(alloc, i)?;
-    Ok(name.as_bytes() == text.as_slice())
+    Ok(name.as_bytes() == text.as_bytes())
 }
 
 /// Puts the journal entry `file` into the tree, and the files of its `count` writes: those of the
-/// last `waiting` writes into the staging area, and the others under their final names.
+/// last `waiting` writes into the staging area, and the others under their final names, as if they
+/// had been moved there.
 fn put_many_writes(
     alloc: Global,
     tree: &mut MemoryTree,
@@ -146,26 +112,17 @@ fn put_many_writes(
 ) -> Result<(), AllocError> {
     let moved = count.saturating_sub(waiting);
     for i in 0..moved {
-        put_moved(alloc, tree, i)?;
+        let name = name_text(alloc, i)?;
+        put(alloc, tree, name.as_bytes(), b"1")?;
     }
     put(alloc, tree, b"lib/apk/intent", file)?;
     for i in moved..count {
         // Staged files are numbered from 1.
-        put_waiting(alloc, tree, i + 1)?;
+        let number = i + 1;
+        let staged = format!(in alloc; "lib/apk/stage/{number}")?;
+        put(alloc, tree, staged.as_bytes(), b"1")?;
     }
     Ok(())
-}
-
-/// Puts the file of the write with this index under its final name, as if it had been moved there.
-fn put_moved(alloc: Global, tree: &mut MemoryTree, i: usize) -> Result<(), AllocError> {
-    let name = name_text(alloc, i)?;
-    put(alloc, tree, &name, b"1")
-}
-
-/// Puts the file of the write with this number, counted from 1, into the staging area.
-fn put_waiting(alloc: Global, tree: &mut MemoryTree, k: usize) -> Result<(), AllocError> {
-    let staged = format!(in alloc; "lib/apk/stage/{k}")?;
-    put(alloc, tree, staged.as_bytes(), b"1")
 }
 
 /// How many files of the tree have the final name of a write: the name at an index, in byte order,

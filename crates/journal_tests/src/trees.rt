@@ -1,15 +1,13 @@
 //! Trees that are made from the words of a row, and the files of a tree as words of an answer. The
 //! README of this crate describes both forms.
 use base_core::{Name, Words};
-use row_lines::{add_named, add_number, add_word, number_of, word_at};
+use row_lines::{Answer, number_of, word_at};
 use std::alloc::{AllocError, Global};
 use tree_memory::MemoryTree;
 
 /// The number in the word of a row with this index, or 0 if the word is no number of 64 bits.
 pub(crate) fn long_at(words: &Words, i: usize) -> u64 {
-    number_of(word_at(words, i))
-        .and_then(|number| u64::try_from(number).ok())
-        .unwrap_or(0)
+    u64::try_from(number_of(word_at(words, i)).unwrap_or(0)).unwrap_or(0)
 }
 
 /// A tree with the files that the words of a row from the index `first` on describe: the name of a
@@ -47,14 +45,16 @@ pub(crate) fn put(
     Ok(())
 }
 
-/// The files of a tree as words: each name with the bytes of its file, as `NAME=BYTES`.
+/// The files of a tree as one text: each name with the bytes of its file, as `NAME=BYTES`.
 pub(crate) fn text_of(alloc: Global, tree: &MemoryTree) -> Result<Vec<u8>, AllocError> {
     let names = tree.names(alloc)?;
     let mut text = Vec::new(alloc);
     for i in 0..names.len() {
         let name = names.get(i);
-        let bytes = tree.file(name).unwrap_or(b"absent");
-        add_named(&mut text, name.as_bytes(), bytes)?;
+        text.extend_from_slice(name.as_bytes())?;
+        text.extend_from_slice(b"=")?;
+        text.extend_from_slice(tree.file(name).unwrap_or(b"absent"))?;
+        text.extend_from_slice(b" ")?;
     }
     Ok(text)
 }
@@ -63,24 +63,19 @@ pub(crate) fn text_of(alloc: Global, tree: &MemoryTree) -> Result<Vec<u8>, Alloc
 pub(crate) fn add_tree(
     alloc: Global,
     tree: &MemoryTree,
-    answer: &mut Vec<u8>,
+    answer: &mut Answer,
 ) -> Result<(), AllocError> {
-    let text = text_of(alloc, tree)?;
-    if text.is_empty() {
-        return Ok(());
+    let names = tree.names(alloc)?;
+    for i in 0..names.len() {
+        let name = names.get(i);
+        answer.add_named(name.as_bytes(), tree.file(name).unwrap_or(b"absent"));
     }
-    add_word(answer, &text)
+    Ok(())
 }
 
 /// Adds the word `what`, which says what is counted, and then the count, as the next word.
-pub(crate) fn add_count(
-    alloc: Global,
-    answer: &mut Vec<u8>,
-    what: &[u8],
-    count: u64,
-) -> Result<(), AllocError> {
-    add_word(answer, what)?;
-    // An empty word adds only a space.
-    add_word(answer, b"")?;
-    add_number(alloc, answer, u128::from(count))
+pub(crate) fn add_count(answer: &mut Answer, what: &[u8], count: u64) {
+    answer.add_word(what);
+    answer.push(b" ");
+    answer.add_number(u128::from(count))
 }

@@ -1,9 +1,10 @@
 //! Command lines: which are a command, the parts of such a command, and the first wrong word of any
 //! other line. The rules are in `docs/commands.md`, "Words". The position of a word is counted from
 //! 1.
+use crate::Question;
 use base_core::Words;
-use command_core::{Applet, Command, Flag, OperandKind, OptionValue, ValueKind};
-use row_lines::{add_number, add_word, number_of, value_named, word_at};
+use command_core::{Applet, Command, Flag, OperandKind, ValueKind};
+use row_lines::{Answer, number_of, value_named, word_at};
 use std::alloc::{AllocError, Global};
 use tree_memory::MemorySink;
 use words_core::{WordsFault, explain_usage, help, read_words, version_line};
@@ -11,122 +12,82 @@ use words_core::{WordsFault, explain_usage, help, read_words, version_line};
 /// The most words that the command line of a row may have.
 const MOST_WORDS: usize = 100_000;
 
-/// Answers `line WORD ..`: adds 0 if the words are a command, and otherwise the position of the
-/// first wrong word, and the error line with the reason.
-pub(crate) fn add_place(
+/// Answers a question about a command line: `line`, `many`, `asked`, `command`, `values` or
+/// `letters`. If the words are no command, `line` and `many` answer which word is wrong, and the
+/// other questions `none`.
+pub(crate) fn add_line(
     alloc: Global,
+    question: Question,
     line: &Words,
-    answer: &mut Vec<u8>,
+    answer: &mut Answer,
 ) -> Result<(), AllocError> {
     match read_words(alloc, line) {
-        Ok(_) => answer.extend_from_slice(b"0"),
-        Err(WordsFault::Usage { place }) => {
-            add_number(alloc, answer, u128::from(place))?;
-            add_reason(alloc, line, place, answer)
-        }
-        Err(WordsFault::Memory) => Err(AllocError),
+        Ok(command) => match question {
+            Question::Asked => return add_asked(alloc, &command, answer),
+            Question::Command => add_command(&command, answer),
+            Question::Values => add_values(&command, answer),
+            Question::Letters => add_letters(&command, answer),
+            Question::RepeatedWord => {
+                answer.push(b"0");
+                add_next(answer, command.operands().len() as u128);
+            }
+            _ => answer.push(b"0"),
+        },
+        Err(WordsFault::Usage { place }) => match question {
+            Question::Line | Question::RepeatedWord => {
+                return add_place(alloc, line, place, answer);
+            }
+            _ => answer.push(b"none"),
+        },
+        Err(WordsFault::Memory) => return Err(AllocError),
     }
+    Ok(())
 }
 
-/// Adds the error line for a wrong word at this position.
-fn add_reason(
+/// Adds the position of the first wrong word of a command line, and the error line with the reason.
+fn add_place(
     alloc: Global,
     line: &Words,
     place: u32,
-    answer: &mut Vec<u8>,
+    answer: &mut Answer,
 ) -> Result<(), AllocError> {
     let mut sink = MemorySink::new(alloc);
     if explain_usage(line, place, &mut sink).is_err() {
         return Err(AllocError);
     }
-    add_word(answer, sink.bytes())
+    answer.add_number(u128::from(place));
+    answer.add_word(sink.bytes());
+    Ok(())
 }
 
-/// Answers `asked WORD ..`: adds what is printed if the words ask for help or for the version of
+/// Answers `asked WORD ..`: adds what is printed if the command asks for help or for the version of
 /// the program, and else `none`.
-pub(crate) fn add_asked(
-    alloc: Global,
-    line: &Words,
-    answer: &mut Vec<u8>,
-) -> Result<(), AllocError> {
-    let Some(command) = command_of(alloc, line)? else {
-        return answer.extend_from_slice(b"none");
-    };
+fn add_asked(alloc: Global, command: &Command, answer: &mut Answer) -> Result<(), AllocError> {
     match command.applet() {
-        Applet::Help => answer.extend_from_slice(help(alloc, command.operands())?.as_bytes()),
-        Applet::ProgramVersion => answer.extend_from_slice(version_line(alloc)?.as_bytes()),
-        _ => answer.extend_from_slice(b"none"),
-    }
-}
-
-/// Answers `many N WORD WORD ..`: the second WORD is repeated N times. Adds 0 and the number of
-/// operands if the words are a command, and otherwise what `add_place` adds.
-pub(crate) fn add_repeated(
-    alloc: Global,
-    words: &Words,
-    answer: &mut Vec<u8>,
-) -> Result<(), AllocError> {
-    let line = repeated_words(alloc, words)?;
-    add_place(alloc, &line, answer)?;
-    match command_of(alloc, &line)? {
-        Some(command) => add_next(alloc, command.operands().len() as u128, answer),
-        None => Ok(()),
-    }
-}
-
-/// The command line of `N WORD WORD ..`: the words after N, of which the second is repeated N
-/// times.
-fn repeated_words(alloc: Global, words: &Words) -> Result<Words, AllocError> {
-    // N; it is None, and then taken as 0, if the word is no number.
-    let times = number_of(word_at(words, 0)).and_then(|times| usize::try_from(times).ok());
-    let mut line = Words::new(alloc);
-    for i in 1..words.len() {
-        // N has the index 0, so the second word after it has the index 2.
-        if i == 2 {
-            push_times(&mut line, words.word(i), times.unwrap_or(0))?;
-        } else {
-            push_times(&mut line, words.word(i), 1)?;
-        }
-    }
-    Ok(line)
-}
-
-/// Adds a word to a command line this many times, but so that the line has no more than
-/// `MOST_WORDS` words.
-fn push_times(words: &mut Words, word: &[u8], times: usize) -> Result<(), AllocError> {
-    for _ in 0..times {
-        if words.len() < MOST_WORDS {
-            words.push(word)?;
-        }
+        Applet::Help => answer.push(help(alloc, command.operands())?.as_bytes()),
+        Applet::ProgramVersion => answer.push(version_line(alloc)?.as_bytes()),
+        _ => answer.push(b"none"),
     }
     Ok(())
 }
 
-/// The command that the words of a line are; None if they are no command.
-fn command_of(alloc: Global, line: &Words) -> Result<Option<Command>, AllocError> {
-    match read_words(alloc, line) {
-        Ok(command) => Ok(Some(command)),
-        Err(WordsFault::Usage { .. }) => Ok(None),
-        Err(WordsFault::Memory) => Err(AllocError),
+/// The command line of `N WORD WORD ..`: the words after N, of which the second is repeated N
+/// times. The line has no more than `MOST_WORDS` words.
+pub(crate) fn repeated_words(alloc: Global, words: &Words) -> Result<Words, AllocError> {
+    // N; it is taken as 0 if the word is no number.
+    let repeated = number_of(word_at(words, 0)).unwrap_or(0);
+    let repeated = repeated.min(MOST_WORDS as u128);
+    let mut line = Words::new(alloc);
+    for i in 1..words.len() {
+        // N has the index 0, so the second word after it has the index 2.
+        let times = if i == 2 { repeated } else { 1 };
+        for _ in 0..times {
+            if line.len() < MOST_WORDS {
+                line.push(words.word(i))?;
+            }
+        }
     }
-}
-
-/// Answers `command WORD ..`: adds the applet of the command, its options without a value, the
-/// position after its last word, and how many operands it has. Then adds the position and the text
-/// of each of the first 100 operands.
-pub(crate) fn add_command(
-    alloc: Global,
-    line: &Words,
-    answer: &mut Vec<u8>,
-) -> Result<(), AllocError> {
-    let Some(command) = command_of(alloc, line)? else {
-        return answer.extend_from_slice(b"none");
-    };
-    add_applet(&command, answer)?;
-    add_flags(&command, answer)?;
-    // The position after the last word.
-    add_next(alloc, u128::from(command.behind()), answer)?;
-    add_operands(alloc, &command, answer)
+    Ok(line)
 }
 
 /// The applets, and the words that name them.
@@ -153,17 +114,6 @@ const APPLETS: [(Applet, &[u8]); 19] = [
     (Applet::ProgramVersion, b"--version"),
 ];
 
-/// Adds the word of the command's applet; for the two applets that no word names, the option that
-/// asks for them.
-fn add_applet(command: &Command, answer: &mut Vec<u8>) -> Result<(), AllocError> {
-    for (applet, word) in &APPLETS {
-        if *applet == command.applet() {
-            add_word(answer, word)?;
-        }
-    }
-    Ok(())
-}
-
 /// The options without a value (flags), and their words.
 #[rattlefmt::skip]
 const FLAGS: [(Flag, &[u8]); 11] = [
@@ -180,78 +130,62 @@ const FLAGS: [(Flag, &[u8]); 11] = [
     (Flag::Check, b"--check"),
 ];
 
-/// Adds the words of the options without a value that are given, in the order of `FLAGS`.
-fn add_flags(command: &Command, answer: &mut Vec<u8>) -> Result<(), AllocError> {
-    for (flag, word) in &FLAGS {
-        if command.flags().has(*flag) {
-            add_word(answer, word)?;
+/// Answers `command WORD ..`: adds the applet of the command, its options without a value, the
+/// position after its last word, and how many operands it has. Then adds the position and the text
+/// of each of the first 100 operands.
+fn add_command(command: &Command, answer: &mut Answer) {
+    for (applet, word) in &APPLETS {
+        if *applet == command.applet() {
+            answer.add_word(word);
         }
     }
-    Ok(())
+    for (flag, word) in &FLAGS {
+        if command.flags().has(*flag) {
+            answer.add_word(word);
+        }
+    }
+    // The position after the last word.
+    add_next(answer, u128::from(command.behind()));
+    let operands = command.operands();
+    add_next(answer, operands.len() as u128);
+    for i in 0..operands.len().min(100) {
+        let operand = operands.get(i);
+        add_next(answer, u128::from(operand.place));
+        answer.add_word(operand.text.as_bytes());
+    }
 }
 
 /// Adds a space, and a number in decimal.
-fn add_next(alloc: Global, number: u128, answer: &mut Vec<u8>) -> Result<(), AllocError> {
-    add_word(answer, b"")?;
-    add_number(alloc, answer, number)
-}
-
-/// Adds how many operands a command has, and the position and the text of each of the first 100.
-fn add_operands(alloc: Global, command: &Command, answer: &mut Vec<u8>) -> Result<(), AllocError> {
-    let operands = command.operands();
-    add_next(alloc, operands.len() as u128, answer)?;
-    for i in 0..operands.len().min(100) {
-        add_next(alloc, u128::from(operands.get(i).place), answer)?;
-        add_word(answer, operands.get(i).text.as_bytes())?;
-    }
-    Ok(())
+fn add_next(answer: &mut Answer, number: u128) {
+    answer.add_word(b"");
+    answer.add_number(number)
 }
 
 /// Answers `values WORD ..`: adds of each value of an option its position, the option's letter, for
 /// `-s` the script's type, and its text.
-pub(crate) fn add_values(
-    alloc: Global,
-    line: &Words,
-    answer: &mut Vec<u8>,
-) -> Result<(), AllocError> {
-    let Some(command) = command_of(alloc, line)? else {
-        return answer.extend_from_slice(b"none");
-    };
-    for i in 0..command.values().len() {
-        add_value(alloc, command.values().get(i), answer)?;
+fn add_values(command: &Command, answer: &mut Answer) {
+    let values = command.values();
+    for i in 0..values.len() {
+        let value = values.get(i);
+        add_next(answer, u128::from(value.place));
+        answer.add_word(&[value.letter]);
+        if value.letter == b's' {
+            answer.add_word(value.script_type());
+        }
+        answer.add_word(value.text.as_bytes());
     }
-    Ok(())
-}
-
-/// Adds a value of an option: its position, the option's letter, for `-s` the script's type, and
-/// the text.
-fn add_value(alloc: Global, value: &OptionValue, answer: &mut Vec<u8>) -> Result<(), AllocError> {
-    add_next(alloc, u128::from(value.place), answer)?;
-    add_word(answer, &[value.letter])?;
-    if value.letter == b's' {
-        add_word(answer, value.script_type())?;
-    }
-    add_word(answer, value.text.as_bytes())
 }
 
 /// Answers `letters WORD ..`: adds each letter of an option for which a value is given, and the
 /// position of the first such value.
-pub(crate) fn add_letters(
-    alloc: Global,
-    line: &Words,
-    answer: &mut Vec<u8>,
-) -> Result<(), AllocError> {
-    let Some(command) = command_of(alloc, line)? else {
-        return answer.extend_from_slice(b"none");
-    };
+fn add_letters(command: &Command, answer: &mut Answer) {
     // The letters of all options that take a value, in byte order.
     for letter in b"FIcdost" {
         if let Some(value) = command.values().first(*letter) {
-            add_word(answer, &[*letter])?;
-            add_next(alloc, u128::from(value.place), answer)?;
+            answer.add_word(&[*letter]);
+            add_next(answer, u128::from(value.place));
         }
     }
-    Ok(())
 }
 
 // The text by which a row names each kind of an option's value.

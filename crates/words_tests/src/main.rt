@@ -8,10 +8,8 @@ mod lines;
 mod texts;
 
 use base_core::Words;
-use lines::{
-    add_asked, add_command, add_letters, add_place, add_repeated, add_values, is_operand, is_value,
-};
-use row_lines::{Subject, add_yes_or_no, run_program, value_named, word_at, words_behind};
+use lines::{add_line, is_operand, is_value, repeated_words};
+use row_lines::{Answer, Subject, run_program, value_named, word_at, words_behind};
 use std::alloc::{AllocError, Global};
 use std::io;
 use std::process::ExitCode;
@@ -19,7 +17,7 @@ use texts::{add_refusal, add_report};
 
 /// The questions; the README of this crate has the answer to each.
 #[derive(Clone, Copy)]
-enum Question {
+pub enum Question {
     /// `line WORD ..`: whether the words are a command, or the first wrong word.
     Line,
     /// `many N WORD WORD ..`: as `line`, for a line whose second word is repeated N times.
@@ -67,25 +65,26 @@ impl Subject for CommandLines {
         &mut self,
         alloc: Global,
         words: &Words,
-        answer: &mut Vec<u8>,
+        answer: &mut Answer,
     ) -> Result<(), AllocError> {
         let Some(question) = value_named(&QUESTIONS, word_at(words, 0)) else {
-            return answer.extend_from_slice(b"no question");
+            answer.push(b"no question");
+            return Ok(());
         };
         // The words after the first one, which names the question.
         let rest = words_behind(alloc, words, 1)?;
         match question {
-            Question::Line => add_place(alloc, &rest, answer),
-            Question::RepeatedWord => add_repeated(alloc, &rest, answer),
-            Question::Asked => add_asked(alloc, &rest, answer),
-            Question::Command => add_command(alloc, &rest, answer),
-            Question::Values => add_values(alloc, &rest, answer),
-            Question::Letters => add_letters(alloc, &rest, answer),
-            Question::Value => add_yes_or_no(answer, is_value(&rest)),
-            Question::Operand => add_yes_or_no(answer, is_operand(&rest)),
-            Question::Refusal => add_refusal(alloc, &rest, answer),
-            Question::Report => add_report(alloc, &rest, answer),
+            Question::RepeatedWord => {
+                let line = repeated_words(alloc, &rest)?;
+                return add_line(alloc, question, &line, answer);
+            }
+            Question::Value => answer.add_yes_or_no(is_value(&rest)),
+            Question::Operand => answer.add_yes_or_no(is_operand(&rest)),
+            Question::Refusal => return add_refusal(alloc, &rest, answer),
+            Question::Report => return add_report(alloc, &rest, answer),
+            _ => return add_line(alloc, question, &rest, answer),
         }
+        Ok(())
     }
 }
 

@@ -2,7 +2,7 @@
 //! `docs/commands.md`, "Error lines".
 use base_core::{Cause, Digest, Name, Text, Words};
 use report_core::{Refusal, Report, write_error};
-use row_lines::{number_of, value_named, word_at, words_behind};
+use row_lines::{Answer, number_of, value_named, word_at, words_behind};
 use std::alloc::{AllocError, Global};
 use tree_memory::MemorySink;
 
@@ -11,7 +11,7 @@ use tree_memory::MemorySink;
 pub(crate) fn add_report(
     alloc: Global,
     words: &Words,
-    answer: &mut Vec<u8>,
+    answer: &mut Answer,
 ) -> Result<(), AllocError> {
     let mut report = Report::new(alloc);
     for i in 0..words.len() {
@@ -20,7 +20,8 @@ pub(crate) fn add_report(
             None => report.push(words.word(i))?,
         }
     }
-    answer.extend_from_slice(report.bytes())
+    answer.push(report.bytes());
+    Ok(())
 }
 
 /// Answers `refusal NAME FIELD ..`: adds the error line of the refusal with this name and these
@@ -28,16 +29,18 @@ pub(crate) fn add_report(
 pub(crate) fn add_refusal(
     alloc: Global,
     words: &Words,
-    answer: &mut Vec<u8>,
+    answer: &mut Answer,
 ) -> Result<(), AllocError> {
     let Some(refusal) = refusal_of(alloc, words)? else {
-        return answer.extend_from_slice(b"no refusal");
+        answer.push(b"no refusal");
+        return Ok(());
     };
     let mut sink = MemorySink::new(alloc);
     if write_error(&refusal, &mut sink).is_err() {
         return Err(AllocError);
     }
-    answer.extend_from_slice(sink.bytes())
+    answer.push(sink.bytes());
+    Ok(())
 }
 
 /// The variant of a refusal, without its fields, as a row names it.
@@ -112,10 +115,11 @@ fn refusal_of(alloc: Global, words: &Words) -> Result<Option<Refusal>, AllocErro
         Named::IntentBad | Named::DatabaseBad | Named::IndexBad | Named::FileBad => {
             refusal_with_cause(alloc, named, words)
         }
-        Named::PackageMissing | Named::PackageBad | Named::PackageDiffers => {
-            refusal_of_package(alloc, named, words)
-        }
-        Named::ScriptNeeded | Named::TriggerNeeded => refusal_of_script(alloc, named, words),
+        Named::PackageMissing
+        | Named::PackageBad
+        | Named::PackageDiffers
+        | Named::ScriptNeeded
+        | Named::TriggerNeeded => refusal_of_package(alloc, named, words),
         Named::Reserved | Named::PathClash | Named::Owned => refusal_of_path(alloc, named, words),
         _ => Ok(refusal_with_numbers(named, words)),
     }
@@ -180,48 +184,41 @@ fn refusal_with_cause(
     }))
 }
 
-/// The refusal of a package's file, by the words of a row: its name, the package's name and
-/// version, and further fields. None for a bad file if the further words are no cause.
+/// The refusal of a package's file, or of a script or a trigger that would run without
+/// `--no-scripts`, by the words of a row: its name, the package's name, the package's version or
+/// the number of the script, and further fields. None for a bad file if the further words are no
+/// cause.
 fn refusal_of_package(
     alloc: Global,
     named: Named,
     words: &Words,
 ) -> Result<Option<Refusal>, AllocError> {
-    // The words after the version are a cause. For `package-differs` they are the number of the
-    // field that differs, and the value of this field in the index and in the package file.
-    let cause = cause_of(&words_behind(alloc, words, 3)?);
     let name = Text::of(alloc, word_at(words, 1))?;
     let version = Text::of(alloc, word_at(words, 2))?;
     match named {
-        Named::PackageDiffers => Ok(Some(Refusal::PackageDiffers {
+        Named::ScriptNeeded => Ok(Some(Refusal::ScriptNeeded {
+            name,
+            script: u16_at(words, 2),
+        })),
+        Named::TriggerNeeded => Ok(Some(Refusal::TriggerNeeded { name })),
+        Named::PackageMissing => Ok(Some(Refusal::PackageMissing { name, version })),
+        Named::PackageBad => match cause_of(&words_behind(alloc, words, 3)?) {
+            Some(cause) => Ok(Some(Refusal::PackageBad {
+                name,
+                version,
+                cause,
+            })),
+            None => Ok(None),
+        },
+        // The number of the field that differs, and its value in the index and in the file.
+        _ => Ok(Some(Refusal::PackageDiffers {
             name,
             version,
             field: u16_at(words, 3),
             wanted: Text::of(alloc, word_at(words, 4))?,
             found: Text::of(alloc, word_at(words, 5))?,
         })),
-        Named::PackageBad => Ok(cause.map(|cause| Refusal::PackageBad {
-            name,
-            version,
-            cause,
-        })),
-        _ => Ok(Some(Refusal::PackageMissing { name, version })),
     }
-}
-
-/// The refusal of a script or a trigger that would run without `--no-scripts`, by the words of a
-/// row: its name, the name of the package, and the number of the script.
-fn refusal_of_script(
-    alloc: Global,
-    named: Named,
-    words: &Words,
-) -> Result<Option<Refusal>, AllocError> {
-    let name = Text::of(alloc, word_at(words, 1))?;
-    let script = u16_at(words, 2);
-    Ok(Some(match named {
-        Named::ScriptNeeded => Refusal::ScriptNeeded { name, script },
-        _ => Refusal::TriggerNeeded { name },
-    }))
 }
 
 /// The refusal of a path that is reserved, that is a folder of another file, or that two packages
@@ -321,18 +318,12 @@ fn cause_of(words: &Words) -> Option<Cause> {
             wanted: long,
             found: u64_at(words, 2),
         },
-        NamedCause::HashDiffers => hashes_differ(word_at(words, 1), word_at(words, 2))?,
+        NamedCause::HashDiffers => Cause::HashDiffers {
+            wanted: digest_of(word_at(words, 1))?,
+            found: digest_of(word_at(words, 2))?,
+        },
     };
     Some(cause)
-}
-
-/// The cause that a file has the digest `found` and not the digest `wanted`. Each has 20, 32 or 64
-/// bytes; None for another length.
-fn hashes_differ(wanted: &[u8], found: &[u8]) -> Option<Cause> {
-    Some(Cause::HashDiffers {
-        wanted: digest_of(wanted)?,
-        found: digest_of(found)?,
-    })
 }
 
 /// The digest of these bytes, by their length: SHA-1 of 20, SHA-256 of 32 and SHA-512 of 64
@@ -354,9 +345,7 @@ fn digest_of(bytes: &[u8]) -> Option<Digest> {
 
 /// The number that the word at an index, counted from 0, is; 0 if it is no number of 64 bits.
 fn u64_at(words: &Words, i: usize) -> u64 {
-    number_of(word_at(words, i))
-        .and_then(|number| u64::try_from(number).ok())
-        .unwrap_or(0)
+    u64::try_from(number_of(word_at(words, i)).unwrap_or(0)).unwrap_or(0)
 }
 
 /// The number that the word at an index is; 0 if it is no number of 32 bits.
