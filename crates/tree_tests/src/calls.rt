@@ -33,7 +33,7 @@ pub(crate) fn add_call(
         Call::Remove => tree.remove(name),
         Call::Rename => match Name::read(alloc, argument)? {
             Some(to) => tree.rename(name, &to),
-            // Nothing can have this text as its name.
+            // A rename to a text that is no name counts as failed.
             None => Err(Disk),
         },
     };

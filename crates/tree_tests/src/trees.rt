@@ -14,7 +14,8 @@ const LONGEST: u64 = 4096;
 /// The questions about the file of a name.
 #[derive(Clone, Copy)]
 pub(crate) enum FileQuestion {
-    /// `put NAME BYTES`: whether the tree can have a file under the name; it is put there then.
+    /// `put NAME BYTES`: whether the tree can have a file under the name. If it can, the file is
+    /// put there.
     Put,
     /// `can_put NAME`: whether the tree can have a file under the name.
     CanPut,
