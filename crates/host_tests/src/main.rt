@@ -7,9 +7,7 @@
 use base_core::{Disk, Name, Tree, TreeFault, Words};
 use host_files::{Host, Lock};
 use host_tree::HostTree;
-use row_lines::{
-    Subject, add_number, add_word, add_yes_or_no, number_of, run_program, value_named, word_at,
-};
+use row_lines::{Answer, Subject, number_of, run_program, value_named, word_at};
 use std::alloc::{AllocError, Global};
 use std::os::unix::fs::symlink;
 use std::process::ExitCode;
@@ -81,19 +79,24 @@ impl<'a, R: Host> Subject for HostFolder<'a, R> {
         &mut self,
         alloc: Global,
         words: &Words,
-        answer: &mut Vec<u8>,
+        answer: &mut Answer,
     ) -> Result<(), AllocError> {
         let first = word_at(words, 0);
         // This question alone has no name of a file.
         if first == b"sync_names".as_slice() {
-            return add_outcome(answer, self.tree.sync_names());
+            add_outcome(answer, self.tree.sync_names());
+            return Ok(());
         }
         let Some(question) = value_named(&QUESTIONS, first) else {
-            return answer.extend_from_slice(b"no question");
+            answer.push(b"no question");
+            return Ok(());
         };
         match Name::read(alloc, word_at(words, 1))? {
             Some(name) => self.add_answer(alloc, question, &name, words, answer),
-            None => answer.extend_from_slice(b"no name"),
+            None => {
+                answer.push(b"no name");
+                Ok(())
+            }
         }
     }
 }
@@ -107,7 +110,7 @@ impl<'a, R: Host> HostFolder<'a, R> {
         question: Question,
         name: &Name,
         words: &Words,
-        answer: &mut Vec<u8>,
+        answer: &mut Answer,
     ) -> Result<(), AllocError> {
         let argument = word_at(words, 2);
         match question {
@@ -116,13 +119,25 @@ impl<'a, R: Host> HostFolder<'a, R> {
             Question::Sync => add_outcome(answer, self.tree.sync(name)),
             Question::Write => add_outcome(answer, self.write(name, argument)),
             Question::Remove => add_outcome(answer, self.tree.remove(name)),
-            Question::Rename => self.add_rename(alloc, name, argument, answer),
-            Question::Check => self.add_check(alloc, name, argument, answer),
-            Question::Size => self.add_size(alloc, name, answer),
-            Question::Read => self.add_read(alloc, name, words, answer),
+            Question::Rename => match Name::read(alloc, argument)? {
+                Some(to) => add_outcome(answer, self.tree.rename(name, &to)),
+                None => answer.push(b"no name"),
+            },
+            Question::Check => {
+                // Without the name of a source, the tree is asked for a removal.
+                let source = Name::read(alloc, argument)?;
+                add_outcome(answer, self.tree.check_target(name, source.as_ref()))
+            }
+            Question::Size => match self.tree.size(name) {
+                Ok(Some(len)) => answer.add_number(u128::from(len)),
+                Ok(None) => answer.push(b"none"),
+                Err(_) => answer.push(b"fault"),
+            },
+            Question::Read => return self.add_read(alloc, name, words, answer),
             Question::List => self.add_list(alloc, name, answer),
             Question::Host(call) => self.add_host_answer(call, name, argument, answer),
         }
+        Ok(())
     }
 
     /// Answers `write NAME BYTES`: makes a file with these bytes by three calls, the last of which
@@ -133,108 +148,56 @@ impl<'a, R: Host> HostFolder<'a, R> {
         self.tree.sync(name)
     }
 
-    /// Answers `rename NAME TO`: renames a file, and adds whether the call succeeds.
-    fn add_rename(
-        &mut self,
-        alloc: Global,
-        from: &Name,
-        to: &[u8],
-        answer: &mut Vec<u8>,
-    ) -> Result<(), AllocError> {
-        match Name::read(alloc, to)? {
-            Some(to) => add_outcome(answer, self.tree.rename(from, &to)),
-            None => answer.extend_from_slice(b"no name"),
-        }
-    }
-
-    /// Answers `check NAME SOURCE`: adds whether the file SOURCE can be renamed to NAME later. If
-    /// SOURCE is no name, for example empty, it adds whether NAME can be removed later.
-    fn add_check(
-        &mut self,
-        alloc: Global,
-        name: &Name,
-        source: &[u8],
-        answer: &mut Vec<u8>,
-    ) -> Result<(), AllocError> {
-        match Name::read(alloc, source)? {
-            Some(source) => add_outcome(answer, self.tree.check_target(name, Some(&source))),
-            None => add_outcome(answer, self.tree.check_target(name, None)),
-        }
-    }
-
-    /// Answers `size NAME`: adds the length of a file in bytes, or `none` if the file is absent.
-    fn add_size(
-        &mut self,
-        alloc: Global,
-        name: &Name,
-        answer: &mut Vec<u8>,
-    ) -> Result<(), AllocError> {
-        match self.tree.size(name) {
-            Ok(Some(len)) => add_number(alloc, answer, u128::from(len)),
-            Ok(None) => answer.extend_from_slice(b"none"),
-            Err(_) => answer.extend_from_slice(b"fault"),
-        }
-    }
-
     /// Answers `read NAME AT LEN`: adds LEN bytes of a file from the offset AT on.
     fn add_read(
         &mut self,
         alloc: Global,
         name: &Name,
         words: &Words,
-        answer: &mut Vec<u8>,
+        answer: &mut Answer,
     ) -> Result<(), AllocError> {
         let (Some(at), Some(len)) = (number_of(word_at(words, 2)), number_of(word_at(words, 3)))
         else {
-            return answer.extend_from_slice(b"no number");
+            answer.push(b"no number");
+            return Ok(());
         };
         if at > MOST_BYTES || len > MOST_BYTES {
-            return answer.extend_from_slice(b"too many bytes");
+            answer.push(b"too many bytes");
+            return Ok(());
         }
         let mut bytes = vec![in alloc; 0u8; len as usize]?;
         match self.tree.read_at(name, at as u64, &mut bytes) {
-            Ok(()) => answer.extend_from_slice(&bytes),
-            Err(_) => answer.extend_from_slice(b"fault"),
+            Ok(()) => answer.push(&bytes),
+            Err(_) => answer.push(b"fault"),
         }
+        Ok(())
     }
 
     /// Answers `list FOLDER`: adds the names of all files below a folder.
-    fn add_list(
-        &mut self,
-        alloc: Global,
-        folder: &Name,
-        answer: &mut Vec<u8>,
-    ) -> Result<(), AllocError> {
+    fn add_list(&mut self, alloc: Global, folder: &Name, answer: &mut Answer) {
         match self.tree.list(alloc, folder) {
             Ok(names) => {
                 for i in 0..names.len() {
-                    add_word(answer, names.get(i).as_bytes())?;
+                    answer.add_word(names.get(i).as_bytes());
                 }
-                Ok(())
             }
-            Err(TreeFault::Memory) => answer.extend_from_slice(b"no memory"),
-            Err(TreeFault::Disk) => answer.extend_from_slice(b"fault"),
+            Err(TreeFault::Memory) => answer.push(b"no memory"),
+            Err(TreeFault::Disk) => answer.push(b"fault"),
         }
     }
 
     /// Answers a question by calling the host itself, and not the tree: whether a path leads to
     /// something, making a symbolic link, or removing a file.
-    fn add_host_answer(
-        &self,
-        call: HostCall,
-        path: &Name,
-        target: &[u8],
-        answer: &mut Vec<u8>,
-    ) -> Result<(), AllocError> {
+    fn add_host_answer(&self, call: HostCall, path: &Name, target: &[u8], answer: &mut Answer) {
         let (Ok(path), Ok(target)) = (str::from_utf8(path.as_bytes()), str::from_utf8(target))
         else {
-            return answer.extend_from_slice(b"no text");
+            return answer.push(b"no text");
         };
         match call {
-            HostCall::Exists => add_yes_or_no(
-                answer,
-                matches!(fs::exists(self.rt, path), Ok(true)),
-            ),
+            HostCall::Exists => match fs::exists(self.rt, path) {
+                Ok(true) => answer.push(b"yes"),
+                _ => answer.push(b"no"),
+            },
             HostCall::Link => add_outcome(answer, symlink(self.rt, target, path)),
             HostCall::Unlink => add_outcome(answer, fs::remove_file(self.rt, path)),
         }
@@ -242,10 +205,10 @@ impl<'a, R: Host> HostFolder<'a, R> {
 }
 
 /// Adds whether a call succeeded: `ok` or `fault`.
-fn add_outcome<E: Drop>(answer: &mut Vec<u8>, outcome: Result<(), E>) -> Result<(), AllocError> {
+fn add_outcome<E: Drop>(answer: &mut Answer, outcome: Result<(), E>) {
     match outcome {
-        Ok(()) => answer.extend_from_slice(b"ok"),
-        Err(_) => answer.extend_from_slice(b"fault"),
+        Ok(()) => answer.push(b"ok"),
+        Err(_) => answer.push(b"fault"),
     }
 }
 

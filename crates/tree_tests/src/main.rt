@@ -8,16 +8,16 @@
 mod calls;
 mod trees;
 
-use base_core::Words;
-use calls::{add_call, add_read, add_sync_names, make_turns};
-use row_lines::{Subject, run_program, value_named, word_at};
+use base_core::{Name, Sink, Tree, Words, write_all};
+use calls::{Call, add_written, make_turns};
+use row_lines::{Answer, Subject, run_program, value_named, word_at};
 use std::alloc::{AllocError, Global};
 use std::io;
 use std::process::ExitCode;
 use tree_memory::{MemorySink, MemoryTree};
 use trees::{
-    add_counts, add_file, add_image, add_is_name, add_list, add_names, add_put,
-    add_sink_bytes_and_wants, add_size, add_write, plan_failures, set_sink,
+    FileQuestion, add_counts, add_file_answer, add_is_name, add_names, add_tree, long_at,
+    plan_failures,
 };
 
 /// The questions of rows; the README of this crate says what each question answers.
@@ -27,29 +27,14 @@ enum Question {
     Name,
     /// `names WORD ..`: which words are valid names.
     Names,
-    /// `new_sink`: the sink is replaced by an empty one.
-    NewSink,
-    /// `fail_after N`, `take_at_most N`: limits how many bytes the sink takes.
-    SetSink,
-    /// `write BYTES`, `write_all BYTES`: bytes are written to the sink.
-    Write,
-    /// `sink_bytes`: the bytes that the sink took, and how often the sink ran out of memory.
-    SinkBytesAndWants,
+    /// Questions and calls to the sink.
+    Sink(SinkQuestion),
     /// `new_tree`: the tree is replaced by an empty one.
     NewTree,
-    /// `put NAME BYTES`, `can_put NAME`: whether the tree can have a file under the name; `put`
-    /// also puts it there.
-    Put,
-    /// `file NAME`: the bytes of the file.
-    File,
-    /// `size NAME`: the length of the file.
-    Size,
-    /// `read NAME AT LEN`: LEN bytes of the file from the offset AT on.
-    Read,
-    /// `list NAME`: the names below the folder NAME.
-    List,
-    /// `fail_at N ..`, `stop_after N`: which later calls on the tree fail.
-    PlanFailures,
+    /// `fail_at N ..`: which later calls on the tree fail.
+    FailAt,
+    /// `stop_after N`: after which call all calls on the tree fail.
+    StopAfter,
     /// `counts`: the counts of calls on the tree, and of maps of names.
     Counts,
     /// `image N`: the files of the possible crash image with the number N.
@@ -58,9 +43,25 @@ enum Question {
     Turns,
     /// `sync_names`: the names of the tree are synced.
     SyncNames,
-    /// Calls on a file: `create NAME`, `append NAME BYTES`, `sync NAME`, `remove NAME`,
-    /// `rename NAME NAME`.
-    Call,
+    /// Questions about the file of a name, which is the second word of the row.
+    File(FileQuestion),
+}
+
+/// The questions and calls to the sink.
+#[derive(Clone, Copy)]
+enum SinkQuestion {
+    /// `new_sink`: the sink is replaced by an empty one.
+    New,
+    /// `fail_after N`: the sink fails after N more bytes.
+    FailAfter,
+    /// `take_at_most N`: the sink takes at most N bytes of each write.
+    TakeAtMost,
+    /// `write BYTES`: how many of the bytes the sink takes in one write.
+    Write,
+    /// `write_all BYTES`: whether the sink takes all of the bytes.
+    WriteAll,
+    /// `sink_bytes`: the bytes that the sink took, and how often the sink ran out of memory.
+    BytesAndWants,
 }
 
 // The first word of each question.
@@ -70,32 +71,33 @@ const QUESTIONS: [(&[u8], Question); 26] = [
     (b"name", Question::Name),
     (b"names", Question::Names),
     // Questions and calls to the sink.
-    (b"new_sink", Question::NewSink),
-    (b"fail_after", Question::SetSink),
-    (b"take_at_most", Question::SetSink),
-    (b"write", Question::Write),
-    (b"write_all", Question::Write),
-    (b"sink_bytes", Question::SinkBytesAndWants),
+    (b"new_sink", Question::Sink(SinkQuestion::New)),
+    (b"fail_after", Question::Sink(SinkQuestion::FailAfter)),
+    (b"take_at_most", Question::Sink(SinkQuestion::TakeAtMost)),
+    (b"write", Question::Sink(SinkQuestion::Write)),
+    (b"write_all", Question::Sink(SinkQuestion::WriteAll)),
+    (b"sink_bytes", Question::Sink(SinkQuestion::BytesAndWants)),
     // Questions and calls to the tree.
     (b"new_tree", Question::NewTree),
-    (b"put", Question::Put),
-    (b"can_put", Question::Put),
-    (b"file", Question::File),
-    (b"size", Question::Size),
-    (b"read", Question::Read),
-    (b"list", Question::List),
-    (b"fail_at", Question::PlanFailures),
-    (b"stop_after", Question::PlanFailures),
+    (b"fail_at", Question::FailAt),
+    (b"stop_after", Question::StopAfter),
     (b"counts", Question::Counts),
     (b"image", Question::Image),
     (b"turns", Question::Turns),
     (b"sync_names", Question::SyncNames),
+    // Questions about a file of the tree.
+    (b"put", Question::File(FileQuestion::Put)),
+    (b"can_put", Question::File(FileQuestion::CanPut)),
+    (b"file", Question::File(FileQuestion::Bytes)),
+    (b"size", Question::File(FileQuestion::Size)),
+    (b"read", Question::File(FileQuestion::Read)),
+    (b"list", Question::File(FileQuestion::List)),
     // Calls that change a file of the tree, or sync it.
-    (b"create", Question::Call),
-    (b"append", Question::Call),
-    (b"sync", Question::Call),
-    (b"remove", Question::Call),
-    (b"rename", Question::Call),
+    (b"create", Question::File(FileQuestion::Call(Call::Create))),
+    (b"append", Question::File(FileQuestion::Call(Call::Append))),
+    (b"sync", Question::File(FileQuestion::Call(Call::Sync))),
+    (b"remove", Question::File(FileQuestion::Call(Call::Remove))),
+    (b"rename", Question::File(FileQuestion::Call(Call::Rename))),
 ];
 
 /// The tree and the sink on which all rows work.
@@ -114,53 +116,68 @@ impl Subject for InMemory {
         &mut self,
         alloc: Global,
         words: &Words,
-        answer: &mut Vec<u8>,
+        answer: &mut Answer,
     ) -> Result<(), AllocError> {
         let Some(question) = value_named(&QUESTIONS, word_at(words, 0)) else {
-            return answer.extend_from_slice(b"no question");
+            answer.push(b"no question");
+            return Ok(());
         };
         match question {
-            Question::Name => add_is_name(alloc, words, answer),
-            Question::Names => add_names(alloc, words, answer),
-            Question::NewSink => {
-                self.sink = MemorySink::new(alloc);
-                Ok(())
+            Question::Name => return add_is_name(alloc, word_at(words, 1), answer),
+            Question::Names => return add_names(alloc, words, answer),
+            Question::Sink(question) => {
+                add_sink_answer(alloc, &mut self.sink, question, words, answer)
             }
-            Question::SetSink => {
-                set_sink(&mut self.sink, words);
-                Ok(())
+            Question::NewTree => self.tree = MemoryTree::new(alloc),
+            Question::FailAt => return plan_failures(alloc, &mut self.tree, words),
+            Question::StopAfter => self.tree.stop_after(long_at(words, 1)),
+            Question::Counts => add_counts(alloc, &self.tree, answer),
+            Question::Image => {
+                let image = self.tree.pick_image(alloc, long_at(words, 1))?;
+                add_tree(alloc, &image, answer)?;
+                add_counts(alloc, &image, answer)
             }
-            Question::Write => add_write(alloc, &mut self.sink, words, answer),
-            Question::SinkBytesAndWants => add_sink_bytes_and_wants(alloc, &self.sink, answer),
-            Question::NewTree => {
-                self.tree = MemoryTree::new(alloc);
-                Ok(())
+            Question::Turns => return make_turns(alloc, &mut self.tree, words),
+            Question::SyncNames => {
+                let outcome = self.tree.sync_names();
+                return add_written(alloc, &self.tree, outcome, answer);
             }
-            _ => answer_of_tree(alloc, &mut self.tree, question, words, answer),
+            Question::File(question) => match Name::read(alloc, word_at(words, 1))? {
+                Some(name) => {
+                    return add_file_answer(alloc, &mut self.tree, question, &name, words, answer);
+                }
+                None => answer.push(b"no name"),
+            },
         }
+        Ok(())
     }
 }
 
-// Answers a question about the tree, or makes the call on the tree that the row names.
-fn answer_of_tree(
+// Answers a question to the sink, or makes the call on the sink that the row names.
+fn add_sink_answer(
     alloc: Global,
-    tree: &mut MemoryTree,
-    question: Question,
+    sink: &mut MemorySink,
+    question: SinkQuestion,
     words: &Words,
-    answer: &mut Vec<u8>,
-) -> Result<(), AllocError> {
+    answer: &mut Answer,
+) {
     match question {
-        Question::Put => add_put(alloc, tree, words, answer),
-        Question::File => add_file(alloc, tree, words, answer),
-        Question::Size => add_size(alloc, tree, words, answer),
-        Question::Read => add_read(alloc, tree, words, answer),
-        Question::List => add_list(alloc, tree, words, answer),
-        Question::PlanFailures => plan_failures(alloc, tree, words),
-        Question::Counts => add_counts(alloc, tree, answer),
-        Question::Image => add_image(alloc, tree, words, answer),
-        Question::Turns => make_turns(alloc, tree, words),
-        Question::SyncNames => add_sync_names(alloc, tree, answer),
-        _ => add_call(alloc, tree, words, answer),
+        SinkQuestion::New => *sink = MemorySink::new(alloc),
+        SinkQuestion::FailAfter => sink.fail_after(long_at(words, 1) as usize),
+        SinkQuestion::TakeAtMost => sink.take_at_most((long_at(words, 1) as usize).max(1)),
+        SinkQuestion::Write => match sink.write(word_at(words, 1)) {
+            Ok(taken) => answer.add_number(taken as u128),
+            Err(_) => answer.push(b"failed"),
+        },
+        SinkQuestion::WriteAll => match write_all(sink, word_at(words, 1)) {
+            Ok(()) => answer.push(b"all"),
+            Err(_) => answer.push(b"failed"),
+        },
+        SinkQuestion::BytesAndWants => {
+            answer.push(sink.bytes());
+            answer.add_word(b"wants ");
+            answer.add_number(u128::from(sink.wants()))
+        }
     }
 }
 

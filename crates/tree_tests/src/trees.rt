@@ -1,95 +1,116 @@
-//! Answers about names, a sink in memory and a tree in memory: what is put and read, which calls
-//! are planned to fail, and what a crash leaves. The rules are in `docs/crash-safety.md`, "A tree
-//! at one moment", "What a crash leaves" and "Misuses, faults and counts".
+//! Answers about names and a tree in memory: what is put and read, which calls are planned to fail,
+//! and what a crash leaves. The rules are in `docs/crash-safety.md`, "A tree at one moment", "What
+//! a crash leaves" and "Misuses, faults and counts".
 
-use base_core::{Name, Names, Sink, Tree, Words, read_all, write_all};
-use row_lines::{add_named, add_number, add_word, add_yes_or_no, number_of, word_at};
+use crate::calls::{Call, add_call, ok_or_failed};
+use base_core::{Name, Names, Tree, Words, read_all};
+use row_lines::{Answer, number_of, word_at};
 use std::alloc::{AllocError, Global};
-use tree_memory::{MemorySink, MemoryTree};
+use tree_memory::MemoryTree;
 
-/// Answers `put` and `can_put`: adds whether the tree can have a file under a name, and for `put`
-/// puts it there.
-pub(crate) fn add_put(
+/// The most bytes that a row reads at once.
+const LONGEST: u64 = 4096;
+
+/// The questions about the file of a name.
+#[derive(Clone, Copy)]
+pub(crate) enum FileQuestion {
+    /// `put NAME BYTES`: whether the tree can have a file under the name. If it can, the file is
+    /// put there.
+    Put,
+    /// `can_put NAME`: whether the tree can have a file under the name.
+    CanPut,
+    /// `file NAME`: the bytes of the file.
+    Bytes,
+    /// `size NAME`: the length of the file.
+    Size,
+    /// `read NAME AT LEN`: LEN bytes of the file from the offset AT on.
+    Read,
+    /// `list NAME`: the names below the folder NAME.
+    List,
+    /// Calls that change the file, or sync it: `create NAME`, `append NAME BYTES`, `sync NAME`,
+    /// `remove NAME`, `rename NAME NAME`.
+    Call(Call),
+}
+
+/// Answers a question about the file of a name, or makes the call on the tree that the row names.
+/// Further words of the row are arguments.
+pub(crate) fn add_file_answer(
     alloc: Global,
     tree: &mut MemoryTree,
+    question: FileQuestion,
+    name: &Name,
     words: &Words,
-    answer: &mut Vec<u8>,
+    answer: &mut Answer,
 ) -> Result<(), AllocError> {
-    let Some(name) = name_at(alloc, words, 1)? else {
-        return answer.extend_from_slice(b"no name");
-    };
-    let can = tree.can_put(&name);
-    // `can_put` only asks.
-    if can && word_at(words, 0) == b"put".as_slice() {
-        tree.put(&name, word_at(words, 2))?;
+    match question {
+        FileQuestion::Put => {
+            let can = tree.can_put(name);
+            if can {
+                tree.put(name, word_at(words, 2))?;
+            }
+            answer.add_yes_or_no(can)
+        }
+        FileQuestion::CanPut => answer.add_yes_or_no(tree.can_put(name)),
+        FileQuestion::Bytes => add_file(alloc, tree, name, answer),
+        FileQuestion::Size => match tree.size(name) {
+            Ok(Some(size)) => answer.add_number(u128::from(size)),
+            Ok(None) => answer.push(b"absent"),
+            Err(_) => answer.push(b"failed"),
+        },
+        FileQuestion::Read => return add_read(alloc, tree, name, words, answer),
+        FileQuestion::List => match tree.list(alloc, name) {
+            Ok(names) => add_each(&names, answer),
+            Err(_) => answer.push(b"failed"),
+        },
+        FileQuestion::Call(call) => {
+            return add_call(alloc, tree, call, name, word_at(words, 2), answer);
+        }
     }
-    add_yes_or_no(answer, can)
+    Ok(())
 }
 
 /// Answers `file NAME`: adds the bytes of the file, or `differs` if `read_all` reads other bytes
 /// than `file` returns.
-pub(crate) fn add_file(
-    alloc: Global,
-    tree: &mut MemoryTree,
-    words: &Words,
-    answer: &mut Vec<u8>,
-) -> Result<(), AllocError> {
-    let Some(name) = name_at(alloc, words, 1)? else {
-        return answer.extend_from_slice(b"no name");
+fn add_file(alloc: Global, tree: &mut MemoryTree, name: &Name, answer: &mut Answer) {
+    let Ok(whole) = read_all(alloc, tree, name) else {
+        return answer.push(b"failed");
     };
-    let Ok(whole) = read_all(alloc, tree, &name) else {
-        return answer.extend_from_slice(b"failed");
-    };
-    if whole.as_deref() != tree.file(&name) {
-        return answer.extend_from_slice(b"differs");
-    }
-    answer.extend_from_slice(tree.file(&name).unwrap_or(b"absent"))
-}
-
-/// Answers `size NAME`: adds how many bytes the file has, or that it is absent.
-pub(crate) fn add_size(
-    alloc: Global,
-    tree: &mut MemoryTree,
-    words: &Words,
-    answer: &mut Vec<u8>,
-) -> Result<(), AllocError> {
-    let Some(name) = name_at(alloc, words, 1)? else {
-        return answer.extend_from_slice(b"no name");
-    };
-    match tree.size(&name) {
-        Ok(Some(size)) => add_number(alloc, answer, u128::from(size)),
-        Ok(None) => answer.extend_from_slice(b"absent"),
-        Err(_) => answer.extend_from_slice(b"failed"),
+    let file = tree.file(name);
+    if whole.as_deref() == file {
+        answer.push(file.unwrap_or(b"absent"))
+    } else {
+        answer.push(b"differs")
     }
 }
 
-/// Answers `list NAME`: adds the names below the folder NAME, in byte order.
-pub(crate) fn add_list(
+/// Answers `read NAME AT LEN`: reads LEN bytes of the file, from the offset AT on, into a buffer of
+/// digits `7`. Adds whether the read succeeded, the buffer, and the length of the longest read so
+/// far.
+fn add_read(
     alloc: Global,
     tree: &mut MemoryTree,
+    name: &Name,
     words: &Words,
-    answer: &mut Vec<u8>,
+    answer: &mut Answer,
 ) -> Result<(), AllocError> {
-    let Some(folder) = name_at(alloc, words, 1)? else {
-        return answer.extend_from_slice(b"no name");
-    };
-    match tree.list(alloc, &folder) {
-        Ok(names) => add_each(&names, answer),
-        Err(_) => answer.extend_from_slice(b"failed"),
-    }
+    let len = long_at(words, 3).min(LONGEST) as usize;
+    // The buffer; bytes that the read does not write stay `7`.
+    let mut into = Vec::from_elem(alloc, b'7', len)?;
+    let outcome = tree.read_at(name, long_at(words, 2), &mut into);
+    answer.push(ok_or_failed(outcome));
+    answer.add_word(&into);
+    // Adds the space between the bytes and the number.
+    answer.add_word(b"");
+    answer.add_number(u128::from(tree.longest_read()));
+    Ok(())
 }
 
-/// Plans which later calls on the tree fail: those with these numbers (`fail_at N ..`), or all
-/// after the next N calls (`stop_after N`).
+/// Plans that the later calls on the tree with the numbers in the row fail (`fail_at N ..`).
 pub(crate) fn plan_failures(
     alloc: Global,
     tree: &mut MemoryTree,
     words: &Words,
 ) -> Result<(), AllocError> {
-    if word_at(words, 0) == b"stop_after".as_slice() {
-        tree.stop_after(long_at(words, 1));
-        return Ok(());
-    }
     let mut calls = Vec::new(alloc);
     for i in 1..words.len() {
         calls.push(long_at(words, i))?;
@@ -100,155 +121,77 @@ pub(crate) fn plan_failures(
 /// Adds how many calls on the tree were made, and how many of them wrote, failed, and ran out of
 /// memory (`wants`). Then adds the length of the longest read, and the number of the tree's maps of
 /// names.
-pub(crate) fn add_counts(
-    alloc: Global,
-    tree: &MemoryTree,
-    answer: &mut Vec<u8>,
-) -> Result<(), AllocError> {
-    add_count(alloc, answer, b"calls ", tree.calls())?;
-    add_count(alloc, answer, b"writes ", tree.writes())?;
-    add_count(alloc, answer, b"faults ", tree.faults())?;
-    add_count(alloc, answer, b"wants ", tree.wants())?;
-    add_count(alloc, answer, b"longest ", tree.longest_read())?;
-    add_count(alloc, answer, b"maps ", tree.maps())
-}
-
-// Adds what a number counts (`what`), and the number.
-fn add_count(
-    alloc: Global,
-    answer: &mut Vec<u8>,
-    what: &[u8],
-    count: u64,
-) -> Result<(), AllocError> {
-    add_word(answer, what)?;
-    add_number(alloc, answer, u128::from(count))
+pub(crate) fn add_counts(alloc: Global, tree: &MemoryTree, answer: &mut Answer) {
+    let (calls, writes, faults) = (tree.calls(), tree.writes(), tree.faults());
+    let (wants, longest, maps) = (tree.wants(), tree.longest_read(), tree.maps());
+    // Adds the space before the counts, if the answer is not empty.
+    answer.add_word(b"");
+    answer.add_text(format!(in alloc;
+        "calls {calls} writes {writes} faults {faults} wants {wants} longest {longest} maps {maps}"
+    ))
 }
 
 /// Adds each name in the tree with the bytes of its file.
 pub(crate) fn add_tree(
     alloc: Global,
     tree: &MemoryTree,
-    answer: &mut Vec<u8>,
+    answer: &mut Answer,
 ) -> Result<(), AllocError> {
     let names = tree.names(alloc)?;
     for i in 0..names.len() {
         let name = names.get(i);
-        add_named(
-            answer,
-            name.as_bytes(),
-            tree.file(name).unwrap_or(b"absent"),
-        )?;
+        answer.add_named(name.as_bytes(), tree.file(name).unwrap_or(b"absent"));
     }
     Ok(())
-}
-
-/// Answers `image N`: adds the files of the crash image number N, and the counts of this image.
-pub(crate) fn add_image(
-    alloc: Global,
-    tree: &MemoryTree,
-    words: &Words,
-    answer: &mut Vec<u8>,
-) -> Result<(), AllocError> {
-    let image = tree.pick_image(alloc, long_at(words, 1))?;
-    add_tree(alloc, &image, answer)?;
-    add_counts(alloc, &image, answer)
-}
-
-/// Plans that the sink fails after N more bytes (`fail_after N`), or takes at most N bytes of each
-/// write (`take_at_most N`).
-pub(crate) fn set_sink(sink: &mut MemorySink, words: &Words) {
-    let count = usize::try_from(long_at(words, 1)).unwrap_or(0);
-    if word_at(words, 0) == b"fail_after".as_slice() {
-        sink.fail_after(count);
-    } else {
-        sink.take_at_most(count.max(1));
-    }
-}
-
-/// Answers `write` and `write_all`: adds how many of the bytes the sink took in one write, or for
-/// `write_all` whether it took all of them.
-pub(crate) fn add_write(
-    alloc: Global,
-    sink: &mut MemorySink,
-    words: &Words,
-    answer: &mut Vec<u8>,
-) -> Result<(), AllocError> {
-    let bytes = word_at(words, 1);
-    if word_at(words, 0) == b"write_all".as_slice() {
-        let taken = write_all(sink, bytes).is_ok();
-        return answer.extend_from_slice(if taken { b"all" } else { b"failed" });
-    }
-    match sink.write(bytes) {
-        Ok(taken) => add_number(alloc, answer, taken as u128),
-        Err(_) => answer.extend_from_slice(b"failed"),
-    }
-}
-
-/// Answers `sink_bytes`: adds the bytes that the sink took, and how often it ran out of memory.
-pub(crate) fn add_sink_bytes_and_wants(
-    alloc: Global,
-    sink: &MemorySink,
-    answer: &mut Vec<u8>,
-) -> Result<(), AllocError> {
-    answer.extend_from_slice(sink.bytes())?;
-    add_word(answer, b"wants ")?;
-    add_number(alloc, answer, u128::from(sink.wants()))
 }
 
 /// Answers `name TEXT`: adds whether TEXT is a valid name. If it is, the answer is yes only if the
 /// name and a copy of the name have the bytes of TEXT.
 pub(crate) fn add_is_name(
     alloc: Global,
-    words: &Words,
-    answer: &mut Vec<u8>,
+    text: &[u8],
+    answer: &mut Answer,
 ) -> Result<(), AllocError> {
-    let bytes = word_at(words, 1);
-    match Name::read(alloc, bytes)? {
+    let is_name = match Name::read(alloc, text)? {
         Some(name) => {
             let copied = name.copy(alloc)?;
-            add_yes_or_no(
-                answer,
-                name.as_bytes() == bytes && copied.as_bytes() == bytes,
-            )
+            name.as_bytes() == text && copied.as_bytes() == text
         }
-        None => add_yes_or_no(answer, false),
-    }
-}
-
-/// The name in the word of the row with the index `i`, counted from 0; None if the word is no valid
-/// name.
-pub(crate) fn name_at(alloc: Global, words: &Words, i: usize) -> Result<Option<Name>, AllocError> {
-    Name::read(alloc, word_at(words, i))
+        None => false,
+    };
+    answer.add_yes_or_no(is_name);
+    Ok(())
 }
 
 /// The number in the word of the row with the index `i`, counted from 0; 0 if the word is no number
 /// of 64 bits.
 pub(crate) fn long_at(words: &Words, i: usize) -> u64 {
-    number_of(word_at(words, i))
-        .and_then(|number| u64::try_from(number).ok())
-        .unwrap_or(0)
+    match number_of(word_at(words, i)) {
+        Some(number) => u64::try_from(number).unwrap_or(0),
+        None => 0,
+    }
 }
 
 /// Answers `names WORD ..`: adds how many of the words are valid names, and each of these names.
 pub(crate) fn add_names(
     alloc: Global,
     words: &Words,
-    answer: &mut Vec<u8>,
+    answer: &mut Answer,
 ) -> Result<(), AllocError> {
     let mut names = Names::new(alloc);
     for i in 1..words.len() {
-        if let Some(name) = name_at(alloc, words, i)? {
+        if let Some(name) = Name::read(alloc, word_at(words, i))? {
             names.push(name)?;
         }
     }
-    add_number(alloc, answer, names.len() as u128)?;
-    add_each(&names, answer)
+    answer.add_number(names.len() as u128);
+    add_each(&names, answer);
+    Ok(())
 }
 
 /// Adds each name of a list, in its order.
-pub(crate) fn add_each(names: &Names, answer: &mut Vec<u8>) -> Result<(), AllocError> {
+fn add_each(names: &Names, answer: &mut Answer) {
     for i in 0..names.len() {
-        add_word(answer, names.get(i).as_bytes())?;
+        answer.add_word(names.get(i).as_bytes());
     }
-    Ok(())
 }
