@@ -8,18 +8,24 @@ mod files;
 mod numbers;
 mod values;
 
+use adb_schema::PACKAGE_WORD;
+use adb_view::Val;
+use adb_write::{WriteFault, file_of};
 use base_core::Words;
 use files::add_files;
 use numbers::add_numbers;
-use row_lines::{Subject, run_program, value_named, word_at};
+use row_lines::{Answer, Subject, run_program, value_named, word_at};
 use std::alloc::{AllocError, Global};
 use std::io;
 use std::process::ExitCode;
-use values::{add_draft, add_file, add_repeated, add_written};
+use values::{draft_of, write_values};
+
+/// The most bytes of a payload (`docs/formats.md`, "Canonical layout").
+const MOST_BYTES: usize = 268_435_455;
 
 /// The questions that a row may ask, with what is answered; the README of this crate says more.
 #[derive(Clone, Copy)]
-enum Question {
+pub(crate) enum Question {
     /// `write VALUE ..`: the words of the values, and the payload whose root is the last value.
     Write,
     /// `file VALUE ..`: a container with the payload whose root is the last value.
@@ -55,18 +61,56 @@ impl Subject for Containers {
         &mut self,
         alloc: Global,
         words: &Words,
-        answer: &mut Vec<u8>,
+        answer: &mut Answer,
     ) -> Result<(), AllocError> {
-        match value_named(&QUESTIONS, word_at(words, 0)) {
-            Some(Question::Write) => add_written(alloc, words, answer),
-            Some(Question::File) => add_file(alloc, words, answer),
-            Some(Question::Draft) => add_draft(alloc, words, answer),
-            Some(Question::Repeated) => add_repeated(alloc, words, answer),
-            Some(Question::Numbers) => add_numbers(alloc, word_at(words, 1), answer),
-            Some(Question::Package) => add_files(alloc, word_at(words, 1), answer),
-            None => answer.extend_from_slice(b"no question"),
-        }
+        let Some(question) = value_named(&QUESTIONS, word_at(words, 0)) else {
+            answer.push(b"no question");
+            return Ok(());
+        };
+        let payload = match question {
+            Question::Write | Question::File => {
+                let (writer, root) = write_values(alloc, question, words, answer)?;
+                writer.finish(root)
+            }
+            Question::Draft | Question::Repeated => draft_of(alloc, question, words)?.finish(),
+            // The root is null.
+            Question::Numbers => add_numbers(alloc, word_at(words, 1), answer)?.finish(Val::of(0)),
+            Question::Package => return add_files(alloc, word_at(words, 1), answer),
+        };
+        add_payload(alloc, question, payload, answer)
     }
+}
+
+/// Adds what a question asks of a payload: the container with the schema of a package, the length
+/// of the payload, or its bytes. If there is no payload, adds the counts of bytes and values just
+/// after the first value with which a count exceeds its limit.
+fn add_payload(
+    alloc: Global,
+    question: Question,
+    payload: Result<Vec<u8>, WriteFault>,
+    answer: &mut Answer,
+) -> Result<(), AllocError> {
+    match payload {
+        Ok(payload) => match question {
+            Question::File => {
+                if payload.len() > MOST_BYTES {
+                    answer.push(b"too many bytes");
+                } else {
+                    answer.push(&file_of(alloc, PACKAGE_WORD, &payload)?);
+                }
+            }
+            Question::Repeated | Question::Numbers => {
+                answer.push(b"bytes ");
+                answer.add_number(payload.len() as u128);
+            }
+            _ => answer.push(&payload),
+        },
+        Err(WriteFault::TooLarge { bytes, values }) => {
+            answer.add_text(format!(in alloc; "too large: {bytes} bytes, {values} values"))
+        }
+        Err(WriteFault::Memory) => return Err(AllocError),
+    }
+    Ok(())
 }
 
 /// Runs the rows of standard input, and returns the exit status.

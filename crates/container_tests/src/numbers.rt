@@ -1,10 +1,9 @@
 //! Answers `numbers ORDER`: many blobs are written in the given order, and then again. The writer's
 //! list of locators (written items) needs many pages for so many blobs. That equal values are
 //! stored once is stated in `docs/formats.md`, "Canonical layout".
-use crate::values::add_len;
 use adb_view::Val;
 use adb_write::Writer;
-use row_lines::{add_word, value_named};
+use row_lines::{Answer, value_named};
 use std::alloc::{AllocError, Global};
 
 /// How many blobs are written.
@@ -29,42 +28,36 @@ const ORDERS: [(&[u8], Order); 3] = [
     (b"scattered", Order::Scattered),
 ];
 
-/// The number that the blob with the index `i` has, counted from 0. 7919 is odd, so that no two of
-/// the scattered numbers are equal.
-fn number_at(order: Order, i: u32) -> u32 {
-    match order {
-        Order::Rising => i,
-        Order::Falling => BLOBS.wrapping_sub(i),
-        Order::Scattered => i.wrapping_mul(7919) % 65_536,
-    }
-}
-
 /// Writes the numbers as blobs of four bytes, and returns their words (32-bit references).
 fn words_of(alloc: Global, writer: &mut Writer, order: Order) -> Result<Vec<Val>, AllocError> {
     let mut words = Vec::new(alloc);
     for i in 0..BLOBS {
-        words.push(writer.blob(&number_at(order, i).to_be_bytes())?)?;
+        let number = match order {
+            Order::Rising => i,
+            Order::Falling => BLOBS - i,
+            // The factor is odd, so that no two of the numbers are equal.
+            Order::Scattered => i * 7919 % 65_536,
+        };
+        words.push(writer.blob(&number.to_be_bytes())?)?;
     }
     Ok(words)
 }
 
-/// Answers `numbers ORDER`: whether each blob has the same word when it is written again, and how
-/// many bytes the payload has.
+/// Writes the numbers as blobs twice, and adds whether each blob has the same word when it is
+/// written again. Returns the writer of the blobs.
 pub(crate) fn add_numbers(
     alloc: Global,
     order: &[u8],
-    answer: &mut Vec<u8>,
-) -> Result<(), AllocError> {
-    let Some(order) = value_named(&ORDERS, order) else {
-        return add_word(answer, b"no order");
-    };
+    answer: &mut Answer,
+) -> Result<Writer, AllocError> {
     let mut writer = Writer::new(alloc);
+    let Some(order) = value_named(&ORDERS, order) else {
+        answer.push(b"no order ");
+        return Ok(writer);
+    };
     let first = words_of(alloc, &mut writer, order)?;
     let second = words_of(alloc, &mut writer, order)?;
     let same = first == second;
-    add_word(answer, if same { b"the same" } else { b"others" })?;
-    match writer.finish(Val::of(0)) {
-        Ok(payload) => add_len(alloc, &payload, answer),
-        Err(_) => add_word(answer, b"no payload"),
-    }
+    answer.push(if same { b"the same " } else { b"others " });
+    Ok(writer)
 }

@@ -3,16 +3,13 @@
 //! `{` and `}` an object. `*` and a number repeat a value. After `~` the answer leaves out the
 //! words (32-bit references) of the values before. The layout is in `docs/formats.md`, "Canonical
 //! layout"; the README of this crate describes the words of a row.
-use adb_schema::PACKAGE_WORD;
+use crate::Question;
 use adb_values::Draft;
 use adb_view::Val;
-use adb_write::{WriteFault, Writer, file_of};
+use adb_write::Writer;
 use base_core::Words;
-use row_lines::{add_number, add_word, number_of, word_at};
+use row_lines::{Answer, number_of, word_at};
 use std::alloc::{AllocError, Global};
-
-/// The most bytes of a payload (`docs/formats.md`, "Canonical layout").
-const MOST_BYTES: usize = 268_435_455;
 
 /// What a word of a row describes: a value, or the beginning or end of a list.
 #[derive(Clone, Copy)]
@@ -36,15 +33,16 @@ enum Part<'a> {
 /// What a word of a row describes, and how often the value is written: as often as the number after
 /// `*` says, or once.
 fn part_of(word: &[u8]) -> (Part<'_>, u64) {
-    match word.iter().position(|byte| *byte == b'*') {
-        Some(at) => (part_named(&word[..at]), long_of(&word[at + 1..])),
-        None => (part_named(word), 1),
+    let mut name = word;
+    let mut times = 1;
+    for i in 0..word.len() {
+        if word[i] == b'*' {
+            name = &word[..i];
+            times = long_of(&word[i + 1..]);
+            break;
+        }
     }
-}
-
-/// What a word of a row describes, given the word without `*` and the number after it.
-fn part_named(word: &[u8]) -> Part<'_> {
-    match word {
+    let part = match name {
         [b'\'', bytes @ ..] => Part::Blob(bytes),
         [b'#', digits @ ..] => Part::Int(long_of(digits)),
         [b'['] | [b'{'] => Part::Open,
@@ -52,14 +50,16 @@ fn part_named(word: &[u8]) -> Part<'_> {
         [b'}'] => Part::Object,
         [b'~'] => Part::LeaveOut,
         _ => Part::Null,
-    }
+    };
+    (part, times)
 }
 
 /// The number of a word; 0 if it is no number.
 fn long_of(word: &[u8]) -> u64 {
-    number_of(word)
-        .and_then(|number| u64::try_from(number).ok())
-        .unwrap_or(0)
+    match number_of(word) {
+        Some(number) => u64::try_from(number).unwrap_or(0),
+        None => 0,
+    }
 }
 
 // ---- a writer
@@ -77,31 +77,33 @@ struct Written {
 }
 
 impl Written {
-    /// Writes `times` times the value of a word of a row, or begins or ends a list.
+    /// Writes `times` times the value of a word of a row, or begins a list. Each time the value
+    /// becomes an entry of the list that was begun last, if there is one. A list that ends is
+    /// written as a value; if no list has begun, nothing is written.
     fn add(&mut self, alloc: Global, part: Part<'_>, times: u64) -> Result<(), AllocError> {
+        // The words of the entries, if the value is a list.
+        let mut entries = Vec::new(alloc);
         match part {
-            Part::Open => self.open.push(Vec::new(alloc))?,
-            Part::Array | Part::Object => self.close(part, times)?,
+            Part::Open => {
+                self.open.push(entries)?;
+                return Ok(());
+            }
+            Part::Array | Part::Object => match self.open.pop() {
+                Some(list) => entries = list,
+                None => return Ok(()),
+            },
             Part::LeaveOut => self.words.clear(),
-            _ => self.add_times(part, &[], times)?,
+            Part::Null | Part::Int(_) | Part::Blob(_) => {}
         }
-        Ok(())
-    }
-
-    /// Ends the list that was begun last, as an array or an object (`part`), and writes this list
-    /// `times` times. If no list has begun, nothing is written.
-    fn close(&mut self, part: Part<'_>, times: u64) -> Result<(), AllocError> {
-        match self.open.pop() {
-            Some(entries) => self.add_times(part, &entries, times),
-            None => Ok(()),
-        }
-    }
-
-    /// Writes a value `times` times. Each time the value becomes an entry of the list that was
-    /// begun last, if there is one. `entries` are the words of the entries if the value is a list.
-    fn add_times(&mut self, part: Part<'_>, entries: &[Val], times: u64) -> Result<(), AllocError> {
         for _ in 0..times {
-            let word = self.word_of(part, entries)?;
+            let word = match part {
+                Part::Null => Ok(Val::of(0)),
+                Part::Int(number) => self.writer.int(number),
+                Part::Blob(bytes) => self.writer.blob(bytes),
+                Part::Array => self.writer.arr(&entries),
+                Part::Object => self.writer.obj(&entries),
+                Part::Open | Part::LeaveOut => break,
+            }?;
             match self.open.last_mut() {
                 Some(list) => list.push(word)?,
                 None => self.words.push(word)?,
@@ -109,23 +111,17 @@ impl Written {
         }
         Ok(())
     }
-
-    /// Writes a value, and returns its word. `entries` are the words of the entries if the value is
-    /// an array or an object.
-    fn word_of(&mut self, part: Part<'_>, entries: &[Val]) -> Result<Val, AllocError> {
-        match part {
-            // NULL. `add` handles `Open` and `LeaveOut` itself.
-            Part::Null | Part::Open | Part::LeaveOut => Ok(Val::of(0)),
-            Part::Int(number) => self.writer.int(number),
-            Part::Blob(bytes) => self.writer.blob(bytes),
-            Part::Array => self.writer.arr(entries),
-            Part::Object => self.writer.obj(entries),
-        }
-    }
 }
 
-/// Writes the values that the words of a row describe, from the second word on.
-fn write_values(alloc: Global, words: &Words) -> Result<Written, AllocError> {
+/// Writes the values that the words of a row describe, from the second word on. Returns the writer,
+/// and the word of the last value, or null if there is no value. The question `write` adds the words
+/// of all values.
+pub(crate) fn write_values(
+    alloc: Global,
+    question: Question,
+    words: &Words,
+    answer: &mut Answer,
+) -> Result<(Writer, Val), AllocError> {
     let mut written = Written {
         writer: Writer::new(alloc),
         open: Vec::new(alloc),
@@ -135,67 +131,15 @@ fn write_values(alloc: Global, words: &Words) -> Result<Written, AllocError> {
         let (part, times) = part_of(words.word(i));
         written.add(alloc, part, times)?;
     }
-    Ok(written)
-}
-
-/// The payload of the written values. Its root is the last value, or null if there is none.
-fn payload_of(written: Written) -> Result<Vec<u8>, WriteFault> {
-    let root = match written.words.last() {
-        Some(word) => *word,
-        None => Val::of(0),
-    };
-    written.writer.finish(root)
-}
-
-/// Answers `write VALUE ..`: the words of the values, and the payload whose root is the last value.
-pub(crate) fn add_written(
-    alloc: Global,
-    words: &Words,
-    answer: &mut Vec<u8>,
-) -> Result<(), AllocError> {
-    let written = write_values(alloc, words)?;
+    let mut last = Val::of(0);
     for word in &written.words {
-        let number = word.word();
-        let text = format!(in alloc; "{number:08x}")?;
-        add_word(answer, text.as_bytes())?;
-    }
-    match payload_of(written) {
-        Ok(payload) => add_word(answer, &payload),
-        Err(fault) => add_fault(alloc, fault, answer),
-    }
-}
-
-/// Answers `file VALUE ..`: the container, with the schema of a package, of the payload of the
-/// values.
-pub(crate) fn add_file(
-    alloc: Global,
-    words: &Words,
-    answer: &mut Vec<u8>,
-) -> Result<(), AllocError> {
-    match payload_of(write_values(alloc, words)?) {
-        Ok(payload) => add_file_of(alloc, &payload, answer),
-        Err(fault) => add_fault(alloc, fault, answer),
-    }
-}
-
-/// Adds the container of a payload, with the schema of a package.
-fn add_file_of(alloc: Global, payload: &[u8], answer: &mut Vec<u8>) -> Result<(), AllocError> {
-    if payload.len() > MOST_BYTES {
-        return add_word(answer, b"too many bytes");
-    }
-    add_word(answer, &file_of(alloc, PACKAGE_WORD, payload)?)
-}
-
-/// Adds why there is no payload: the counts of bytes and values just after the first value with
-/// which a count exceeds its limit. If memory ran out, that is returned as an error.
-fn add_fault(alloc: Global, fault: WriteFault, answer: &mut Vec<u8>) -> Result<(), AllocError> {
-    match fault {
-        WriteFault::TooLarge { bytes, values } => {
-            let text = format!(in alloc; "too large: {bytes} bytes, {values} values")?;
-            add_word(answer, text.as_bytes())
+        last = *word;
+        if let Question::Write = question {
+            let number = last.word();
+            answer.add_text(format!(in alloc; "{number:08x} "));
         }
-        WriteFault::Memory => Err(AllocError),
     }
+    Ok((written.writer, last))
 }
 
 // ---- a draft
@@ -206,64 +150,37 @@ fn add_values(draft: &mut Draft, words: &Words, first: usize) -> Result<(), Allo
     for i in first..words.len() {
         let (part, times) = part_of(words.word(i));
         for _ in 0..times {
-            add_part(draft, part)?;
+            match part {
+                Part::Null => draft.null(),
+                Part::Int(number) => draft.int(number),
+                Part::Blob(bytes) => draft.blob(bytes),
+                Part::Open => draft.open_list(),
+                Part::Array => draft.close_array(),
+                Part::Object => draft.close_object(),
+                Part::LeaveOut => Ok(()),
+            }?;
         }
     }
     Ok(())
 }
 
-/// Adds to a draft the value of a word of a row, or begins or ends a list.
-fn add_part(draft: &mut Draft, part: Part<'_>) -> Result<(), AllocError> {
-    match part {
-        Part::Null => draft.null(),
-        Part::Int(number) => draft.int(number),
-        Part::Blob(bytes) => draft.blob(bytes),
-        Part::Open => draft.open_list(),
-        Part::Array => draft.close_array(),
-        Part::Object => draft.close_object(),
-        Part::LeaveOut => Ok(()),
-    }
-}
-
-/// Answers `draft VALUE ..`: the payload of a draft of these values.
-pub(crate) fn add_draft(
+/// A draft of the values of `draft VALUE ..`, or of one array, which has N times the values of
+/// `repeated N VALUE ..`.
+pub(crate) fn draft_of(
     alloc: Global,
+    question: Question,
     words: &Words,
-    answer: &mut Vec<u8>,
-) -> Result<(), AllocError> {
+) -> Result<Draft, AllocError> {
     let mut draft = Draft::new(alloc);
-    add_values(&mut draft, words, 1)?;
-    match draft.finish() {
-        Ok(payload) => add_word(answer, &payload),
-        Err(fault) => add_fault(alloc, fault, answer),
+    match question {
+        Question::Repeated => {
+            draft.open_list()?;
+            for _ in 0..long_of(word_at(words, 1)) {
+                add_values(&mut draft, words, 2)?;
+            }
+            draft.close_array()?;
+        }
+        _ => add_values(&mut draft, words, 1)?,
     }
-}
-
-/// Answers `repeated N VALUE ..`: the length of the payload of a draft that has one array, with N
-/// times these values.
-pub(crate) fn add_repeated(
-    alloc: Global,
-    words: &Words,
-    answer: &mut Vec<u8>,
-) -> Result<(), AllocError> {
-    let mut draft = Draft::new(alloc);
-    draft.open_list()?;
-    for _ in 0..long_of(word_at(words, 1)) {
-        add_values(&mut draft, words, 2)?;
-    }
-    draft.close_array()?;
-    match draft.finish() {
-        Ok(payload) => add_len(alloc, &payload, answer),
-        Err(fault) => add_fault(alloc, fault, answer),
-    }
-}
-
-/// Adds how many bytes a payload has.
-pub(crate) fn add_len(
-    alloc: Global,
-    payload: &[u8],
-    answer: &mut Vec<u8>,
-) -> Result<(), AllocError> {
-    add_word(answer, b"bytes ")?;
-    add_number(alloc, answer, payload.len() as u128)
+    Ok(draft)
 }
