@@ -6,19 +6,20 @@ use base_core::Words;
 use db_core::{Db, Members, Owned};
 use db_write::write_db;
 use pkg_core::Front;
-use row_lines::word_at;
 use row_members::{add_coming, add_installed, front_of, name_at};
 use std::alloc::{AllocError, Global};
 use std::marker::PhantomData;
 
-/// The database after `change FLAGS NAME ..`: the packages of the database in `file` without those
-/// of these names, and then the added packages, whose files are in `coming`. The new database lists
-/// the files whose flag is 1. A `file` that is no database has no packages. None if the names of
-/// the packages are not in order, or an added package is bad, or the database is too large.
+/// The database after a change: the packages of the database in `file` without those whose names
+/// are words of the row, from the third word on, and then the added packages, whose files are in
+/// `coming`. The new database lists the files whose flag is `1`; `flags` has one byte for each
+/// file. A `file` that is no database has no packages. None if the names of the packages are not in
+/// order, or an added package is bad, or the database is too large.
 pub(crate) fn changed_database(
     alloc: Global,
     file: &[u8],
     coming: &[Vec<u8>],
+    flags: &[u8],
     words: &Words,
 ) -> Result<Option<Vec<u8>>, AllocError> {
     let mut fronts = Vec::new(alloc);
@@ -28,30 +29,25 @@ pub(crate) fn changed_database(
             None => return Ok(None),
         }
     }
-    changed_over(alloc, file, &fronts, words)
-}
-
-/// The database after a change of the database in `file`, or of an empty one if `file` is no
-/// database. `coming` has the fronts (headers and first blocks) of the added packages.
-fn changed_over<'a>(
-    alloc: Global,
-    file: &'a [u8],
-    coming: &'a [Front],
-    words: &Words,
-) -> Result<Option<Vec<u8>>, AllocError> {
+    let mut owned = Owned::new(alloc);
+    for flag in flags {
+        owned.push(*flag == b'1')?;
+    }
     match Db::read(alloc, file) {
-        Ok(db) => change_of(alloc, &db, coming, words),
-        Err(ReadFault::Bad(_)) => change_of(alloc, &Db::empty(alloc), coming, words),
+        Ok(db) => change_of(alloc, &db, &fronts, &owned, words),
+        Err(ReadFault::Bad(_)) => change_of(alloc, &Db::empty(alloc), &fronts, &owned, words),
         Err(ReadFault::Memory) => Err(AllocError),
     }
 }
 
-/// The database after a change of the database `db`. `coming` has the fronts of the added packages;
-/// the words after the flags are the names of the packages that are removed.
+/// The database after a change of the database `db`. `coming` has the fronts (headers and first
+/// blocks) of the added packages. `owned` says for each file of the new database whether its
+/// package owns it.
 fn change_of<'a>(
     alloc: Global,
     db: &Db<'a>,
     coming: &'a [Front],
+    owned: &Owned,
     words: &Words,
 ) -> Result<Option<Vec<u8>>, AllocError> {
     let mut members = Members::new(alloc, db);
@@ -67,32 +63,10 @@ fn change_of<'a>(
             return Ok(None);
         }
     }
-    // The word 1 has the flags.
-    written(alloc, &members, word_at(words, 1))
-}
-
-/// Whether the database in `file` has the same bytes if it is read and written again.
-pub(crate) fn unchanged_database(alloc: Global, file: &[u8]) -> Result<bool, AllocError> {
-    match Db::read(alloc, file) {
-        Ok(db) => is_written_again(alloc, &db, file),
-        Err(ReadFault::Bad(_)) => Ok(false),
-        Err(ReadFault::Memory) => Err(AllocError),
-    }
-}
-
-/// Whether the database with the packages of `db` has the bytes of `file`. It may list up to 100
-/// files, each of which its package owns.
-fn is_written_again(alloc: Global, db: &Db<'_>, file: &[u8]) -> Result<bool, AllocError> {
-    let mut members = Members::new(alloc, db);
-    for i in 0..db.len() {
-        if !add_installed(&mut members, i)? {
-            return Ok(false);
-        }
-    }
-    // One set flag for each file; flags after the last file have no effect.
-    match written(alloc, &members, &[b'1'; 100])? {
-        Some(again) => Ok(again.as_slice() == file),
-        None => Ok(false),
+    match write_db(alloc, &members, owned) {
+        Ok(file) => Ok(Some(file)),
+        Err(WriteFault::TooLarge { .. }) => Ok(None),
+        Err(WriteFault::Memory) => Err(AllocError),
     }
 }
 
@@ -104,22 +78,4 @@ fn is_among(words: &Words, name: &[u8]) -> bool {
         }
     }
     false
-}
-
-/// The database with these members, or None if it is too large. `flags` has one byte for each file
-/// that the members list: `1` if the member owns the file.
-fn written(
-    alloc: Global,
-    members: &Members<'_>,
-    flags: &[u8],
-) -> Result<Option<Vec<u8>>, AllocError> {
-    let mut owned = Owned::new(alloc);
-    for flag in flags {
-        owned.push(*flag == b'1')?;
-    }
-    match write_db(alloc, members, &owned) {
-        Ok(file) => Ok(Some(file)),
-        Err(WriteFault::TooLarge { .. }) => Ok(None),
-        Err(WriteFault::Memory) => Err(AllocError),
-    }
 }

@@ -10,10 +10,10 @@ mod package;
 
 use adb_schema::ReadFault;
 use base_core::{Name, Words};
-use change::{changed_database, unchanged_database};
+use change::changed_database;
 use db_core::Db;
 use package::package_file;
-use row_lines::{Subject, add_number, add_word, run_program, value_named, word_at};
+use row_lines::{Answer, Subject, run_program, value_named, word_at};
 use std::alloc::{AllocError, Global};
 use std::io;
 use std::process::ExitCode;
@@ -56,112 +56,103 @@ struct Installed {
     coming: Vec<Vec<u8>>,
 }
 
+/// A number that is looked up in a database.
+#[derive(Clone, Copy)]
+enum Wanted<'a> {
+    /// The number of its packages.
+    Count,
+    /// The index of the package with this name, counted from 0.
+    Package(&'a [u8]),
+    /// The index of the package that lists this path, counted from 0.
+    Owner(&'a Name),
+}
+
 impl Subject for Installed {
     /// Answers a question by its first word, on the database that the rows before have left.
     fn answer(
         &mut self,
         alloc: Global,
         words: &Words,
-        answer: &mut Vec<u8>,
+        answer: &mut Answer,
     ) -> Result<(), AllocError> {
-        let Some(question) = value_named(&QUESTIONS, word_at(words, 0)) else {
-            return answer.extend_from_slice(b"no question");
-        };
-        match question {
-            Question::Start => {
+        match value_named(&QUESTIONS, word_at(words, 0)) {
+            Some(Question::Start) => {
                 self.file.clear();
                 self.coming.clear();
-                Ok(())
             }
-            Question::Package => self.add_package(alloc, words),
-            Question::Change => self.change(alloc, words, answer),
-            Question::Again => self.write_again(alloc, answer),
-            Question::Find => add_found(alloc, &self.file, word_at(words, 1), answer),
-            Question::Owner => add_owner(alloc, &self.file, word_at(words, 1), answer),
+            Some(Question::Package) => self.coming.push(package_file(alloc, words)?)?,
+            Some(Question::Change) => return self.change(alloc, words, answer),
+            Some(Question::Again) => {
+                // One set flag for each of up to 100 files; flags after the last file have no
+                // effect. There is no word after `again`, so that no package is removed.
+                let flags = [b'1'; 100];
+                let same = match changed_database(alloc, &self.file, &[], &flags, words)? {
+                    Some(file) => file == self.file,
+                    None => false,
+                };
+                answer.push(if same { b"same" } else { b"other" });
+            }
+            Some(Question::Find) => {
+                return self.look_up(alloc, Wanted::Package(word_at(words, 1)), answer);
+            }
+            Some(Question::Owner) => match Name::read(alloc, word_at(words, 1))? {
+                Some(path) => return self.look_up(alloc, Wanted::Owner(&path), answer),
+                None => answer.push(b"no name"),
+            },
+            None => answer.push(b"no question"),
         }
+        Ok(())
     }
 }
 
 impl Installed {
-    /// Answers `package NAME ..`: makes the file of a package, which the next change adds.
-    fn add_package(&mut self, alloc: Global, words: &Words) -> Result<(), AllocError> {
-        let file = package_file(alloc, words)?;
-        self.coming.push(file)?;
-        Ok(())
-    }
-
     /// Answers `change FLAGS NAME ..`: writes the database after a change, and adds to the answer
     /// how many packages the new database has.
     fn change(
         &mut self,
         alloc: Global,
         words: &Words,
-        answer: &mut Vec<u8>,
+        answer: &mut Answer,
     ) -> Result<(), AllocError> {
+        let flags = word_at(words, 1);
         // None if the change is refused.
-        let found = changed_database(alloc, &self.file, &self.coming, words)?;
+        let changed = changed_database(alloc, &self.file, &self.coming, flags, words)?;
         self.coming.clear();
-        match found {
+        match changed {
             Some(file) => {
                 self.file = file;
-                add_count(alloc, &self.file, answer)
+                self.look_up(alloc, Wanted::Count, answer)
             }
-            None => add_word(answer, b"refused"),
+            None => {
+                answer.push(b"refused");
+                Ok(())
+            }
         }
     }
 
-    /// Answers `again`: whether the database has the same bytes if it is written again.
-    fn write_again(&mut self, alloc: Global, answer: &mut Vec<u8>) -> Result<(), AllocError> {
-        let same_bytes = unchanged_database(alloc, &self.file)?;
-        add_word(answer, if same_bytes { b"same" } else { b"other" })
-    }
-}
-
-/// Adds to the answer how many packages the database in a file has.
-fn add_count(alloc: Global, file: &[u8], answer: &mut Vec<u8>) -> Result<(), AllocError> {
-    match Db::read(alloc, file) {
-        Ok(db) => add_number(alloc, answer, db.len() as u128),
-        Err(ReadFault::Bad(_)) => add_word(answer, b"bad"),
-        Err(ReadFault::Memory) => Err(AllocError),
-    }
-}
-
-/// Answers `find NAME`: the index of the package with this name in the database, counted from 0.
-fn add_found(
-    alloc: Global,
-    file: &[u8],
-    name: &[u8],
-    answer: &mut Vec<u8>,
-) -> Result<(), AllocError> {
-    match Db::read(alloc, file) {
-        Ok(db) => add_place(alloc, db.find(name), answer),
-        Err(ReadFault::Bad(_)) => add_word(answer, b"bad"),
-        Err(ReadFault::Memory) => Err(AllocError),
-    }
-}
-
-/// Answers `owner PATH`: the index of the package that lists this path, counted from 0.
-fn add_owner(
-    alloc: Global,
-    file: &[u8],
-    path: &[u8],
-    answer: &mut Vec<u8>,
-) -> Result<(), AllocError> {
-    let Some(path) = Name::read(alloc, path)? else {
-        return add_word(answer, b"no name");
-    };
-    match Db::read(alloc, file) {
-        Ok(db) => add_place(alloc, db.owner_of(&path), answer),
-        Err(ReadFault::Bad(_)) => add_word(answer, b"bad"),
-        Err(ReadFault::Memory) => Err(AllocError),
-    }
-}
-
-/// Adds to the answer the index of a package, or `none`.
-fn add_place(alloc: Global, found: Option<usize>, answer: &mut Vec<u8>) -> Result<(), AllocError> {
-    match found {
-        Some(place) => add_number(alloc, answer, place as u128),
-        None => add_word(answer, b"none"),
+    /// Adds to the answer a number of the database, or `none` if it has no such package.
+    fn look_up(
+        &self,
+        alloc: Global,
+        wanted: Wanted<'_>,
+        answer: &mut Answer,
+    ) -> Result<(), AllocError> {
+        match Db::read(alloc, &self.file) {
+            Ok(db) => {
+                let number = match wanted {
+                    Wanted::Count => Some(db.len()),
+                    Wanted::Package(name) => db.find(name),
+                    Wanted::Owner(path) => db.owner_of(path),
+                };
+                match number {
+                    Some(number) => answer.add_number(number as u128),
+                    None => answer.push(b"none"),
+                }
+            }
+            Err(ReadFault::Bad(_)) => answer.push(b"bad"),
+            Err(ReadFault::Memory) => return Err(AllocError),
+        }
+        Ok(())
     }
 }
 

@@ -5,21 +5,20 @@
 
 mod texts;
 
-use base_core::Words;
-use row_lines::{Subject, number_of, run_program, value_named, word_at};
+use base_core::{Cause, Words};
+use row_lines::{Answer, Subject, run_program, value_named, word_at};
 use std::alloc::{AllocError, Global};
 use std::io;
 use std::process::ExitCode;
-use texts::{add_package_count, add_read};
+use texts::{add_database, packages_text, repeated_text};
+use v2_core::{V2Fault, read_v2};
 
 /// The kinds of questions, with what is answered; the README of this crate says more.
 #[derive(Clone, Copy)]
-enum Question {
-    /// `read TEXT`: the dump of the database that is made of a text database.
+pub(crate) enum Question {
+    /// `read TEXT`: the dump of the database that is made of a text database. `read_repeated FRONT
+    /// N PART BACK`: the same for the text that consists of FRONT, N times PART, and BACK.
     Read,
-    /// `read_repeated FRONT N PART BACK`: what `read` answers for the text that consists of FRONT,
-    /// N times PART, and BACK.
-    ReadRepeated,
     /// `count_packages N`: how many packages are read of a text database with N records.
     CountPackages,
 }
@@ -28,7 +27,7 @@ enum Question {
 #[rattlefmt::skip]
 const QUESTIONS: [(&[u8], Question); 3] = [
     (b"read", Question::Read),
-    (b"read_repeated", Question::ReadRepeated),
+    (b"read_repeated", Question::Read),
     (b"count_packages", Question::CountPackages),
 ];
 
@@ -37,50 +36,39 @@ const QUESTIONS: [(&[u8], Question); 3] = [
 struct TextDatabases;
 
 impl Subject for TextDatabases {
-    /// Answers a question by its first word. Questions are independent of each other.
+    /// Answers a question about a text database, or why the text is refused: the number of the
+    /// first bad line, the name of another cause and its fields, or the counts of a database that
+    /// is too large.
     fn answer(
         &mut self,
         alloc: Global,
         words: &Words,
-        answer: &mut Vec<u8>,
+        answer: &mut Answer,
     ) -> Result<(), AllocError> {
         let Some(question) = value_named(&QUESTIONS, word_at(words, 0)) else {
-            return answer.extend_from_slice(b"no question");
+            answer.push(b"no question");
+            return Ok(());
         };
-        match question {
-            Question::Read => add_read(alloc, word_at(words, 1), answer),
-            Question::ReadRepeated => {
-                let text = repeated_text(alloc, words)?;
-                add_read(alloc, &text, answer)
+        let text = match question {
+            Question::Read => repeated_text(alloc, words)?,
+            Question::CountPackages => packages_text(alloc, word_at(words, 1))?,
+        };
+        match read_v2(alloc, &text) {
+            Ok(payload) => return add_database(alloc, question, &payload, answer),
+            Err(V2Fault::Bad(Cause::TextLine { line })) => {
+                answer.add_text(format!(in alloc; "bad line {line}"))
             }
-            Question::CountPackages => {
-                add_package_count(alloc, count_of(word_at(words, 1)), answer)
-            }
+            Err(V2Fault::Bad(cause)) => answer.add_text(format!(in alloc; "{cause:?}")),
+            Err(V2Fault::TooLarge { bytes, values }) => answer.add_text(format!(in alloc;
+                "{bytes} bytes and {values} values are too many"
+            )),
+            Err(V2Fault::Memory) => return Err(AllocError),
         }
+        Ok(())
     }
-}
-
-/// The text of `read_repeated FRONT N PART BACK`: FRONT, then N times PART, and then BACK.
-fn repeated_text(alloc: Global, words: &Words) -> Result<Vec<u8>, AllocError> {
-    let mut text = Vec::new(alloc);
-    text.extend_from_slice(word_at(words, 1))?;
-    for _ in 0..count_of(word_at(words, 2)) {
-        text.extend_from_slice(word_at(words, 3))?;
-    }
-    text.extend_from_slice(word_at(words, 4))?;
-    Ok(text)
-}
-
-/// The number that a word is, or 0 if it is no number below 2^32.
-fn count_of(word: &[u8]) -> u32 {
-    number_of(word)
-        .and_then(|number| u32::try_from(number).ok())
-        .unwrap_or(0)
 }
 
 /// Runs the rows of standard input, and returns the exit status.
 fn main(rt: HostRuntime) -> io::Result<ExitCode> {
-    let alloc = rt.alloc();
-    let mut databases = TextDatabases;
-    run_program(&rt, alloc, &mut databases)
+    run_program(&rt, rt.alloc(), &mut TextDatabases)
 }
