@@ -33,16 +33,28 @@ pub(crate) fn changed_database(
     for flag in flags {
         owned.push(*flag == b'1')?;
     }
+    changed_over(alloc, file, &fronts, &owned, words)
+}
+
+/// The database after a change of the database in `file`, or of an empty one if `file` is no
+/// database. `coming` has the fronts (headers and first blocks) of the added packages. `owned` says
+/// for each file of the new database whether its package owns it.
+fn changed_over<'a>(
+    alloc: Global,
+    file: &'a [u8],
+    coming: &'a [Front],
+    owned: &Owned,
+    words: &Words,
+) -> Result<Option<Vec<u8>>, AllocError> {
     match Db::read(alloc, file) {
-        Ok(db) => change_of(alloc, &db, &fronts, &owned, words),
-        Err(ReadFault::Bad(_)) => change_of(alloc, &Db::empty(alloc), &fronts, &owned, words),
+        Ok(db) => change_of(alloc, &db, coming, owned, words),
+        Err(ReadFault::Bad(_)) => change_of(alloc, &Db::empty(alloc), coming, owned, words),
         Err(ReadFault::Memory) => Err(AllocError),
     }
 }
 
-/// The database after a change of the database `db`. `coming` has the fronts (headers and first
-/// blocks) of the added packages. `owned` says for each file of the new database whether its
-/// package owns it.
+/// The database after a change of the database `db`. The other parameters are those of
+/// `changed_over`.
 fn change_of<'a>(
     alloc: Global,
     db: &Db<'a>,

@@ -334,16 +334,18 @@ fn add_candidate(
     id: CandId,
     text: &mut Vec<u8>,
 ) -> Result<(), AllocError> {
-    let space: &[u8] = if text.is_empty() { b"" } else { b" " };
+    if !text.is_empty() {
+        text.push(b' ')?;
+    }
     // The pool has no candidate at this place; no question gives such a place.
     let Some(details) = pool.at(id) else {
-        return add_parts(&[space, b"none of the pool"], text);
+        return text.extend_from_slice(b"none of the pool");
     };
-    let version: &[u8] = match details.version() {
-        Some(version) => version.text(),
-        None => b"",
-    };
-    add_parts(&[space, details.name(), b"-", version], text)?;
+    text.extend_from_slice(details.name())?;
+    text.push(b'-')?;
+    if let Some(version) = details.version() {
+        text.extend_from_slice(version.text())?;
+    }
     match details.repo() {
         Some(1) => Ok(()),
         number => {
