@@ -127,8 +127,8 @@ fn add_cause(alloc: Global, cause: Cause, answer: &mut Answer) {
     answer.add_text(format!(in alloc; "{cause:?}"))
 }
 
-/// Answers `cuts BYTES`: for the prefixes of a file, the length of each prefix whose first result
-/// differs from that of the prefix before, with this result: the first failed test, or `a block` if
+/// Answers `cuts BYTES`: adds the length of each prefix of a file whose first result differs from
+/// that of the prefix before, and this result. The result is the first failed test, or `a block` if
 /// there is none.
 fn add_cuts(alloc: Global, file: &[u8], answer: &mut Answer) {
     // The failed test of the prefix before, if there is one.

@@ -18,9 +18,9 @@ pub(crate) fn add_files(alloc: Global, file: &[u8], answer: &mut Answer) -> Resu
     Ok(())
 }
 
-/// Adds the identity of a package, its number of folders, and the results of the requests for its
-/// next file: the positions of the file (that of its folder and its own) and its bytes, or the end,
-/// or why the package is refused.
+/// Adds the identity of a package, its number of folders, and the result of each request for its
+/// next file. A result is the position of the file's folder, that of the file, and the file's
+/// bytes. It is `end` after the last file, and the cause if the package is refused.
 fn add_calls(alloc: Global, package: Package<'_>, answer: &mut Answer) {
     let mut package = package;
     answer.push(&package.id());

@@ -114,8 +114,8 @@ impl Written {
 }
 
 /// Writes the values that the words of a row describe, from the second word on. Returns the writer,
-/// and the word of the last value, or null if there is no value. The question `write` adds the words
-/// of all values.
+/// and the word of the last value, or null if there is no value. The question `write` adds the
+/// words of the values that are in no list. It leaves out the words of values before a `~`.
 pub(crate) fn write_values(
     alloc: Global,
     question: Question,

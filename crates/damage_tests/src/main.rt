@@ -97,9 +97,9 @@ impl Subject for CurrentContainer {
     }
 }
 
-/// Adds to the answer the counts and the digest of the results of a test, over all files that
-/// differ from `file` in this way, in the order of the offsets or lengths. A line of the digest has
-/// the numbers that say how the file differs, and the result.
+/// Adds to the answer the counts and the digest of the results of a test. The test is made of each
+/// file that differs from `file` in this way, in the order of the offsets or lengths. A line of the
+/// digest has the numbers that say how the file differs, and the result.
 fn add_sweep(
     alloc: Global,
     damage: Damage,

@@ -10,11 +10,11 @@ use row_members::{add_coming, add_installed, front_of, name_at};
 use std::alloc::{AllocError, Global};
 use std::marker::PhantomData;
 
-/// The database after a change: the packages of the database in `file` without those whose names
-/// are words of the row, from the third word on, and then the added packages, whose files are in
-/// `coming`. The new database lists the files whose flag is `1`; `flags` has one byte for each
-/// file. A `file` that is no database has no packages. None if the names of the packages are not in
-/// order, or an added package is bad, or the database is too large.
+/// The database after a change. It has the packages of the database in `file`, and then the added
+/// packages, whose files are in `coming`. The packages whose names are words of the row, from the
+/// third word on, are left out. The new database lists the files whose flag is `1`; `flags` has one
+/// byte for each file. A `file` that is no database has no packages. None if the names of the
+/// packages are not in order, or an added package is bad, or the database is too large.
 pub(crate) fn changed_database(
     alloc: Global,
     file: &[u8],

@@ -58,7 +58,7 @@ struct Installed {
 
 /// A number that is looked up in a database.
 #[derive(Clone, Copy)]
-enum Wanted<'a> {
+enum LookUp<'a> {
     /// The number of its packages.
     Count,
     /// The index of the package with this name, counted from 0.
@@ -93,10 +93,10 @@ impl Subject for Installed {
                 answer.push(if same { b"same" } else { b"other" });
             }
             Some(Question::Find) => {
-                return self.look_up(alloc, Wanted::Package(word_at(words, 1)), answer);
+                return self.look_up(alloc, LookUp::Package(word_at(words, 1)), answer);
             }
             Some(Question::Owner) => match Name::read(alloc, word_at(words, 1))? {
-                Some(path) => return self.look_up(alloc, Wanted::Owner(&path), answer),
+                Some(path) => return self.look_up(alloc, LookUp::Owner(&path), answer),
                 None => answer.push(b"no name"),
             },
             None => answer.push(b"no question"),
@@ -121,7 +121,7 @@ impl Installed {
         match changed {
             Some(file) => {
                 self.file = file;
-                self.look_up(alloc, Wanted::Count, answer)
+                self.look_up(alloc, LookUp::Count, answer)
             }
             None => {
                 answer.push(b"refused");
@@ -134,15 +134,15 @@ impl Installed {
     fn look_up(
         &self,
         alloc: Global,
-        wanted: Wanted<'_>,
+        wanted: LookUp<'_>,
         answer: &mut Answer,
     ) -> Result<(), AllocError> {
         match Db::read(alloc, &self.file) {
             Ok(db) => {
                 let number = match wanted {
-                    Wanted::Count => Some(db.len()),
-                    Wanted::Package(name) => db.find(name),
-                    Wanted::Owner(path) => db.owner_of(path),
+                    LookUp::Count => Some(db.len()),
+                    LookUp::Package(name) => db.find(name),
+                    LookUp::Owner(path) => db.owner_of(path),
                 };
                 match number {
                     Some(number) => answer.add_number(number as u128),

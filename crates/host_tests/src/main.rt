@@ -124,7 +124,7 @@ impl<'a, R: Host> HostFolder<'a, R> {
                 None => answer.push(b"no name"),
             },
             Question::Check => {
-                // Without the name of a source, the tree is asked for a removal.
+                // Without the name of a source, the tree is asked whether it accepts a removal.
                 let source = Name::read(alloc, argument)?;
                 add_outcome(answer, self.tree.check_target(name, source.as_ref()))
             }

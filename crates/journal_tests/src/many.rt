@@ -100,8 +100,8 @@ fn is_name_at(alloc: Global, name: &Name, i: usize) -> Result<bool, AllocError> 
     Ok(name.as_bytes() == text.as_bytes())
 }
 
-/// Puts the journal entry `file` into the tree, and the files of its `count` writes: those of the
-/// last `waiting` writes into the staging area, and the others under their final names, as if they
+/// Puts the journal entry `file` into the tree, and the files of its `count` writes. The files of
+/// the last `waiting` writes are in the staging area. The others have their final names, as if they
 /// had been moved there.
 fn put_many_writes(
     alloc: Global,

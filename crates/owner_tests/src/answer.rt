@@ -9,8 +9,8 @@ use row_lines::Answer;
 use row_members::{add_coming, front_of};
 use std::alloc::{AllocError, Global};
 
-/// Adds to the answer who owns the files of the packages in these containers, which are all added
-/// by the change, or why this cannot be asked. No package is installed before the change.
+/// Adds to the answer who owns the files of the packages in these containers, or why this cannot be
+/// asked. The change adds all these packages, and no package is installed before it.
 pub(crate) fn add_owners(
     alloc: Global,
     containers: &[Vec<u8>],

@@ -6,7 +6,8 @@ use gen_core::{GenFault, gen_};
 use row_lines::word_at;
 use std::alloc::{AllocError, Global};
 
-/// The lines of a folder before those of its files, without the bytes before the first of them.
+/// The lines of a folder between that of its name and those of its files, without the bytes before
+/// the first of them.
 const FOLDER_LINES: &[u8] =
     b"acl:\n      mode: 493\n      user: root\n      group: root\n    files:\n";
 

@@ -61,8 +61,8 @@ pub(crate) fn package_of(alloc: Global, sizes: &[u32], flaw: Flaw) -> Result<Vec
 }
 
 /// The payload of the block with the contents of the file with the index `i`, counted from 0, with
-/// a flaw. It has the positions of the folder and of the file in it, and then the bytes of the file,
-/// none of which is 255 without a flaw.
+/// a flaw. It has the positions of the folder and of the file in it, and then the bytes of the
+/// file. Without a flaw, none of these bytes is 255.
 fn contents_of(alloc: Global, sizes: &[u32], i: usize, flaw: Flaw) -> Result<Vec<u8>, AllocError>
     // The index is that of one of the files.
     requires { i < length sizes.now }

@@ -125,9 +125,9 @@ fn write_folders(alloc: Global, writer: &mut Writer, files: &[u8]) -> Result<Val
     for file in files.split(|byte| *byte == b',') {
         let (path, description) = path_and_description(file);
         let (folder, name) = folder_and_name(path);
-        if let Some(ended) = previous {
-            if ended != folder {
-                folders.push(write_folder(writer, ended, &written)?)?;
+        if let Some(last) = previous {
+            if last != folder {
+                folders.push(write_folder(writer, last, &written)?)?;
                 written.clear();
             }
         }
@@ -137,8 +137,8 @@ fn write_folders(alloc: Global, writer: &mut Writer, files: &[u8]) -> Result<Val
         }
         previous = Some(folder);
     }
-    if let Some(ended) = previous {
-        folders.push(write_folder(writer, ended, &written)?)?;
+    if let Some(last) = previous {
+        folders.push(write_folder(writer, last, &written)?)?;
     }
     writer.arr(&folders)
 }

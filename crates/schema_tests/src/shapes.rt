@@ -1,6 +1,7 @@
-//! Answers questions about the tests of payloads and containers: `shape`, `faults`, `visits`,
-//! `many_files`, `rules` and `container` (see `Question` in `main.rt`). The rules of the tests are
-//! in `docs/formats.md`, "Tests of a container", and the words of values in "Values".
+//! Answers questions about the tests of payloads: `shape`, `faults`, `visits`, `many_files` and
+//! `rules` (see `Question` in `main.rt`). Of the question `container`, the outcome of the tests is
+//! added here. The rules of the tests are in `docs/formats.md`, "Tests of a container", and the
+//! words of values in "Values".
 
 use crate::answer::{add_cause, add_int, add_outcome};
 use crate::payloads::{object_payload, payload_of, row_payload, table_of};
@@ -50,10 +51,10 @@ pub(crate) fn add_faults(
     let mut before = Vec::new(alloc);
     let mut reported = 0u64;
     for field in fields_of(which) {
-        let (wrong, outside) = faulty_words(field.kind);
-        if fault_after(alloc, &mut before, wrong, which)? == Some(Cause::WrongKind { word: wrong })
-            && fault_after(alloc, &mut before, outside, which)?
-                == Some(Cause::Outside { word: outside })
+        let (misfit, far) = faulty_words(field.kind);
+        if fault_after(alloc, &mut before, misfit, which)?
+            == Some(Cause::WrongKind { word: misfit })
+            && fault_after(alloc, &mut before, far, which)? == Some(Cause::Outside { word: far })
         {
             reported = reported.saturating_add(1);
         }
@@ -131,12 +132,12 @@ pub(crate) fn add_many_files(
     answer: &mut Answer,
 ) -> Result<(), AllocError> {
     let count = int_of(count) % 65_536;
-    // At the offset 20 the folder (a count of 4, and three words: null, null, and the array of its
-    // files), at 36 this array, and after it the array of folders.
+    // The folder is at the offset 20: a count of 4, and three words, namely null, null, and the
+    // array of its files. This array is at 36, and the array of folders after it.
     let mut more = Vec::new(alloc);
     more.extend_from_slice(b"\x04\0\0\0\0\0\0\0\0\0\0\0\x24\0\0\xd0")?;
-    // Of both arrays the count of words, which counts itself too, and the entries: null for each
-    // file, and for each folder the object at the offset 20 (0x14).
+    // Each of both arrays has a count of words, which counts itself too, and then its entries. The
+    // entry of a file is null, and that of a folder is the object at the offset 20 (0x14).
     for entry in &[0u32, 0xe000_0014] {
         more.extend_from_slice(&(count + 1).to_le_bytes())?;
         for _ in 0..count {
@@ -151,8 +152,9 @@ pub(crate) fn add_many_files(
     Ok(())
 }
 
-/// Answers `rules TABLE VALUE`: adds the first failed test of the value, or `ok`: of its head, of
-/// its shape (the types of its values), and of its texts and numbers.
+/// Answers `rules TABLE VALUE`: adds the first failed test of the value, or `ok` if none failed.
+/// The tests are those of its head, of its shape (the types of its values), and of its texts and
+/// numbers.
 pub(crate) fn add_rule(
     alloc: Global,
     words: &Words,

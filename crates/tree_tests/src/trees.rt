@@ -1,6 +1,6 @@
-//! Answers about names and a tree in memory: what is put and read, which calls are planned to fail,
-//! and what a crash leaves. The rules are in `docs/crash-safety.md`, "A tree at one moment", "What
-//! a crash leaves" and "Misuses, faults and counts".
+//! Answers about names and a tree in memory: what is put and read, and which calls are planned to
+//! fail. The rules are in `docs/crash-safety.md`, "A tree at one moment" and "Misuses, faults and
+//! counts".
 
 use crate::calls::{Call, add_call, ok_or_failed};
 use base_core::{Name, Names, Tree, Words, read_all};

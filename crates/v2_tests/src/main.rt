@@ -36,9 +36,9 @@ const QUESTIONS: [(&[u8], Question); 3] = [
 struct TextDatabases;
 
 impl Subject for TextDatabases {
-    /// Answers a question about a text database, or why the text is refused: the number of the
-    /// first bad line, the name of another cause and its fields, or the counts of a database that
-    /// is too large.
+    /// Answers a question about a text database. If the text is refused, the answer is the number
+    /// of the first bad line, or the name and the fields of another cause. If the database is too
+    /// large, the answer has its counts.
     fn answer(
         &mut self,
         alloc: Global,

@@ -75,12 +75,12 @@ fn add_asked(alloc: Global, command: &Command, answer: &mut Answer) -> Result<()
 /// times. The line has no more than `MOST_WORDS` words.
 pub(crate) fn repeated_words(alloc: Global, words: &Words) -> Result<Words, AllocError> {
     // N; it is taken as 0 if the word is no number.
-    let repeated = number_of(word_at(words, 0)).unwrap_or(0);
-    let repeated = repeated.min(MOST_WORDS as u128);
+    let copies = number_of(word_at(words, 0)).unwrap_or(0);
+    let copies = copies.min(MOST_WORDS as u128);
     let mut line = Words::new(alloc);
     for i in 1..words.len() {
         // N has the index 0, so the second word after it has the index 2.
-        let times = if i == 2 { repeated } else { 1 };
+        let times = if i == 2 { copies } else { 1 };
         for _ in 0..times {
             if line.len() < MOST_WORDS {
                 line.push(words.word(i))?;

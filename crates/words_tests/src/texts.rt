@@ -185,9 +185,9 @@ fn refusal_with_cause(
 }
 
 /// The refusal of a package's file, or of a script or a trigger that would run without
-/// `--no-scripts`, by the words of a row: its name, the package's name, the package's version or
-/// the number of the script, and further fields. None for a bad file if the further words are no
-/// cause.
+/// `--no-scripts`. The words of the row are the name of the refusal and the package's name, and
+/// then the package's version or the number of the script. Further fields follow. None for a bad
+/// file if the further words are no cause.
 fn refusal_of_package(
     alloc: Global,
     named: Named,
