@@ -1,119 +1,81 @@
-//! Answers questions about `adb_write`, `adb_values` and `pkg_core`: the words (32-bit references)
-//! and the payloads of written values, which may exceed a limit, and the files of a package. All
-//! rows (questions with their expected answers) are in the file `stdin` of this crate;
-//! `tests/lines.md` describes their form. The README of this crate has a row for each question.
+//! Answers questions about the parts of a container: its blocks, the values that writers write, and
+//! the tests and views of payloads. All rows (questions with their expected answers) are in the
+//! file `stdin` of this crate; `tests/lines.md` describes their form. The README of this crate has
+//! a row for each question.
 #![tactic(auto)]
 
-mod files;
-mod numbers;
-mod values;
+mod blocks;
+mod schemas;
+mod writers;
 
-use adb_schema::PACKAGE_WORD;
-use adb_view::Val;
-use adb_write::{WriteFault, file_of};
+use crate::blocks::FramedBlocks;
+use crate::schemas::CurrentPayload;
+use crate::writers::Containers;
 use base_core::Words;
-use files::add_files;
-use numbers::add_numbers;
 use row_lines::{Answer, Subject, run_program, value_named, word_at};
 use std::alloc::{AllocError, Global};
 use std::io;
 use std::process::ExitCode;
-use values::{draft_of, write_values};
 
-/// The most bytes of a payload (`docs/formats.md`, "Canonical layout").
-const MOST_BYTES: usize = 268_435_455;
-
-/// The questions that a row may ask, with what is answered; the README of this crate says more.
+/// What rows are about.
 #[derive(Clone, Copy)]
-pub(crate) enum Question {
-    /// `write VALUE ..`: the words of the values, and the payload whose root is the last value.
-    Write,
-    /// `file VALUE ..`: a container with the payload whose root is the last value.
-    File,
-    /// `draft VALUE ..`: the payload of a draft of these values.
-    Draft,
-    /// `repeated N VALUE ..`: the length of the payload of an array with N times these values.
-    Repeated,
-    /// `numbers ORDER`: whether 5,000 blobs get the same words if they are written twice.
-    Numbers,
-    /// `package BYTES`: the identity of a package, and the contents of its files.
-    Package,
+enum Topic {
+    /// The blocks of a container.
+    Blocks,
+    /// Written values, and the files of a package.
+    Writers,
+    /// The values of a payload, their tests and their views.
+    Schemas,
 }
 
-// The word with which a row asks each question.
+// The words for the topics.
 #[rattlefmt::skip]
-const QUESTIONS: [(&[u8], Question); 6] = [
-    (b"write", Question::Write),
-    (b"file", Question::File),
-    (b"draft", Question::Draft),
-    (b"repeated", Question::Repeated),
-    (b"numbers", Question::Numbers),
-    (b"package", Question::Package),
+const TOPICS: [(&[u8], Topic); 3] = [
+    (b"blocks", Topic::Blocks),
+    (b"writers", Topic::Writers),
+    (b"schemas", Topic::Schemas),
 ];
 
-/// The crates that the questions are about. Nothing is kept from one row to the next.
+/// The topic of the rows, and what the rows of each topic keep from one row to the next.
 #[derive(Drop)]
-struct Containers;
+struct Parts {
+    /// The topic that was named last, if it is one.
+    topic: Option<Topic>,
+    /// The payload that questions are about.
+    payload: CurrentPayload,
+}
 
-impl Subject for Containers {
-    /// Answers a question by its first word.
+impl Subject for Parts {
+    /// Answers a question about the topic. The question `topic WORD` sets the topic, and its answer
+    /// is empty.
     fn answer(
         &mut self,
         alloc: Global,
         words: &Words,
         answer: &mut Answer,
     ) -> Result<(), AllocError> {
-        let Some(question) = value_named(&QUESTIONS, word_at(words, 0)) else {
-            answer.push(b"no question");
+        if word_at(words, 0) == b"topic" {
+            self.topic = value_named(&TOPICS, word_at(words, 1));
             return Ok(());
-        };
-        let payload = match question {
-            Question::Write | Question::File => {
-                let (writer, root) = write_values(alloc, question, words, answer)?;
-                writer.finish(root)
-            }
-            Question::Draft | Question::Repeated => draft_of(alloc, question, words)?.finish(),
-            // The root is null.
-            Question::Numbers => add_numbers(alloc, word_at(words, 1), answer)?.finish(Val::of(0)),
-            Question::Package => return add_files(alloc, word_at(words, 1), answer),
-        };
-        add_payload(alloc, question, payload, answer)
-    }
-}
-
-/// Adds what a question asks of a payload: the container with the schema of a package, the length
-/// of the payload, or its bytes. If there is no payload, adds the counts of bytes and values just
-/// after the first value with which a count exceeds its limit.
-fn add_payload(
-    alloc: Global,
-    question: Question,
-    payload: Result<Vec<u8>, WriteFault>,
-    answer: &mut Answer,
-) -> Result<(), AllocError> {
-    match payload {
-        Ok(payload) => match question {
-            Question::File => {
-                if payload.len() > MOST_BYTES {
-                    answer.push(b"too many bytes");
-                } else {
-                    answer.push(&file_of(alloc, PACKAGE_WORD, &payload)?);
-                }
-            }
-            Question::Repeated | Question::Numbers => {
-                answer.push(b"bytes ");
-                answer.add_number(payload.len() as u128);
-            }
-            _ => answer.push(&payload),
-        },
-        Err(WriteFault::TooLarge { bytes, values }) => {
-            answer.add_text(format!(in alloc; "too large: {bytes} bytes, {values} values"))
         }
-        Err(WriteFault::Memory) => return Err(AllocError),
+        match self.topic {
+            Some(Topic::Blocks) => FramedBlocks.answer(alloc, words, answer),
+            Some(Topic::Writers) => Containers.answer(alloc, words, answer),
+            Some(Topic::Schemas) => self.payload.answer(alloc, words, answer),
+            None => {
+                answer.push(b"no topic");
+                Ok(())
+            }
+        }
     }
-    Ok(())
 }
 
 /// Runs the rows of standard input, and returns the exit status.
 fn main(rt: HostRuntime) -> io::Result<ExitCode> {
-    run_program(&rt, rt.alloc(), &mut Containers)
+    let alloc = rt.alloc();
+    let mut subject = Parts {
+        topic: None,
+        payload: CurrentPayload::new(alloc),
+    };
+    run_program(&rt, alloc, &mut subject)
 }

@@ -1,167 +1,78 @@
-//! Answers questions about `db_core` and `db_write`: packages are added to a database and removed
-//! from it, and then packages and paths are looked up. All rows (questions with their expected
-//! answers) are in the file `stdin` of this crate; `tests/lines.md` describes their form. Each row
-//! has the database, and the packages to be added, that the rows before it left. The README of this
-//! crate has a row for each question.
+//! Answers questions about installed packages: the database that lists them, and the packages that
+//! own files. All rows (questions with their expected answers) are in the file `stdin` of this
+//! crate; `tests/lines.md` describes their form. The README of this crate has a row for each
+//! question.
 #![tactic(auto)]
 
-mod change;
-mod package;
+mod databases;
+mod owners;
 
-use adb_schema::ReadFault;
-use base_core::{Name, Words};
-use change::changed_database;
-use db_core::Db;
-use package::package_file;
+use crate::databases::Installed;
+use crate::owners::AddedPackages;
+use base_core::Words;
 use row_lines::{Answer, Subject, run_program, value_named, word_at};
 use std::alloc::{AllocError, Global};
 use std::io;
 use std::process::ExitCode;
 
-/// The kinds of questions, with what is answered; the README of this crate says more.
+/// What rows are about.
 #[derive(Clone, Copy)]
-enum Question {
-    /// `start`: begins again with an empty database.
-    Start,
-    /// `package NAME VERSION FOLDER/ FILE ..`: a package that the next `change` adds.
-    Package,
-    /// `change FLAGS NAME ..`: adds packages, removes those of these names, and counts the
-    /// packages.
-    Change,
-    /// `again`: whether the database has the same bytes if it is written again.
-    Again,
-    /// `find NAME`: the index of the package with this name.
-    Find,
-    /// `owner PATH`: the index of the package that lists this path.
-    Owner,
+enum Topic {
+    /// The database of the installed packages.
+    Databases,
+    /// The packages that own files.
+    Owners,
 }
 
-// The words that questions begin with.
+// The words for the topics.
 #[rattlefmt::skip]
-const QUESTIONS: [(&[u8], Question); 6] = [
-    (b"start", Question::Start),
-    (b"package", Question::Package),
-    (b"change", Question::Change),
-    (b"again", Question::Again),
-    (b"find", Question::Find),
-    (b"owner", Question::Owner),
+const TOPICS: [(&[u8], Topic); 2] = [
+    (b"databases", Topic::Databases),
+    (b"owners", Topic::Owners),
 ];
 
-/// A database, and the packages that the next change adds.
+/// The topic of the rows, and what the rows of each topic keep from one row to the next.
 #[derive(Drop)]
-struct Installed {
-    /// The bytes of the database, as the last change wrote it; no bytes at first.
-    file: Vec<u8>,
-    /// The files of the packages that the next change adds, in the order of the rows.
-    coming: Vec<Vec<u8>>,
+struct Packages {
+    /// The topic that was named last, if it is one.
+    topic: Option<Topic>,
+    /// The database, and the packages that the next change adds.
+    installed: Installed,
+    /// The packages that a change adds.
+    added: AddedPackages,
 }
 
-/// A number that is looked up in a database.
-#[derive(Clone, Copy)]
-enum LookUp<'a> {
-    /// The number of its packages.
-    Count,
-    /// The index of the package with this name, counted from 0.
-    Package(&'a [u8]),
-    /// The index of the package that lists this path, counted from 0.
-    Owner(&'a Name),
-}
-
-impl Subject for Installed {
-    /// Answers a question by its first word, on the database that the rows before have left.
+impl Subject for Packages {
+    /// Answers a question about the topic. The question `topic WORD` sets the topic, and its answer
+    /// is empty.
     fn answer(
         &mut self,
         alloc: Global,
         words: &Words,
         answer: &mut Answer,
     ) -> Result<(), AllocError> {
-        match value_named(&QUESTIONS, word_at(words, 0)) {
-            Some(Question::Start) => {
-                self.file.clear();
-                self.coming.clear();
-            }
-            Some(Question::Package) => self.coming.push(package_file(alloc, words)?)?,
-            Some(Question::Change) => return self.change(alloc, words, answer),
-            Some(Question::Again) => {
-                // One set flag for each of up to 100 files; flags after the last file have no
-                // effect. There is no word after `again`, so that no package is removed.
-                let flags = [b'1'; 100];
-                let same = match changed_database(alloc, &self.file, &[], &flags, words)? {
-                    Some(file) => file == self.file,
-                    None => false,
-                };
-                answer.push(if same { b"same" } else { b"other" });
-            }
-            Some(Question::Find) => {
-                return self.look_up(alloc, LookUp::Package(word_at(words, 1)), answer);
-            }
-            Some(Question::Owner) => match Name::read(alloc, word_at(words, 1))? {
-                Some(path) => return self.look_up(alloc, LookUp::Owner(&path), answer),
-                None => answer.push(b"no name"),
-            },
-            None => answer.push(b"no question"),
+        if word_at(words, 0) == b"topic" {
+            self.topic = value_named(&TOPICS, word_at(words, 1));
+            return Ok(());
         }
-        Ok(())
-    }
-}
-
-impl Installed {
-    /// Answers `change FLAGS NAME ..`: writes the database after a change, and adds to the answer
-    /// how many packages the new database has.
-    fn change(
-        &mut self,
-        alloc: Global,
-        words: &Words,
-        answer: &mut Answer,
-    ) -> Result<(), AllocError> {
-        let flags = word_at(words, 1);
-        // None if the change is refused.
-        let changed = changed_database(alloc, &self.file, &self.coming, flags, words)?;
-        self.coming.clear();
-        match changed {
-            Some(file) => {
-                self.file = file;
-                self.look_up(alloc, LookUp::Count, answer)
-            }
+        match self.topic {
+            Some(Topic::Databases) => self.installed.answer(alloc, words, answer),
+            Some(Topic::Owners) => self.added.answer(alloc, words, answer),
             None => {
-                answer.push(b"refused");
+                answer.push(b"no topic");
                 Ok(())
             }
         }
-    }
-
-    /// Adds to the answer a number of the database, or `none` if it has no such package.
-    fn look_up(
-        &self,
-        alloc: Global,
-        wanted: LookUp<'_>,
-        answer: &mut Answer,
-    ) -> Result<(), AllocError> {
-        match Db::read(alloc, &self.file) {
-            Ok(db) => {
-                let number = match wanted {
-                    LookUp::Count => Some(db.len()),
-                    LookUp::Package(name) => db.find(name),
-                    LookUp::Owner(path) => db.owner_of(path),
-                };
-                match number {
-                    Some(number) => answer.add_number(number as u128),
-                    None => answer.push(b"none"),
-                }
-            }
-            Err(ReadFault::Bad(_)) => answer.push(b"bad"),
-            Err(ReadFault::Memory) => return Err(AllocError),
-        }
-        Ok(())
     }
 }
 
 /// Runs the rows of standard input, and returns the exit status.
 fn main(rt: HostRuntime) -> io::Result<ExitCode> {
     let alloc = rt.alloc();
-    let mut installed = Installed {
-        file: Vec::new(alloc),
-        coming: Vec::new(alloc),
+    let mut subject = Packages {
+        topic: None,
+        installed: Installed::new(alloc),
+        added: AddedPackages::new(alloc),
     };
-    run_program(&rt, alloc, &mut installed)
+    run_program(&rt, alloc, &mut subject)
 }
