@@ -54,7 +54,7 @@ impl Subject for Parts {
         words: &Words,
         answer: &mut Answer,
     ) -> Result<(), AllocError> {
-        if word_at(words, 0) == b"topic" {
+        if word_at(words, 0) == b"topic".as_slice() {
             self.topic = value_named(&TOPICS, word_at(words, 1));
             return Ok(());
         }

@@ -9,7 +9,9 @@ mod views;
 mod words;
 
 use crate::schemas::payloads::table_of;
-use crate::schemas::shapes::{add_faults, add_many_files, add_read, add_rule, add_shape, add_visits};
+use crate::schemas::shapes::{
+    add_faults, add_many_files, add_read, add_rule, add_shape, add_visits,
+};
 use crate::schemas::views::add_view;
 use crate::schemas::words::{add_head, add_reads};
 use adb_schema::read_adb;

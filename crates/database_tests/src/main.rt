@@ -51,7 +51,7 @@ impl Subject for Packages {
         words: &Words,
         answer: &mut Answer,
     ) -> Result<(), AllocError> {
-        if word_at(words, 0) == b"topic" {
+        if word_at(words, 0) == b"topic".as_slice() {
             self.topic = value_named(&TOPICS, word_at(words, 1));
             return Ok(());
         }

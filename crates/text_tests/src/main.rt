@@ -52,7 +52,7 @@ impl Subject for Texts {
         words: &Words,
         answer: &mut Answer,
     ) -> Result<(), AllocError> {
-        if word_at(words, 0) == b"topic" {
+        if word_at(words, 0) == b"topic".as_slice() {
             self.topic = value_named(&TOPICS, word_at(words, 1));
             return Ok(());
         }
@@ -71,8 +71,6 @@ impl Subject for Texts {
 /// Runs the rows of standard input, and returns the exit status.
 fn main(rt: HostRuntime) -> io::Result<ExitCode> {
     let alloc = rt.alloc();
-    let mut subject = Texts {
-        topic: None,
-    };
+    let mut subject = Texts { topic: None };
     run_program(&rt, alloc, &mut subject)
 }
