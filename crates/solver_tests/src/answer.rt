@@ -159,11 +159,20 @@ fn add_one_answer(
         Question::Bytes => Ok(add_number(alloc, byte_count(row), text)?),
         Question::Packages => Ok(add_number(alloc, package_count(alloc, row)?, text)?),
         Question::Twice => add_two_counts(alloc, row, command, text),
-        _ => {
-            let pool = sealed(alloc, row, command.world, command.upgrade)?;
-            Ok(add_answer_of_pool(alloc, &pool, command.world, query, text)?)
-        }
+        _ => add_answer_of_row(alloc, row, command, query, text),
     }
+}
+
+// Makes the pool of candidates of the row, and appends the answer about this pool.
+fn add_answer_of_row(
+    alloc: Global,
+    row: &Row<'_>,
+    command: Command<'_>,
+    query: Query<'_>,
+    text: &mut Vec<u8>,
+) -> Result<(), RowFault> {
+    let pool = sealed(alloc, row, command.world, command.upgrade)?;
+    Ok(add_answer_of_pool(alloc, &pool, command.world, query, text)?)
 }
 
 // How many bytes the payloads of the repositories' indexes have.
@@ -195,9 +204,24 @@ fn add_two_counts(
     text: &mut Vec<u8>,
 ) -> Result<(), RowFault> {
     let first = sealed(alloc, row, command.world, command.upgrade)?;
-    let second = sealed(alloc, row, command.world, command.upgrade)?;
-    let counts = format!(in alloc; "{} {}", first.len(), second.len())?;
-    Ok(text.extend_from_slice(counts.as_bytes())?)
+    let second = candidate_count(alloc, row, command)?;
+    Ok(add_counts(alloc, first.len(), second, text)?)
+}
+
+// How many candidates the pool of the row has.
+fn candidate_count(alloc: Global, row: &Row<'_>, command: Command<'_>) -> Result<usize, RowFault> {
+    Ok(sealed(alloc, row, command.world, command.upgrade)?.len())
+}
+
+// Appends two numbers in decimal digits, with a space between them.
+fn add_counts(
+    alloc: Global,
+    first: usize,
+    second: usize,
+    text: &mut Vec<u8>,
+) -> Result<(), AllocError> {
+    let counts = format!(in alloc; "{first} {second}")?;
+    text.extend_from_slice(counts.as_bytes())
 }
 
 // ---- the pool
