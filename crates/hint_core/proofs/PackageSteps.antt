@@ -34,16 +34,26 @@ each_more name version refusal history (r ∷ rs) (suc i) path before one after 
   so ∙ (ap (λ (l : List ℕ). l ++ one) is ∙ append_assoc first more one),
 )
 
--- the same, of a tree that was read since
-pub each_more_read : (name version : List ℕ) (refusal : Refusal) (old mid : List TreeState) (rs : List Repository) (i : ℕ) (path before one after : List ℕ) → mid ≡ old → option_map (λ (r : Repository). r.path) (slice_get rs i) ≡ Some path → ExplainsEach name version refusal old (take i rs) before → ExplainsBeside name version refusal mid path one → after ≡ before ++ one → ExplainsEach name version refusal old (take (i + 1) rs) after
-each_more_read name version refusal old mid rs i path before one after same e h b so =
-    let next : suc i ≡ i + 1 = omega arith in
-    subst (λ (k : ℕ). ExplainsEach name version refusal old (take k rs) after) next
-    (each_more name version refusal old rs i path before one after e h (subst (λ (history : List TreeState). ExplainsBeside name version refusal history path one) same b) so)
+-- the lines of the repositories before an index, behind other text
+abbrev pub ExplainsSoFar : List ℕ → List ℕ → Refusal → List TreeState → List Repository → ℕ → List ℕ → List ℕ → Type 0
+ExplainsSoFar name version refusal history rs i front lines = (each : List ℕ) × ExplainsEach name version refusal history (take i rs) each × (lines ≡ front ++ each)
+
+pub none_so_far : (name version : List ℕ) (refusal : Refusal) (history : List TreeState) (rs : List Repository) (front lines : List ℕ) → lines ≡ front → ExplainsSoFar name version refusal history rs 0 front lines
+none_so_far name version refusal history rs front lines is = ([], refl, is ∙ sym (append-nil front))
+
+-- the lines of one more repository, of a tree that was read since
+pub so_far_more : (name version : List ℕ) (refusal : Refusal) (old mid : List TreeState) (rs : List Repository) (i : ℕ) (front path before one after : List ℕ) → mid ≡ old → option_map (λ (r : Repository). r.path) (slice_get rs i) ≡ Some path → ExplainsSoFar name version refusal old rs i front before → ExplainsBeside name version refusal mid path one → after ≡ before ++ one → ExplainsSoFar name version refusal old rs (i + 1) front after
+so_far_more name version refusal old mid rs i front path before one after same e (each, h, is) b so =
+    let next : suc i ≡ i + 1 = omega arith in (
+      each ++ one,
+      subst (λ (k : ℕ). ExplainsEach name version refusal old (take k rs) (each ++ one)) next
+          (each_more name version refusal old rs i path each one (each ++ one) e h (subst (λ (history : List TreeState). ExplainsBeside name version refusal history path one) same b) refl),
+      so ∙ (ap (λ (l : List ℕ). l ++ one) is ∙ append_assoc front each one),
+    )
 
 -- the lines of all repositories
-pub each_of_all : (name version : List ℕ) (refusal : Refusal) (history : List TreeState) (rs : List Repository) (i : ℕ) (lines : List ℕ) → length rs ≤ i → ExplainsEach name version refusal history (take i rs) lines → ExplainsEach name version refusal history rs lines
-each_of_all name version refusal history rs i lines past h = subst (λ (l : List Repository). ExplainsEach name version refusal history l lines) (take_all i rs past) h
+pub so_far_of_all : (name version : List ℕ) (refusal : Refusal) (history : List TreeState) (rs : List Repository) (i : ℕ) (front lines : List ℕ) → length rs ≤ i → ExplainsSoFar name version refusal history rs i front lines → (each : List ℕ) × ExplainsEach name version refusal history rs each × (lines ≡ front ++ each)
+so_far_of_all name version refusal history rs i front lines past (each, h, is) = (each, subst (λ (l : List Repository). ExplainsEach name version refusal history l each) (take_all i rs past) h, is)
 
 -- what is explained by the text of a file is explained by what is found under its name
 pub package_explained : (name version : List ℕ) (refusal : Refusal) (old mid : List TreeState) (file text : List ℕ) (found : Option (List ℕ)) (r : Result (Vec ℕ Global) TreeFault) → mid ≡ old → text ≡ text_of_found found → file ≡ repositories_name → IfObservable old (λ v. found ≡ files_of v file)

@@ -1,10 +1,10 @@
 //! Which files of a package the positions in `contents A.B where C.D was expected` are. The rules
 //! are in `docs/commands.md`, "Hints".
 ghost use Rattle.std.specs.Prelude.{◌≡◌, ◌⊎◌, ◌++◌, [], ℕ, List, Err, IfErr, IfOk, None, OnOk, Some};
-ghost use Rattle.base_core.specs.Read.{OnlyReads, bytes_in};
+ghost use Rattle.base_core.specs.Read.{OnlyReads};
 ghost use Rattle.base_core.specs.Sink.{sink_before_and_after};
 ghost use Rattle.base_core.specs.declared.tree.TreeFault.TheVariants.{Disk as DiskFault};
-ghost use Rattle.hint_core.specs.Contents.{AreLinesOfRead, ExplainsContents, ExplainsFile, ExplainsMixedUp, place_of_bad_file, file_line, mixed_up_positions, mixed_up_positions_of_cause, package_lines, payload_lines, position_line, refused_file, file_name_of_word};
+ghost use Rattle.hint_core.specs.Contents.{AreLinesOfRead, ExplainsContents, ExplainsFile, ExplainsMixedUp, file_line, mixed_up_positions, package_lines, payload_lines, position_line, refused_file};
 ghost use Rattle.hint_core.specs.Told.{Tells};
 ghost use Rattle.pkg_core.specs.Front.{front_payload};
 ghost use Rattle.pkg_core.specs.declared.front.FrontFault.TheVariants.{Disk as FrontFailed};
@@ -83,35 +83,17 @@ fn contents_lines<T: Tree>(
 }
 
 // The name of the package file that a refusal is about, if a word names it and hints explain the
-// refusals of the command line.
+// refusals of the command line. None if there is no such word, or it can name no file.
 fn refused_file(alloc: Global, words: &Words, refusal: &Refusal) -> Result<Option<Name>, AllocError>
     ensures { IfOk result (λ name. name ≡ refused_file words.now refusal.now) }
 {
     if !is_explained(alloc, words)? {
         return Ok(None);
     }
-    match place_of_bad_file(refusal) {
-        Some(place) => file_name_of_word(alloc, words, place),
-        None => Ok(None),
-    }
-}
-
-// The place of the word that names a file which fails a test, if the refusal is of such a file.
-fn place_of_bad_file(refusal: &Refusal) -> Option<u32>
-    ensures { result ≡ place_of_bad_file refusal.now }
-{
-    match refusal {
-        Refusal::FileBad { place, cause: _ } => Some(*place),
-        _ => None,
-    }
-}
-
-// The name of the file that the word at a place names; None if there is no such word, or it can
-// name no file.
-fn file_name_of_word(alloc: Global, words: &Words, place: u32) -> Result<Option<Name>, AllocError>
-    ensures { IfOk result (λ name. name ≡ file_name_of_word words.now place) }
-{
-    match word_at(words, place) {
+    let Refusal::FileBad { place, cause: _ } = refusal else {
+        return Ok(None);
+    };
+    match word_at(words, *place) {
         Some(word) => Name::read(alloc, without_one_leading_dot_slash(word)),
         None => Ok(None),
     }
@@ -133,7 +115,13 @@ pub(crate) fn lines_of_contents<T: Tree>(
     ensures tree { OnlyReads TreeFault.Disk (T.history tree.old) (T.history tree.new)
         (T.counts tree.old) (T.counts tree.new) result }
 {
-    mixed_up_lines(alloc, name, mixed_up_positions(refusal), tree)
+    let Some(mixed) = mixed_up_positions(refusal) else {
+        return Ok(Vec::new(alloc));
+    };
+    match name {
+        Some(name) => file_lines(alloc, name, &mixed, tree),
+        None => Ok(Vec::new(alloc)),
+    }
 }
 
 // The positions of two files that the cause of a refusal names, if it names such.
@@ -141,56 +129,8 @@ fn mixed_up_positions(refusal: &Refusal) -> Option<MixedUp>
     ensures { result ≡ mixed_up_positions refusal.now }
 {
     match cause_of(refusal) {
-        Some(cause) => mixed_up_positions_of_cause(cause),
-        None => None,
-    }
-}
-
-// The positions of two files that a cause names, if it names such.
-fn mixed_up_positions_of_cause(cause: Cause) -> Option<MixedUp>
-    ensures { result ≡ mixed_up_positions_of_cause cause }
-{
-    match cause {
-        Cause::DataOrder { expected, found } => Some(MixedUp { expected, found }),
+        Some(Cause::DataOrder { expected, found }) => Some(MixedUp { expected, found }),
         _ => None,
-    }
-}
-
-// The lines on the two files that are mixed up in the package under a name; none if no files are.
-fn mixed_up_lines<T: Tree>(
-    alloc: Global,
-    name: &Option<Name>,
-    mixed: Option<MixedUp>,
-    tree: &mut T,
-) -> Result<Vec<u8>, TreeFault>
-    ensures lines { IfOk result (λ lines.
-        ExplainsMixedUp name.now mixed (T.history tree.old) lines.items) }
-    // The tree is only read.
-    ensures tree { OnlyReads TreeFault.Disk (T.history tree.old) (T.history tree.new)
-        (T.counts tree.old) (T.counts tree.new) result }
-{
-    match mixed {
-        Some(mixed) => lines_if_file(alloc, name, &mixed, tree),
-        None => Ok(Vec::new(alloc)),
-    }
-}
-
-// The lines on the two files that are mixed up in the package under a name; none without a name.
-fn lines_if_file<T: Tree>(
-    alloc: Global,
-    name: &Option<Name>,
-    mixed: &MixedUp,
-    tree: &mut T,
-) -> Result<Vec<u8>, TreeFault>
-    ensures lines { IfOk result (λ lines.
-        ExplainsFile name.now mixed.now (T.history tree.old) lines.items) }
-    // The tree is only read.
-    ensures tree { OnlyReads TreeFault.Disk (T.history tree.old) (T.history tree.new)
-        (T.counts tree.old) (T.counts tree.new) result }
-{
-    match name {
-        Some(name) => file_lines(alloc, name, mixed, tree),
-        None => Ok(Vec::new(alloc)),
     }
 }
 
@@ -286,24 +226,8 @@ fn push_position(
     if position.0 == 0 && position.1 == 0 {
         return Ok(());
     }
-    let path = path_at(alloc, view, position)?;
-    push_file(alloc, lines, name, position, &path)
-}
-
-// Adds the line of the file with these positions in a package, by its path; without a path, the
-// package has no such file.
-fn push_file(
-    alloc: Global,
-    lines: &mut Vec<u8>,
-    name: &[u8],
-    position: (u32, u32),
-    path: &Option<Vec<u8>>,
-) -> Result<(), AllocError>
-    ensures { OnOk result (lines.new.items ≡ lines.old.items
-        ++ file_line name.now position (bytes_in path.now)) }
-{
-    match path {
-        Some(path) => push_path(alloc, lines, name, position, path),
+    match path_at(alloc, view, position)? {
+        Some(path) => push_path(alloc, lines, name, position, &path),
         None => push_no_file(alloc, lines, name, position),
     }
 }

@@ -7,7 +7,7 @@ ghost use Rattle.base_core.specs.Sink.{sink_before_and_after};
 ghost use Rattle.dep_core.specs.Repositories.{repositories_of};
 ghost use Rattle.report_core.specs.Reports.{name_dash_version};
 ghost use Rattle.root_names.specs.PackagePath.{package_path};
-ghost use Rattle.hint_core.specs.PackageFile.{ExplainsBeside, ExplainsByText, ExplainsEach, ExplainsPackageRefusal, ExplainsPackage, ExplainsPackageFile, ExplainsRepositories, package_file_line};
+ghost use Rattle.hint_core.specs.PackageFile.{ExplainsBeside, ExplainsByText, ExplainsPackageRefusal, ExplainsPackage, ExplainsPackageFile, ExplainsRepositories, package_file_line};
 ghost use Rattle.hint_core.specs.Repositories.{no_index_line};
 ghost use Rattle.hint_core.specs.Lines.{printed_bytes, printed_text};
 ghost use Rattle.hint_core.specs.Told.{Tells};
@@ -83,15 +83,13 @@ fn lines_of_refusal<T: Tree>(
         (T.counts tree.old) (T.counts tree.new) result }
 {
     match refusal {
-        Refusal::PackageMissing { name, version } => {
-            lines_of_package(alloc, name.as_bytes(), version.as_bytes(), refusal, tree)
-        }
-        Refusal::PackageBad {
+        Refusal::PackageMissing { name, version }
+        | Refusal::PackageBad {
             name,
             version,
             cause: _,
-        } => lines_of_package(alloc, name.as_bytes(), version.as_bytes(), refusal, tree),
-        Refusal::PackageDiffers {
+        }
+        | Refusal::PackageDiffers {
             name,
             version,
             field: _,
@@ -149,8 +147,8 @@ fn lines_by_text<T: Tree>(
     }
 }
 
-// The lines on the file of a package, by the repositories; before them the line that says that
-// there is no repository, if there is none.
+// The lines on the file of a package beside the index of each repository, one repository after
+// another; before them the line that says that there is no repository, if there is none.
 fn lines_of_repositories<T: Tree>(
     alloc: Global,
     name: &[u8],
@@ -166,8 +164,10 @@ fn lines_of_repositories<T: Tree>(
         (T.counts tree.old) (T.counts tree.new) result }
 {
     let mut lines = Vec::from_slice(alloc, no_index_line(repositories))?;
-    let each = lines_beside_each(alloc, name, version, refusal, repositories, tree)?;
-    lines.extend_from_slice(&each)?;
+    for i in 0..repositories.len() {
+        let more = lines_beside(alloc, name, version, refusal, repositories.path(i), tree)?;
+        lines.extend_from_slice(&more)?;
+    }
     Ok(lines)
 }
 
@@ -180,30 +180,6 @@ pub fn no_index_line(repositories: &Repos) -> &'static [u8]
     } else {
         b""
     }
-}
-
-// The lines on the file of a package beside the index of each repository, one repository after
-// another.
-fn lines_beside_each<T: Tree>(
-    alloc: Global,
-    name: &[u8],
-    version: &[u8],
-    refusal: &Refusal,
-    repositories: &Repos,
-    tree: &mut T,
-) -> Result<Vec<u8>, TreeFault>
-    ensures lines { IfOk result (λ lines. ExplainsEach name.now version.now refusal.now
-        (T.history tree.old) repositories.now lines.items) }
-    // The tree is only read.
-    ensures tree { OnlyReads TreeFault.Disk (T.history tree.old) (T.history tree.new)
-        (T.counts tree.old) (T.counts tree.new) result }
-{
-    let mut lines = Vec::new(alloc);
-    for i in 0..repositories.len() {
-        let more = lines_beside(alloc, name, version, refusal, repositories.path(i), tree)?;
-        lines.extend_from_slice(&more)?;
-    }
-    Ok(lines)
 }
 
 // The lines on the file of a package beside an index: where it is looked for, and which of its

@@ -3,7 +3,7 @@
 ghost use Rattle.std.specs.Prelude.{◌≡◌, IfOk};
 ghost use Rattle.std.specs.Option.{option_map};
 ghost use Rattle.base_core.specs.Read.{bytes_in};
-ghost use Rattle.hint_core.specs.Contents.{item_at_position, path_at, path_in_folder};
+ghost use Rattle.hint_core.specs.Contents.{item_at_position, path_at};
 ghost use Rattle.pkg_core.specs.adb_schema.Views.{dir_value, file_value, package_value};
 ghost use Rattle.pkg_core.specs.adb_schema.adb_fields.ListValue.{list_value};
 ghost use Rattle.pkg_core.specs.adb_schema.adb_fields.Paths.{path_of};
@@ -21,8 +21,11 @@ pub(crate) fn path_at(
     ensures { IfOk result (λ path.
         bytes_in path ≡ path_at (package_value view.now) position) }
 {
-    match folder_at(view.paths(), position.0) {
-        Some(folder) => path_in_folder(alloc, &folder, position.1),
+    let Some(folder) = folder_at(view.paths(), position.0) else {
+        return Ok(None);
+    };
+    match file_at(folder.files(), position.1) {
+        Some(file) => Ok(Some(path_of(alloc, folder.name(), file.name())?)),
         None => Ok(None),
     }
 }
@@ -36,21 +39,6 @@ fn folder_at<'a>(folders: List<'a, DirInfo<'a>>, position: u32) -> Option<DirInf
         return None;
     }
     Some(folders.get(position))
-}
-
-// The path of the file at a position in a folder, counted from 1, if there is one.
-fn path_in_folder(
-    alloc: Global,
-    folder: &DirInfo<'_>,
-    position: u32,
-) -> Result<Option<Vec<u8>>, AllocError>
-    ensures { IfOk result (λ path.
-        bytes_in path ≡ path_in_folder (dir_value folder.now) position) }
-{
-    match file_at(folder.files(), position) {
-        Some(file) => Ok(Some(path_of(alloc, folder.name(), file.name())?)),
-        None => Ok(None),
-    }
 }
 
 // The file at a position, counted from 1, if there is one.

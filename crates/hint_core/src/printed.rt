@@ -1,7 +1,6 @@
 //! Bytes as a line shows them, and texts one after another. The rules are in `docs/commands.md`,
 //! "Hints".
-ghost use Rattle.std.specs.Prelude.{◌≡◌, ◌++◌, ◌∷◌, [], IfOk, OnOk, map};
-ghost use Rattle.hex.specs.Hex.{encode_lower};
+ghost use Rattle.std.specs.Prelude.{◌≡◌, ◌++◌, IfOk, OnOk, map};
 ghost use Rattle.words_core.specs.Usage.{texts_joined};
 ghost use Rattle.hint_core.specs.Lines.{dots_if_cut, is_byte_printed_as_is, printed_byte, printed_bytes, printed_text};
 
@@ -40,28 +39,18 @@ pub fn push_printed(text: &mut Vec<u8>, bytes: &[u8]) -> Result<(), AllocError>
     Ok(())
 }
 
-// Adds a byte as it is shown: as it is, or as `\xNN`.
+// Adds a byte as it is shown: as it is, or as `\xNN`, where NN are its two hexadecimal digits.
 fn push_byte(text: &mut Vec<u8>, byte: u8) -> Result<(), AllocError>
     ensures { OnOk result (text.new.items ≡ text.old.items ++ printed_byte byte) }
 {
     if is_byte_printed_as_is(byte) {
-        text.push(byte)?;
-        return Ok(());
+        return text.extend_from_slice(&[byte]);
     }
-    push_escaped(text, byte)
-}
-
-// Adds a byte as `\xNN`, where NN are its two hexadecimal digits.
-fn push_escaped(text: &mut Vec<u8>, byte: u8) -> Result<(), AllocError>
-    ensures { OnOk result (text.new.items
-        ≡ text.old.items ++ 92 ∷ (120 ∷ encode_lower (byte ∷ []))) }
-{
     let mut digits = [0; 2];
     // A byte has two digits, which fit.
     let _ = hex::encode_to_slice([byte], &mut digits);
     text.extend_from_slice(b"\\x")?;
-    text.extend_from_slice(&digits)?;
-    Ok(())
+    text.extend_from_slice(&digits)
 }
 
 // Whether a byte is shown as it is: a space or a visible ASCII character, but no backslash.

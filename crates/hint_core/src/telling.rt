@@ -20,7 +20,7 @@ use std::alloc::{AllocError, Global};
 use words_core::read_words;
 
 /// Why the lines of a refusal's hints are not written, or not whole.
-#[derive(Clone, Copy, Debug, PartialEq, Eq)]
+#[derive(Clone, Copy)]
 pub enum HintFault {
     /// The tree failed.
     Disk,

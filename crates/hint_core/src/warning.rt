@@ -210,22 +210,9 @@ fn push_warning(
     ensures { OnOk result (lines.new.items
         ≡ lines.old.items ++ warning_if_tag_unknown repos.now (tag_of operand.now)) }
 {
-    match tag_of(operand) {
-        Some(tag) => push_unless_tagged(alloc, lines, repos, tag),
-        None => Ok(()),
-    }
-}
-
-// Adds the warning of a tag, if no repository has it.
-fn push_unless_tagged(
-    alloc: Global,
-    lines: &mut Vec<u8>,
-    repos: &Repos,
-    tag: &[u8],
-) -> Result<(), AllocError>
-    ensures { OnOk result (lines.new.items
-        ≡ lines.old.items ++ warning_if_tag_unknown repos.now (Some tag.now)) }
-{
+    let Some(tag) = tag_of(operand) else {
+        return Ok(());
+    };
     if has_repository_with_tag(repos, tag) {
         return Ok(());
     }

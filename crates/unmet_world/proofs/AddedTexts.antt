@@ -33,6 +33,11 @@ pub texts_step : {X : Type 0} (f : X → List (List ℕ)) (so_far more : List X)
 texts_step f so_far more x first before after one was is =
     is ∙ (ap (λ z. with_texts z (f x)) was ∙ (sym (with_texts-append first (flat_map f so_far) (f x)) ∙ ap (with_texts first) (sym (ap (flat_map f) one ∙ (flat_map-append f so_far (x ∷ []) ∙ ap (λ z. flat_map f so_far ++ z) (append-nil (f x)))))))
 
+-- the texts of all elements, behind those of another list
+pub texts_of_all : {X : Type 0} (f : X → List (List ℕ)) (xs all : List X) (none others first after : List (List ℕ)) → after ≡ with_texts first (flat_map f xs) → xs ≡ all → first ≡ with_texts none others → none ≡ [] → after ≡ with_texts (with_texts [] others) (flat_map f all)
+texts_of_all f xs all none others first after is same front empty =
+    is ∙ (ap (λ z. with_texts first (flat_map f z)) same ∙ ap (λ z. with_texts z (flat_map f all)) (front ∙ ap (λ z. with_texts z others) empty))
+
 -- the text of one more element
 pub mapped_next : {X : Type 0} (f : X → List ℕ) (xs : List X) (i : ℕ) (x : X) (before after : List (List ℕ)) → slice_get xs i ≡ Some x → before ≡ with_texts [] (map f (take i xs)) → after ≡ with_text_once before (f x) → after ≡ with_texts [] (map f (take (i + 1) xs))
 mapped_next f xs i x before after at was is =

@@ -8,7 +8,7 @@ use Rattle.dep_core.specs.Dependency.{Dependency}
 use Rattle.search_tables.specs.candidate_core.Candidates.{Candidate, meets_dependency, occupies_name}
 use Rattle.search_tables.specs.candidate_core.Rank.{SelectionProblem, candidate_at}
 use Rattle.search_tables.specs.Selection.{is_conflict_of_first_met_by_second, does_exclude, exclude_each_other, occupied_names, share_a_name}
-use Rattle.unmet_world.specs.Exclusion.{conflict_between, conflict_with, is_conflict_met_by, shared_name_at_places, occupied_among, shared_name}
+use Rattle.unmet_world.specs.Exclusion.{both_occupy, conflict_between, conflict_with, is_conflict_met_by, shared_name_at_places, occupied_among, shared_name}
 
 found_any : {X : Type 0} (p : X → Bool) (xs : List X) (x : X) → find p xs ≡ Some x → list_any p xs ≡ true
 found_any p [] x e = absurd (cc)
@@ -92,3 +92,16 @@ module _ (pool : SelectionProblem) (a b : ℕ) (apart : (a == b) ≡ false) wher
 pub some_copied : {X : Type 0} (o : Option (Bor X)) (copy : Option X) → option_copied o ≡ copy → is_some o ≡ true → is_some copy ≡ true
 some_copied None copy e h = absurd (cc)
 some_copied (Some x) copy e h = ap is_some (sym e)
+
+-- ---- what is found, by the candidates at the places
+
+pub conflict_at : (pool : SelectionProblem) (a b : ℕ) (one other : Candidate) (depends : List Dependency) → candidate_at pool a ≡ Some one → candidate_at pool b ≡ Some other → depends ≡ one.depends → conflict_between pool a b ≡ find (is_conflict_met_by other) depends
+conflict_at pool a b one other depends is_one is_other own = rw (is_one, is_other) (ap (find (is_conflict_met_by other)) (sym own))
+
+pub own_name_at : (pool : SelectionProblem) (a b : ℕ) (one other : Candidate) (name again : List ℕ) → candidate_at pool a ≡ Some one → candidate_at pool b ≡ Some other → name ≡ one.name → occupies_name name other ≡ true → again ≡ one.name → shared_name_at_places pool a b ≡ Some again
+own_name_at pool a b one other name again is_one is_other named occupied same =
+    rw (is_one, is_other, ap (λ (n : List ℕ). occupies_name n other) (sym named) ∙ occupied) (ap Some (sym same))
+
+pub provided_name_at : (pool : SelectionProblem) (a b : ℕ) (one other : Candidate) (name : List ℕ) (provides : List Dependency) → candidate_at pool a ≡ Some one → candidate_at pool b ≡ Some other → name ≡ one.name → occupies_name name other ≡ false → provides ≡ one.provides → shared_name_at_places pool a b ≡ option_map (λ (p : Dependency). p.name) (find (both_occupy other) provides)
+provided_name_at pool a b one other name provides is_one is_other named occupied own =
+    rw (is_one, is_other, ap (λ (n : List ℕ). occupies_name n other) (sym named) ∙ occupied) (ap (λ (ps : List Dependency). option_map (λ (p : Dependency). p.name) (find (both_occupy other) ps)) (sym own))

@@ -1,6 +1,6 @@
 -- What is wanted is unmet if it has no option.
-use Rattle.std.proofs.Common.{◌≡◌, ◌⊎◌, inl, inr, ℕ, zero, suc, ◌<◌, false, List, [], ◌∷◌, length, refl, sym, subst, ap, ◌∙◌, arith}
-use Rattle.std.specs.Prelude.{Option, Some, None, Result, Ok, Err, IfOk, IfSome, MatchBool, MatchOption, Vec, ◌==◌, slice_get}
+use Rattle.std.proofs.Common.{◌≡◌, ◌⊎◌, inl, inr, ℕ, zero, suc, ◌<◌, Bool, false, true, List, [], ◌∷◌, length, refl, sym, subst, ap, ◌∙◌, arith}
+use Rattle.std.specs.Prelude.{if◌then◌else◌, Option, Some, None, Result, Ok, Err, IfOk, IfSome, MatchBool, MatchOption, Vec, ◌==◌, slice_get}
 use Rattle.std.specs.declared.alloc.Global.{Global}
 use Rattle.dep_core.specs.Repositories.{Repository}
 use Rattle.unmet_world.specs.Lines.{IsExplanationOfUnmetWorldOfPool, explanation_text}
@@ -26,6 +26,25 @@ told_by_options pool want d is = by (options_for pool (entry d)) refl
         let found : Some d ≡ Some unmet.0 = sym is ∙ unmet.1 in
         let same : unmet.0 ≡ d = cc in
         unmet.2 x (subst (IsIn x) (sym (ap (λ (z : Dependency). options_for pool (entry z)) same ∙ some)) (inl refl)))
+
+-- an entry of world that is no conflict is wanted, and a conflict is not
+pub entry_wanted : (pool : SelectionProblem) (world : List Dependency) (index : ℕ) (d : Dependency) → world ≡ pool.world → slice_get world index ≡ Some d → d.conflict ≡ false → wanted pool (want_of_world_entry index) ≡ Some d
+entry_wanted pool world index d same at is =
+    ap if_positive (subst (λ (w : List Dependency). slice_get w index ≡ Some d) same at) ∙ by d.conflict is
+  where
+    by : (b : Bool) → b ≡ false → ◌≡◌ {A = Option Dependency} (if b then None else Some d) (Some d)
+    by true h = absurd (cc)
+    by false h = refl
+
+pub conflict_unwanted : (pool : SelectionProblem) (world : List Dependency) (index : ℕ) (d : Dependency) → world ≡ pool.world → slice_get world index ≡ Some d → d.conflict ≡ true → IsUnmet pool (want_of_world_entry index) → ⊥
+conflict_unwanted pool world index d same at is unmet =
+    let none : wanted pool (want_of_world_entry index) ≡ None = ap if_positive (subst (λ (w : List Dependency). slice_get w index ≡ Some d) same at) ∙ by d.conflict is in
+    let some : ◌≡◌ {A = Option Dependency} None (Some unmet.0) = sym none ∙ unmet.1 in
+    absurd (cc)
+  where
+    by : (b : Bool) → b ≡ true → ◌≡◌ {A = Option Dependency} (if b then None else Some d) None
+    by true h = refl
+    by false h = absurd (cc)
 
 -- an entry that is not there is not unmet
 pub past : (pool : SelectionProblem) (index : ℕ) → IsUnmet pool (want_of_world_entry index) → index < length pool.world

@@ -1,6 +1,6 @@
 -- The explanation of a command that was refused because nothing can be selected. It is described in
 -- `docs/commands.md`, "Why nothing can be selected".
-use Rattle.std.specs.Prelude.{◌≡◌, ℕ, ◌==◌, if◌then◌else◌, List, [], ◌++◌, length, codes, Result, Ok, Err}
+use Rattle.std.specs.Prelude.{◌≡◌, ℕ, List, [], ◌++◌, Result, Ok, Err}
 use Rattle.base_core.specs.Tree.{TreeState}
 use Rattle.search_tables.specs.candidate_core.Rank.{SelectionProblem, no_names}
 use Rattle.dep_core.specs.Dependency.{Dependency}

@@ -28,19 +28,16 @@ pub(crate) fn exclude_each_other(pool: &Sealed<'_>, a: CandId, b: CandId) -> boo
 pub(crate) fn conflict_between<'a>(pool: &Sealed<'a>, a: CandId, b: CandId) -> Option<Dep<'a>>
     ensures { option_map dependency result ≡ conflict_between pool.now a b }
 {
-    match (pool.at(a), pool.at(b)) {
-        (Some(one), Some(other)) => conflict_among(&one.depends(), &other),
-        _ => None,
-    }
-}
-
-// The first of these dependencies that is a conflict and is met by the candidate `other`.
-fn conflict_among<'a>(depends: &Deps<'a>, other: &Details<'_>) -> Option<Dep<'a>>
-    ensures { option_map dependency result ≡ find (is_conflict_met_by other.now) depends.now }
-{
+    let Some(one) = pool.at(a) else {
+        return None;
+    };
+    let Some(other) = pool.at(b) else {
+        return None;
+    };
+    let depends = one.depends();
     for i in 0..depends.len() {
         let dep = depends.get(i);
-        if is_conflict_met_by(&dep, other) {
+        if is_conflict_met_by(&dep, &other) {
             return Some(dep);
         }
     }
@@ -61,29 +58,19 @@ pub(crate) fn is_conflict_met_by(dep: &Dep<'_>, other: &Details<'_>) -> bool
 pub(crate) fn shared_name_at_places<'a>(pool: &Sealed<'a>, a: CandId, b: CandId) -> Option<&'a [u8]>
     ensures { option_copied result ≡ shared_name_at_places pool.now a b }
 {
-    match (pool.at(a), pool.at(b)) {
-        (Some(one), Some(other)) => shared_name(&one, &other),
-        _ => None,
-    }
-}
-
-// The first name that two candidates both occupy: the name of `one`, or one of its provides.
-fn shared_name<'a>(one: &Details<'a>, other: &Details<'_>) -> Option<&'a [u8]>
-    ensures { option_copied result ≡ shared_name one.now other.now }
-{
+    let Some(one) = pool.at(a) else {
+        return None;
+    };
+    let Some(other) = pool.at(b) else {
+        return None;
+    };
     if other.occupies(one.name()) {
         return Some(one.name());
     }
-    occupied_among(&one.provides(), other)
-}
-
-// The first name that these provides have with a version, and that the candidate `other` occupies.
-fn occupied_among<'a>(provides: &Deps<'a>, other: &Details<'_>) -> Option<&'a [u8]>
-    ensures { option_copied result ≡ occupied_among provides.now other.now }
-{
+    let provides = one.provides();
     for i in 0..provides.len() {
         let entry = provides.get(i);
-        if occupies(&entry, other) {
+        if occupies(&entry, &other) {
             return Some(entry.name);
         }
     }

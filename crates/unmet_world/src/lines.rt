@@ -38,29 +38,8 @@ fn needs(
     Ok(line)
 }
 
-// Adds the line that says which candidates offer a dependency's name, if no candidate that may be
-// selected meets the dependency.
-fn add_missing(
-    alloc: Global,
-    lines: &mut Vec<Text>,
-    sources: &Sources<'_>,
-    dep: &Dep<'_>,
-) -> Result<(), AllocError>
-    // The world is the one with which the pool was sealed.
-    requires { sources.now.world.now ≡ sources.now.pool.now.world }
-    ensures { OnOk result (lines.new.items ≡ with_texts lines.old.items
-        (missing_lines sources.now.pool.now sources.now.listed.now (dependency dep.now))) }
-{
-    let options = sources.pool.options_for(alloc, &NeedRef::Entry(dep))?;
-    if !options.is_empty() {
-        return Ok(());
-    }
-    let line = offers_line_of_name(alloc, sources, dep.name)?;
-    add_once(lines, line)
-}
-
-// Adds the lines of a wanted dependency: who needs it, and, if nothing meets it, which candidates
-// offer its name.
+// Adds the lines of a wanted dependency: who needs it, and, if no candidate that may be selected
+// meets it, which candidates offer its name.
 fn add_want(
     alloc: Global,
     lines: &mut Vec<Text>,
@@ -72,15 +51,17 @@ fn add_want(
     ensures { OnOk result (lines.new.items ≡ with_texts lines.old.items
         (want_lines sources.now.pool.now sources.now.listed.now sources.now.repositories.now want)) }
 {
-    let owner = want.owner;
-    match wanted(sources.pool, sources.world, want) {
-        None => Ok(()),
-        Some(dep) => {
-            let line = needs(alloc, sources, owner, &dep)?;
-            add_once(lines, Text::from_vec(line))?;
-            add_missing(alloc, lines, sources, &dep)
-        }
+    let Some(dep) = wanted(sources.pool, sources.world, want) else {
+        return Ok(());
+    };
+    let line = needs(alloc, sources, want.owner, &dep)?;
+    add_once(lines, Text::from_vec(line))?;
+    let options = sources.pool.options_for(alloc, &NeedRef::Entry(&dep))?;
+    if !options.is_empty() {
+        return Ok(());
     }
+    let line = offers_line_of_name(alloc, sources, dep.name)?;
+    add_once(lines, line)
 }
 
 // Adds the line that says that the candidate `id` is the only one left for a wanted dependency.
@@ -97,16 +78,13 @@ fn add_only(
         (only_candidate_lines sources.now.pool.now sources.now.listed.now sources.now.repositories.now
         want.owner id (wanted sources.now.pool.now want))) }
 {
-    let owner = want.owner;
-    match wanted(sources.pool, sources.world, want) {
-        None => Ok(()),
-        Some(dep) => {
-            let mut line = needs(alloc, sources, owner, &dep)?;
-            line.extend_from_slice(b": only ")?;
-            add_candidate_at(&mut line, sources, id)?;
-            add_once(lines, Text::from_vec(line))
-        }
-    }
+    let Some(dep) = wanted(sources.pool, sources.world, want) else {
+        return Ok(());
+    };
+    let mut line = needs(alloc, sources, want.owner, &dep)?;
+    line.extend_from_slice(b": only ")?;
+    add_candidate_at(&mut line, sources, id)?;
+    add_once(lines, Text::from_vec(line))
 }
 
 // The text that the candidate `a` has the conflict `dep`, which the candidate `b` meets.
@@ -149,32 +127,8 @@ fn sharing(
     Ok(Text::from_vec(line))
 }
 
-// The text that says by what two candidates exclude each other: a conflict of `a`, one of `b`, or a
-// name; None if they do not.
-fn exclusion(
-    alloc: Global,
-    sources: &Sources<'_>,
-    a: CandId,
-    b: CandId,
-) -> Result<Option<Text>, AllocError>
-    ensures { IfOk result (λ line. option_to_list line ≡ exclusion_lines sources.now.pool.now
-        sources.now.repositories.now a b (conflict_between sources.now.pool.now a b)
-        (conflict_between sources.now.pool.now b a)
-        (shared_name_at_places sources.now.pool.now a b)) }
-{
-    if let Some(dep) = conflict_between(sources.pool, a, b) {
-        return Ok(Some(conflict(alloc, sources, a, b, &dep)?));
-    }
-    if let Some(dep) = conflict_between(sources.pool, b, a) {
-        return Ok(Some(conflict(alloc, sources, b, a, &dep)?));
-    }
-    match shared_name_at_places(sources.pool, a, b) {
-        None => Ok(None),
-        Some(name) => Ok(Some(sharing(alloc, sources, a, b, name)?)),
-    }
-}
-
-// Adds the line that says by what two candidates exclude each other, if they do.
+// Adds the line that says by what two candidates exclude each other: a conflict of `a`, one of `b`,
+// or a name; nothing if they do not.
 fn add_exclusion(
     alloc: Global,
     lines: &mut Vec<Text>,
@@ -188,9 +142,15 @@ fn add_exclusion(
         (conflict_between sources.now.pool.now b a)
         (shared_name_at_places sources.now.pool.now a b))) }
 {
-    match exclusion(alloc, sources, a, b)? {
+    if let Some(dep) = conflict_between(sources.pool, a, b) {
+        return add_once(lines, conflict(alloc, sources, a, b, &dep)?);
+    }
+    if let Some(dep) = conflict_between(sources.pool, b, a) {
+        return add_once(lines, conflict(alloc, sources, b, a, &dep)?);
+    }
+    match shared_name_at_places(sources.pool, a, b) {
         None => Ok(()),
-        Some(line) => add_once(lines, line),
+        Some(name) => add_once(lines, sharing(alloc, sources, a, b, name)?),
     }
 }
 
@@ -218,25 +178,6 @@ fn add_step(
     }
 }
 
-// Adds the lines that explain these steps of a refutation.
-fn add_steps(
-    alloc: Global,
-    lines: &mut Vec<Text>,
-    sources: &Sources<'_>,
-    steps: &[Step],
-) -> Result<(), AllocError>
-    // The world is the one with which the pool was sealed.
-    requires { sources.now.world.now ≡ sources.now.pool.now.world }
-    ensures { OnOk result (lines.new.items ≡ with_texts lines.old.items
-        (flat_map (step_lines sources.now.pool.now sources.now.listed.now
-        sources.now.repositories.now) steps.now)) }
-{
-    for step in steps {
-        add_step(alloc, lines, sources, *step)?;
-    }
-    Ok(())
-}
-
 // The first of these steps, at most as many as lines are printed.
 fn first_of(steps: &[Step]) -> &[Step]
     ensures { result.now ≡ take most_printed_lines steps.now }
@@ -262,7 +203,10 @@ fn refutation_lines(
 {
     let mut lines = Vec::new(alloc);
     add_want(alloc, &mut lines, sources, refutation.end)?;
-    add_steps(alloc, &mut lines, sources, first_of(&refutation.steps))?;
+    let steps = first_of(&refutation.steps);
+    for step in steps {
+        add_step(alloc, &mut lines, sources, *step)?;
+    }
     Ok(lines)
 }
 
@@ -322,8 +266,8 @@ fn printed(alloc: Global, lines: &[Text]) -> Result<Vec<u8>, AllocError>
     Ok(text)
 }
 
-/// The lines of a refutation, if one was found, or else of the entries of world, as they are
-/// printed.
+/// The lines of a refutation, if one was found, or else of the entries of world that are no
+/// conflicts, as they are printed.
 pub(crate) fn explanation(
     alloc: Global,
     sources: &Sources<'_>,
@@ -334,24 +278,8 @@ pub(crate) fn explanation(
     ensures { IfOk result (λ text. text.items ≡ explanation_text sources.now.pool.now
         sources.now.listed.now sources.now.repositories.now found.now) }
 {
-    let lines = lines_of(alloc, sources, found)?;
-    printed(alloc, &lines)
-}
-
-// The lines of a refutation, if one was found, or else of the entries of world that are no
-// conflicts.
-fn lines_of(
-    alloc: Global,
-    sources: &Sources<'_>,
-    found: &Option<Refutation>,
-) -> Result<Vec<Text>, AllocError>
-    // The world is the one with which the pool was sealed.
-    requires { sources.now.world.now ≡ sources.now.pool.now.world }
-    ensures { IfOk result (λ lines. lines.items ≡ explanation_lines sources.now.pool.now
-        sources.now.listed.now sources.now.repositories.now found.now) }
-{
     match found {
-        None => world_lines(alloc, sources),
-        Some(refutation) => refutation_lines(alloc, sources, refutation),
+        None => printed(alloc, &world_lines(alloc, sources)?),
+        Some(refutation) => printed(alloc, &refutation_lines(alloc, sources, refutation)?),
     }
 }

@@ -14,7 +14,7 @@ use search_tables::{CandId, Deps, NameTable, NeedRef, Options, Sealed};
 use std::alloc::{AllocError, Global};
 
 /// How many options the search lists at most, how many pairs of candidates it compares, and how
-/// many times it calls `go_on`. This bounds its time and its memory.
+/// many turns it takes. This bounds its time and its memory.
 const MOST_LOOKED_AT: usize = 262144;
 
 /// A wanted dependency, of world or of a candidate. Its options are the candidates that meet it.
@@ -24,6 +24,15 @@ struct Open {
     want: Want,
     /// How many options of the dependency are not ruled out yet.
     left: usize,
+}
+
+/// A step that the search has concluded, and whether the end of the refutation needs it.
+#[derive(Clone, Copy)]
+struct Conclusion {
+    /// The step.
+    step: Step,
+    /// Whether the end, or a later step that it needs, follows from this step.
+    is_needed: bool,
 }
 
 /// An entry for a candidate that is an option of a wanted dependency. The entries of one candidate
@@ -43,9 +52,9 @@ struct Known {
     is_seen: bool,
     /// Whether its own dependencies are listed as wanted.
     is_expanded: bool,
-    /// The index in `Propagation::steps` of the step that rules it out, if one does.
+    /// The index in `Propagation::conclusions` of the step that rules it out, if one does.
     out: Option<usize>,
-    /// The index in `Propagation::steps` of the step that makes it sure, if one does.
+    /// The index in `Propagation::conclusions` of the step that makes it sure, if one does.
     sure: Option<usize>,
     /// The index in `Propagation::listed` of its latest entry, if it has one.
     listed: Option<usize>,
@@ -66,7 +75,8 @@ const NOTHING: Known = Known {
     end: 0,
 };
 
-/// The state of the search.
+/// The state of the search. The search remembers whether memory ran out, so that its functions
+/// return no error.
 #[derive(Drop)]
 struct Propagation<'p> {
     /// The allocator.
@@ -81,8 +91,8 @@ struct Propagation<'p> {
     listed: Vec<Listed>,
     /// What is known of each candidate, in the order of their places in the pool.
     known: Vec<Known>,
-    /// The steps so far.
-    steps: Vec<Step>,
+    /// The conclusions so far.
+    conclusions: Vec<Conclusion>,
     /// The indexes in `open` of wanted dependencies to look at: at most one option was left, or
     /// their owner became sure.
     few: Vec<usize>,
@@ -99,6 +109,8 @@ struct Propagation<'p> {
     /// The entry of world that has no option left, if the search has found one: the end of the
     /// refutation.
     end: Option<Want>,
+    /// Whether memory ran out.
+    is_out_of_memory: bool,
 }
 
 /// The refutation of world that the search finds, if it finds one.
@@ -107,76 +119,56 @@ pub(crate) fn propagate<'p>(
     pool: &'p Sealed<'p>,
     world: &'p World,
 ) -> Result<Option<Refutation>, AllocError> {
-    let mut search = Propagation::new(alloc, pool, world)?;
-    search.run()?;
-    let end = search.end;
-    match end {
-        None => Ok(None),
-        Some(end) => {
-            let refutation = search.refutation(end)?;
-            Ok(Some(refutation))
-        }
+    let mut search = Propagation {
+        alloc,
+        pool,
+        world,
+        open: Vec::new(alloc),
+        listed: Vec::new(alloc),
+        known: vec![in alloc; NOTHING; pool.len()]?,
+        conclusions: Vec::new(alloc),
+        few: Vec::new(alloc),
+        few_done: 0,
+        seen: Vec::new(alloc),
+        seen_done: 0,
+        conflicts: NameTable::new(alloc),
+        compared: 0,
+        end: None,
+        is_out_of_memory: false,
+    };
+    for index in 0..world.len() {
+        search.want(Owner::World, index);
     }
+    search.run();
+    let found = match search.end {
+        None => None,
+        Some(end) => Some(search.refutation(end)),
+    };
+    if search.is_out_of_memory {
+        return Err(AllocError);
+    }
+    Ok(found)
 }
 
 impl<'p> Propagation<'p> {
-    // A search that has looked at nothing.
-    fn new(
-        alloc: Global,
-        pool: &'p Sealed<'p>,
-        world: &'p World,
-    ) -> Result<Propagation<'p>, AllocError> {
-        // Nothing is known of any candidate.
-        let mut known = Vec::with_capacity(alloc, pool.len())?;
-        for _ in 0..pool.len() {
-            known.push(NOTHING)?;
-        }
-        Ok(Propagation {
-            alloc,
-            pool,
-            world,
-            open: Vec::new(alloc),
-            listed: Vec::new(alloc),
-            known,
-            steps: Vec::new(alloc),
-            few: Vec::new(alloc),
-            few_done: 0,
-            seen: Vec::new(alloc),
-            seen_done: 0,
-            conflicts: NameTable::new(alloc),
-            compared: 0,
-            end: None,
-        })
-    }
-
-    // Lists the entries of world as wanted. Then searches until the refutation has an end, nothing
-    // is left to look at, or the limit is reached.
-    fn run(&mut self) -> Result<(), AllocError> {
-        for index in 0..self.world.len() {
-            self.want(Owner::World, index)?;
-        }
+    // Searches until the refutation has an end, nothing is left to look at, the limit is reached, or
+    // memory runs out. Each turn looks at the next wanted dependency in `few`, and else expands the
+    // next candidate in `seen`.
+    fn run(&mut self) {
         for _ in 0..MOST_LOOKED_AT {
-            if self.end.is_some() || !self.go_on()? {
-                return Ok(());
+            if self.end.is_some() || self.is_out_of_memory {
+                return;
+            }
+            if let Some(open) = self.few.get(self.few_done).copied() {
+                self.few_done = self.few_done.saturating_add(1);
+                self.look_at(open);
+            } else if let Some(id) = self.seen.get(self.seen_done).copied() {
+                self.seen_done = self.seen_done.saturating_add(1);
+                self.expand(id);
+            } else {
+                return;
             }
         }
-        Ok(())
-    }
-
-    // Looks at the next wanted dependency in `few`, and else expands the next candidate in `seen`.
-    // Returns false if there is neither.
-    fn go_on(&mut self) -> Result<bool, AllocError> {
-        if let Some(open) = self.few.get(self.few_done).copied() {
-            self.few_done = self.few_done.saturating_add(1);
-            self.look_at(open)?;
-            return Ok(true);
-        }
-        if let Some(id) = self.seen.get(self.seen_done).copied() {
-            self.seen_done = self.seen_done.saturating_add(1);
-            self.expand(id)?;
-            return Ok(true);
-        }
-        Ok(false)
     }
 
     // What is known of a candidate.
@@ -195,112 +187,92 @@ impl<'p> Propagation<'p> {
         }
     }
 
-    // Whether an owner is sure: world, or a candidate that a step has made sure.
-    fn is_sure(&self, owner: Owner) -> bool {
-        match owner {
-            Owner::World => true,
-            Owner::Package(id) => self.known_of(candidate(id)).sure.is_some(),
-        }
-    }
-
-    // The options of a wanted dependency; None if it is a conflict, or does not exist.
-    fn options_of(&self, want: Want) -> Result<Option<Options>, AllocError> {
-        match wanted(self.pool, self.world, want) {
-            None => Ok(None),
-            Some(dep) => {
-                let options = self.pool.options_for(self.alloc, &NeedRef::Entry(&dep))?;
-                Ok(Some(options))
+    // The options of a wanted dependency; None if it is a conflict or does not exist, or if memory
+    // runs out.
+    fn options_of(&mut self, want: Want) -> Option<Options> {
+        let dep = match wanted(self.pool, self.world, want) {
+            None => return None,
+            Some(dep) => dep,
+        };
+        match self.pool.options_for(self.alloc, &NeedRef::Entry(&dep)) {
+            Ok(options) => Some(options),
+            Err(_) => {
+                self.is_out_of_memory = true;
+                None
             }
         }
     }
 
     // Lists a dependency of an owner as wanted, with its options. `index` is its index among the
     // dependencies of the owner. A conflict is left out, and so is all beyond the limit.
-    fn want(&mut self, owner: Owner, index: usize) -> Result<(), AllocError> {
+    fn want(&mut self, owner: Owner, index: usize) {
         let want = Want { owner, index };
-        let Some(options) = self.options_of(want)? else {
-            return Ok(());
+        let Some(options) = self.options_of(want) else {
+            return;
         };
         if self.listed.len() >= MOST_LOOKED_AT {
-            return Ok(());
+            return;
         }
         // The index that the dependency gets in `open`.
         let open = self.open.len();
-        let left = self.list_all(open, &options)?;
-        self.open.push(Open { want, left })?;
-        if left <= 1 {
-            self.few.push(open)?;
-        }
-        Ok(())
-    }
-
-    // Lists the options of the wanted dependency with the index `open`, and returns how many of
-    // them are not ruled out.
-    fn list_all(&mut self, open: usize, options: &Options) -> Result<usize, AllocError> {
+        // How many options are not ruled out.
         let mut left: usize = 0;
         for i in 0..options.len() {
-            let is_left = self.list(open, options.get(i))?;
-            if is_left {
+            if self.list(open, options.get(i)) {
                 left = left.saturating_add(1);
             }
         }
-        Ok(left)
+        self.is_out_of_memory |= self.open.push(Open { want, left }).is_err();
+        if left <= 1 {
+            self.look_at_later(open);
+        }
     }
 
     // Lists the candidate `id` as an option of the wanted dependency with the index `open`. Returns
     // whether the candidate is not ruled out.
-    fn list(&mut self, open: usize, id: CandId) -> Result<bool, AllocError> {
+    fn list(&mut self, open: usize, id: CandId) -> bool {
         let mut known = self.known_of(id);
-        // The index that the new entry gets in `listed`.
-        let place = self.listed.len();
-        self.listed.push(Listed {
-            open,
-            before: known.listed,
-        })?;
-        known.listed = Some(place);
+        let before = known.listed;
+        known.listed = Some(self.listed.len());
+        self.is_out_of_memory |= self.listed.push(Listed { open, before }).is_err();
         if !known.is_seen {
-            self.seen.push(id)?;
+            known.is_seen = true;
+            self.is_out_of_memory |= self.seen.push(id).is_err();
         }
-        known.is_seen = true;
         self.set_known(id, known);
-        Ok(known.out.is_none())
+        known.out.is_none()
+    }
+
+    // Adds the wanted dependency with this index in `open` to those that `few` lists.
+    fn look_at_later(&mut self, open: usize) {
+        self.is_out_of_memory |= self.few.push(open).is_err();
     }
 
     // Draws the conclusion from a wanted dependency with one option left, or none. `open` is its
     // index.
-    fn look_at(&mut self, open: usize) -> Result<(), AllocError> {
-        if open >= self.open.len() {
-            return Ok(());
-        }
-        let Open { want, left } = self.open[open];
-        if left == 0 {
-            return self.none_left(want);
-        }
-        if left == 1 && self.is_sure(want.owner) {
-            return self.one_left(want);
-        }
-        Ok(())
-    }
-
-    // No option of this dependency is left. A candidate that wants it is ruled out; if world wants
-    // it, the search ends. A sure candidate is ruled out too, so that the end is an entry of world.
-    fn none_left(&mut self, want: Want) -> Result<(), AllocError> {
+    fn look_at(&mut self, open: usize) {
+        let Some(Open { want, left }) = self.open.get(open).copied() else {
+            return;
+        };
         match want.owner {
-            Owner::World => {
-                self.end = Some(want);
-                Ok(())
-            }
-            Owner::Package(id) => {
+            // No option of an entry of world is left: the search ends.
+            Owner::World if left == 0 => self.end = Some(want),
+            // A candidate that wants what no option meets is ruled out. A sure candidate is ruled
+            // out too, so that the end is an entry of world.
+            Owner::Package(id) if left == 0 => {
                 let index = want.index;
                 self.rule_out(candidate(id), Step::Broken { id, index })
             }
+            Owner::Package(id) if self.known_of(candidate(id)).sure.is_none() => {}
+            _ if left == 1 => self.one_left(want),
+            _ => {}
         }
     }
 
     // One option of this dependency of a sure owner is left: this candidate becomes sure.
-    fn one_left(&mut self, want: Want) -> Result<(), AllocError> {
-        let Some(options) = self.options_of(want)? else {
-            return Ok(());
+    fn one_left(&mut self, want: Want) {
+        let Some(options) = self.options_of(want) else {
+            return;
         };
         for i in 0..options.len() {
             let id = options.get(i);
@@ -308,163 +280,157 @@ impl<'p> Propagation<'p> {
                 return self.make_sure(id, want);
             }
         }
-        Ok(())
     }
 
     // Rules a candidate out by a step. Each wanted dependency of which it is an option has one
     // option less.
-    fn rule_out(&mut self, id: CandId, step: Step) -> Result<(), AllocError> {
+    fn rule_out(&mut self, id: CandId, step: Step) {
         let mut known = self.known_of(id);
         if known.out.is_some() {
-            return Ok(());
+            return;
         }
-        known.out = Some(self.steps.len());
-        self.set_known(id, known);
-        self.steps.push(step)?;
         let mut next = known.listed;
-        // Goes through the linked entries of the candidate.
+        known.out = Some(self.conclude(step));
+        self.set_known(id, known);
+        // Goes through the linked entries of the candidate, from the latest to the first.
         for _ in 0..self.listed.len() {
             let Some(place) = next else {
-                return Ok(());
+                return;
             };
-            next = self.one_less(place)?;
-        }
-        Ok(())
-    }
-
-    // Counts one option less for the wanted dependency of the entry at this index of `listed`.
-    // Returns the index of the previous entry of the same candidate.
-    fn one_less(&mut self, place: usize) -> Result<Option<usize>, AllocError> {
-        let Some(listed) = self.listed.get(place).copied() else {
-            return Ok(None);
-        };
-        if let Some(open) = self.open.get_mut(listed.open) {
-            open.left = open.left.saturating_sub(1);
-            if open.left <= 1 {
-                self.few.push(listed.open)?;
+            let Some(listed) = self.listed.get(place).copied() else {
+                return;
+            };
+            next = listed.before;
+            if let Some(open) = self.open.get_mut(listed.open) {
+                open.left = open.left.saturating_sub(1);
+                if open.left <= 1 {
+                    self.look_at_later(listed.open);
+                }
             }
         }
-        Ok(listed.before)
+    }
+
+    // Adds a step to the conclusions, and returns its index.
+    fn conclude(&mut self, step: Step) -> usize {
+        let index = self.conclusions.len();
+        let is_needed = false;
+        self.is_out_of_memory |= self
+            .conclusions
+            .push(Conclusion { step, is_needed })
+            .is_err();
+        index
     }
 
     // Makes a candidate sure by a step, because of the dependency `want`. Its own dependencies are
     // those of a sure owner now, and the candidates that it excludes are ruled out.
-    fn make_sure(&mut self, id: CandId, want: Want) -> Result<(), AllocError> {
+    fn make_sure(&mut self, id: CandId, want: Want) {
         let mut known = self.known_of(id);
         if known.sure.is_some() {
-            return Ok(());
+            return;
         }
-        known.sure = Some(self.steps.len());
+        known.sure = Some(self.conclude(Step::Sure { id: id.place, want }));
         self.set_known(id, known);
-        self.steps.push(Step::Sure { id: id.place, want })?;
-        self.expand(id)?;
+        self.expand(id);
         // All its dependencies are looked at again, since their owner is sure now.
         for open in known.first..known.end {
-            self.few.push(open)?;
+            self.look_at_later(open);
         }
         self.exclude_with(id)
     }
 
-    // Expands a candidate, unless this was done: lists its dependencies as wanted, and its
-    // conflicts.
-    fn expand(&mut self, id: CandId) -> Result<(), AllocError> {
+    // Expands a candidate, unless this was done: lists its dependencies as wanted, and its conflicts
+    // by the names in them. Rules the candidate out if a sure candidate meets a conflict.
+    fn expand(&mut self, id: CandId) {
         if self.known_of(id).is_expanded {
-            return Ok(());
+            return;
         }
         let Some(details) = self.pool.at(id) else {
-            return Ok(());
+            return;
         };
         // The index in `open` of the first dependency that is listed now.
         let first = self.open.len();
-        self.want_all(id, &details.depends())?;
+        let depends = details.depends();
+        for index in 0..depends.len() {
+            let dep = depends.get(index);
+            if dep.conflict {
+                self.is_out_of_memory |= self.conflicts.add(dep.name, id).is_err();
+                self.exclude_by_sure(id, dep.name);
+            } else {
+                self.want(Owner::Package(id.place), index);
+            }
+        }
         let mut known = self.known_of(id);
         known.is_expanded = true;
         // Its dependencies are the entries of `open` from `first` on.
         known.first = first;
         known.end = self.open.len();
         self.set_known(id, known);
-        Ok(())
-    }
-
-    // Lists the dependencies of a candidate as wanted, and its conflicts by the names in them.
-    // Rules the candidate out if a sure candidate meets a conflict.
-    fn want_all(&mut self, id: CandId, depends: &Deps<'p>) -> Result<(), AllocError> {
-        for index in 0..depends.len() {
-            let dep = depends.get(index);
-            if dep.conflict {
-                self.conflicts.add(dep.name, id)?;
-                self.exclude_by_sure(id, dep.name)?;
-            } else {
-                self.want(Owner::Package(id.place), index)?;
-            }
-        }
-        Ok(())
     }
 
     // Rules the candidate `id` out if it and a sure candidate that offers this name exclude each
     // other.
-    fn exclude_by_sure(&mut self, id: CandId, name: &[u8]) -> Result<(), AllocError> {
+    fn exclude_by_sure(&mut self, id: CandId, name: &[u8]) {
         let pool = self.pool;
         for by in pool.offers(name) {
             if self.known_of(*by).sure.is_some() {
-                self.exclude(id, *by)?;
+                self.exclude(id, *by);
             }
         }
-        Ok(())
     }
 
     // Rules out the candidates that the sure candidate `by` excludes.
-    fn exclude_with(&mut self, by: CandId) -> Result<(), AllocError> {
+    fn exclude_with(&mut self, by: CandId) {
         let Some(details) = self.pool.at(by) else {
-            return Ok(());
+            return;
         };
-        self.exclude_at(details.name(), by)?;
-        self.exclude_at_all(&details.provides(), by)?;
+        self.exclude_at(details.name(), by);
+        self.exclude_at_all(&details.provides(), by);
         self.exclude_at_all(&details.depends(), by)
     }
 
     // Rules out the candidates that the sure candidate `by` excludes, for each name in these
     // dependencies or provides of it.
-    fn exclude_at_all(&mut self, deps: &Deps<'p>, by: CandId) -> Result<(), AllocError> {
+    fn exclude_at_all(&mut self, deps: &Deps<'p>, by: CandId) {
         for i in 0..deps.len() {
             let dep = deps.get(i);
             if dep.conflict || dep.version.is_some() {
-                self.exclude_at(dep.name, by)?;
+                self.exclude_at(dep.name, by);
             }
-            self.exclude_conflicting(dep.name, by)?;
+            self.exclude_conflicting(dep.name, by);
         }
-        Ok(())
     }
 
     // Rules out the candidates that the sure candidate `by` excludes, among those that offer this
     // name or have a conflict with it.
-    fn exclude_at(&mut self, name: &[u8], by: CandId) -> Result<(), AllocError> {
+    fn exclude_at(&mut self, name: &[u8], by: CandId) {
         let pool = self.pool;
         for id in pool.offers(name) {
-            self.exclude(*id, by)?;
+            self.exclude(*id, by);
         }
         self.exclude_conflicting(name, by)
     }
 
     // Rules out the candidates that the sure candidate `by` excludes, among the expanded ones that
     // have a conflict with this name.
-    fn exclude_conflicting(&mut self, name: &[u8], by: CandId) -> Result<(), AllocError> {
-        let ids = Vec::from_slice(self.alloc, self.conflicts.get(name))?;
+    fn exclude_conflicting(&mut self, name: &[u8], by: CandId) {
+        let Ok(ids) = Vec::from_slice(self.alloc, self.conflicts.get(name)) else {
+            self.is_out_of_memory = true;
+            return;
+        };
         for id in &ids {
-            self.exclude(*id, by)?;
+            self.exclude(*id, by);
         }
-        Ok(())
     }
 
     // Rules the candidate `id` out if it and the sure candidate `by` exclude each other. Does
     // nothing once too many pairs were compared.
-    fn exclude(&mut self, id: CandId, by: CandId) -> Result<(), AllocError> {
+    fn exclude(&mut self, id: CandId, by: CandId) {
         if self.compared >= MOST_LOOKED_AT {
-            return Ok(());
+            return;
         }
         self.compared = self.compared.saturating_add(1);
         if exclude_each_other(self.pool, by, id) {
-            return self.rule_out(
+            self.rule_out(
                 id,
                 Step::Excluded {
                     id: id.place,
@@ -472,77 +438,63 @@ impl<'p> Propagation<'p> {
                 },
             );
         }
-        Ok(())
     }
 
     // ---- what an end needs
 
     // The refutation with this end: of all steps so far those that the end needs, the last one
     // first.
-    fn refutation(&self, end: Want) -> Result<Refutation, AllocError> {
-        // Whether each step is needed.
-        let mut needed = Vec::with_capacity(self.alloc, self.steps.len())?;
-        for _ in 0..self.steps.len() {
-            needed.push(false)?;
-        }
-        self.mark_owner(&mut needed, end.owner);
-        self.mark_options(&mut needed, end)?;
+    fn refutation(&mut self, end: Want) -> Refutation {
+        self.mark_want(end);
         let mut steps = Vec::new(self.alloc);
-        let mut left = self.steps.len();
-        // From the last step to the first: a step that is needed is kept, and marks the steps that
-        // it needs.
-        while left > 0 {
-            left -= 1;
-            if needed.get(left).copied() == Some(true) {
-                steps.push(self.steps[left])?;
-                self.mark_step(&mut needed, self.steps[left])?;
+        // From the last step to the first: a step that is needed is kept, and marks the steps from
+        // which it follows.
+        for place in (0..self.conclusions.len()).rev() {
+            let Some(Conclusion { step, is_needed }) = self.conclusions.get(place).copied() else {
+                continue;
+            };
+            if !is_needed {
+                continue;
+            }
+            self.is_out_of_memory |= steps.push(step).is_err();
+            match step {
+                Step::Broken { id, index } => {
+                    let owner = Owner::Package(id);
+                    self.mark_options(Want { owner, index })
+                }
+                Step::Excluded { id: _, by } => self.mark(self.known_of(candidate(by)).sure),
+                Step::Sure { id: _, want } => self.mark_want(want),
             }
         }
-        Ok(Refutation { steps, end })
+        Refutation { steps, end }
     }
 
-    // Marks the steps from which this step follows.
-    fn mark_step(&self, needed: &mut Vec<bool>, step: Step) -> Result<(), AllocError> {
-        match step {
-            Step::Broken { id, index } => {
-                let owner = Owner::Package(id);
-                self.mark_options(needed, Want { owner, index })
-            }
-            Step::Excluded { id: _, by } => {
-                self.mark_owner(needed, Owner::Package(by));
-                Ok(())
-            }
-            Step::Sure { id: _, want } => {
-                self.mark_owner(needed, want.owner);
-                self.mark_options(needed, want)
-            }
+    // Marks the step that makes the owner of a wanted dependency sure, and the steps that rule out
+    // options of the dependency. World needs no step.
+    fn mark_want(&mut self, want: Want) {
+        if let Owner::Package(id) = want.owner {
+            self.mark(self.known_of(candidate(id)).sure);
         }
-    }
-
-    // Marks the step that makes an owner sure; world needs none.
-    fn mark_owner(&self, needed: &mut Vec<bool>, owner: Owner) {
-        if let Owner::Package(id) = owner {
-            mark(needed, self.known_of(candidate(id)).sure);
-        }
+        self.mark_options(want)
     }
 
     // Marks the steps that rule out options of a wanted dependency.
-    fn mark_options(&self, needed: &mut Vec<bool>, want: Want) -> Result<(), AllocError> {
-        let Some(options) = self.options_of(want)? else {
-            return Ok(());
+    fn mark_options(&mut self, want: Want) {
+        let Some(options) = self.options_of(want) else {
+            return;
         };
         for i in 0..options.len() {
-            mark(needed, self.known_of(options.get(i)).out);
+            self.mark(self.known_of(options.get(i)).out);
         }
-        Ok(())
     }
-}
 
-// Marks the step with this index as needed, if there is one.
-fn mark(needed: &mut Vec<bool>, step: Option<usize>) {
-    if let Some(step) = step {
-        if step < needed.len() {
-            needed[step] = true;
+    // Marks the step with this index as needed, if there is one.
+    fn mark(&mut self, step: Option<usize>) {
+        let Some(index) = step else {
+            return;
+        };
+        if let Some(conclusion) = self.conclusions.get_mut(index) {
+            conclusion.is_needed = true;
         }
     }
 }

@@ -68,17 +68,6 @@ struct Checked {
 }
 
 impl Checked {
-    // Before any step: no candidate is ruled out or sure.
-    fn new(alloc: Global) -> Checked
-        ensures out { result.out ≡ [] }
-        ensures sure { result.sure ≡ [] }
-    {
-        Checked {
-            out: CandidateSet::new(alloc),
-            sure: CandidateSet::new(alloc),
-        }
-    }
-
     // Whether an owner is sure: world, or a candidate that a checked step makes sure.
     fn is_sure(&self, owner: Owner) -> bool
         ensures { result ≡ true → IsSureOwner self.now.sure owner }
@@ -153,7 +142,10 @@ pub fn is_refutation(
     requires { world.now ≡ pool.now.world }
     ensures { IfOk result (λ is. is ≡ true → IsRefutation pool.now refutation.now) }
 {
-    let mut checked = Checked::new(alloc);
+    let mut checked = Checked {
+        out: CandidateSet::new(alloc),
+        sure: CandidateSet::new(alloc),
+    };
     let mut left = refutation.steps.len();
     // From the last step in the list to the first: each must follow from those checked so far.
     while left > 0 {
@@ -195,13 +187,11 @@ fn is_met_only_by(
     ensures { IfOk result (λ is. is ≡ true →
         IsMetOnlyBy pool.now want (option_to_list kept.now ++ out.now)) }
 {
-    match wanted(pool, world, want) {
-        None => Ok(false),
-        Some(dep) => {
-            let options = pool.options_for(alloc, &NeedRef::Entry(&dep))?;
-            Ok(are_left(&options, kept, out))
-        }
-    }
+    let Some(dep) = wanted(pool, world, want) else {
+        return Ok(false);
+    };
+    let options = pool.options_for(alloc, &NeedRef::Entry(&dep))?;
+    Ok(are_left(&options, kept, out))
 }
 
 // Whether each of these options is ruled out (in `out`), or is the candidate `kept`.
@@ -221,19 +211,9 @@ fn is_left(id: CandId, kept: &Option<CandId>, out: &CandidateSet) -> bool
     ensures { result ≡ true → IsIn id (option_to_list kept.now ++ out.now) }
 {
     match kept {
-        None => out.has(id),
-        Some(kept) => is_one_of(id, *kept, out),
+        Some(kept) if *kept == id => true,
+        _ => out.has(id),
     }
-}
-
-// Whether the candidate `id` is ruled out (in `out`), or is the candidate `kept`.
-fn is_one_of(id: CandId, kept: CandId, out: &CandidateSet) -> bool
-    ensures { result ≡ true → IsIn id (kept ∷ out.now) }
-{
-    if id == kept {
-        return true;
-    }
-    out.has(id)
 }
 
 /// The dependency that an owner wants to be met; None if the owner has none at the index, or the
@@ -241,9 +221,23 @@ fn is_one_of(id: CandId, kept: CandId, out: &CandidateSet) -> bool
 pub fn wanted<'a>(pool: &Sealed<'a>, world: &'a World, want: Want) -> Option<Dep<'a>>
     ensures { world.now ≡ pool.now.world → option_map dependency result ≡ wanted pool.now want }
 {
-    match owned(pool, world, want) {
-        None => None,
-        Some(dep) => if_positive(dep),
+    match want.owner {
+        Owner::World => {
+            if want.index >= world.len() {
+                return None;
+            }
+            if_positive(world.entry(want.index))
+        }
+        Owner::Package(id) => {
+            let Some(details) = pool.at(candidate(id)) else {
+                return None;
+            };
+            let depends = details.depends();
+            if want.index >= depends.len() {
+                return None;
+            }
+            if_positive(depends.get(want.index))
+        }
     }
 }
 
@@ -252,45 +246,4 @@ fn if_positive(dep: Dep<'_>) -> Option<Dep<'_>>
     ensures { option_map dependency result ≡ if_positive (Some (dependency dep.entry)) }
 {
     if dep.conflict { None } else { Some(dep) }
-}
-
-// The dependency of an owner at the index of `want`, conflicts too, if there is one.
-fn owned<'a>(pool: &Sealed<'a>, world: &'a World, want: Want) -> Option<Dep<'a>>
-    ensures { world.now ≡ pool.now.world → option_map dependency result
-        ≡ slice_get (dependencies_of_owner pool.now want.owner) want.index }
-{
-    match want.owner {
-        Owner::World => entry_of(world, want.index),
-        Owner::Package(id) => depended_on(pool, candidate(id), want.index),
-    }
-}
-
-// The entry of world at an index, if there is one.
-fn entry_of(world: &World, index: usize) -> Option<Dep<'_>>
-    ensures { option_map dependency result ≡ slice_get world.now index }
-{
-    if index >= world.len() {
-        return None;
-    }
-    Some(world.entry(index))
-}
-
-// The dependency with this index of the candidate at a place, if both exist.
-fn depended_on<'a>(pool: &Sealed<'a>, id: CandId, index: usize) -> Option<Dep<'a>>
-    ensures { option_map dependency result ≡ slice_get (depends_at pool.now id) index }
-{
-    match pool.at(id) {
-        None => None,
-        Some(details) => dep_at(&details.depends(), index),
-    }
-}
-
-// The dependency at an index, if there is one.
-fn dep_at<'a>(deps: &Deps<'a>, index: usize) -> Option<Dep<'a>>
-    ensures { option_map dependency result ≡ slice_get deps.now index }
-{
-    if index >= deps.len() {
-        return None;
-    }
-    Some(deps.get(index))
 }

@@ -35,32 +35,29 @@ pub(crate) struct Sources<'a> {
 
 // ---- packages
 
-// Adds where a candidate is from: the path of the repository with this number, counted from 1;
-// None: the database.
-fn add_origin(
-    text: &mut Vec<u8>,
-    repositories: &Repos,
-    number: Option<u64>,
-) -> Result<(), AllocError>
-    ensures { OnOk result (text.new.items ≡ text.old.items
-        ++ origin_text repositories.now number) }
+// Where a candidate is from: the path of the repository with this number, counted from 1; None: the
+// database. Empty if there is no such repository.
+fn origin(repositories: &Repos, number: Option<u64>) -> &[u8]
+    ensures { result.now ≡ origin_text repositories.now number }
 {
-    match number {
-        None => text.extend_from_slice(b"installed"),
-        Some(number) => add_path(text, repositories, number),
-    }
-}
-
-// Adds the path of the repository with a number, counted from 1; nothing if there is none.
-fn add_path(text: &mut Vec<u8>, repositories: &Repos, number: u64) -> Result<(), AllocError>
-    ensures { OnOk result (text.new.items ≡ text.old.items
-        ++ origin_text repositories.now (Some number)) }
-{
+    let Some(number) = number else {
+        return b"installed";
+    };
     let place = number.saturating_sub(1) as usize;
     if place >= repositories.len() {
-        return Ok(());
+        return b"";
     }
-    text.extend_from_slice(repositories.path(place).as_bytes())
+    repositories.path(place).as_bytes()
+}
+
+// The text of a package's version; empty if this is no version.
+fn version_text<'a>(details: &Details<'a>) -> &'a [u8]
+    ensures { result.now ≡ unwrap_or details.now.version [] }
+{
+    match details.version() {
+        None => b"",
+        Some(version) => version.text(),
+    }
 }
 
 // Adds the name and the version of a package.
@@ -69,33 +66,7 @@ fn add_package(text: &mut Vec<u8>, details: &Details<'_>) -> Result<(), AllocErr
 {
     text.extend_from_slice(details.name())?;
     text.extend_from_slice(b"-")?;
-    add_version(text, details)
-}
-
-// Adds the text of a package's version; nothing if this is no version.
-fn add_version(text: &mut Vec<u8>, details: &Details<'_>) -> Result<(), AllocError>
-    ensures { OnOk result (text.new.items ≡ text.old.items
-        ++ unwrap_or details.now.version []) }
-{
-    match details.version() {
-        None => Ok(()),
-        Some(version) => text.extend_from_slice(version.text()),
-    }
-}
-
-// Adds the name and the version of a candidate, and where it is from.
-fn add_candidate(
-    text: &mut Vec<u8>,
-    repositories: &Repos,
-    details: &Details<'_>,
-) -> Result<(), AllocError>
-    ensures { OnOk result (text.new.items ≡ text.old.items
-        ++ candidate_text repositories.now details.now) }
-{
-    add_package(text, details)?;
-    text.extend_from_slice(b" (")?;
-    add_origin(text, repositories, details.repo())?;
-    text.extend_from_slice(b")")
+    text.extend_from_slice(version_text(details))
 }
 
 /// Adds the name and the version of the candidate at a place, and where it is from; nothing if
@@ -108,10 +79,13 @@ pub(crate) fn add_candidate_at(
     ensures { OnOk result (text.new.items ≡ text.old.items
         ++ candidate_text_at sources.now.pool.now sources.now.repositories.now id) }
 {
-    match sources.pool.at(id) {
-        None => Ok(()),
-        Some(details) => add_candidate(text, sources.repositories, &details),
-    }
+    let Some(details) = sources.pool.at(id) else {
+        return Ok(());
+    };
+    add_package(text, &details)?;
+    text.extend_from_slice(b" (")?;
+    text.extend_from_slice(origin(sources.repositories, details.repo()))?;
+    text.extend_from_slice(b")")
 }
 
 /// Adds the text of a dependency.
@@ -130,48 +104,24 @@ fn entry_named<'a>(world: &'a World, name: &[u8]) -> Option<Dep<'a>>
 {
     for i in 0..world.len() {
         let dep = world.entry(i);
-        if is_named(&dep, name) {
+        if name == dep.name {
             return Some(dep);
         }
     }
     None
 }
 
-// Whether a dependency has a name.
-fn is_named(dep: &Dep<'_>, name: &[u8]) -> bool
-    ensures { result ≡ is_named name.now (dependency dep.now) }
-{
-    name == dep.name
-}
-
-// Whether two dependencies have the same text.
-fn is_same_text(alloc: Global, dep: &Dep<'_>, other: &Dep<'_>) -> Result<bool, AllocError>
-    ensures { IfOk result (λ same.
-        same ≡ is_same_text (dependency dep.now) (dependency other.now)) }
-{
-    let text = dep_text(alloc, dep)?;
-    let other_text = dep_text(alloc, other)?;
-    Ok(text.as_bytes() == other_text.as_bytes())
-}
-
-// Whether an entry of world is one that the file of world lists.
+// Whether an entry of world is one that the file of world lists, with the same text.
 fn is_entry_of_file(alloc: Global, listed: &World, dep: &Dep<'_>) -> Result<bool, AllocError>
     ensures { IfOk result (λ is. is ≡ is_entry_of_file listed.now (dependency dep.now)) }
 {
     match entry_named(listed, dep.name) {
         None => Ok(false),
-        Some(entry) => is_same_text(alloc, dep, &entry),
-    }
-}
-
-// Where an entry of world is from, as the lines name it: the file of world, or else the command.
-fn entry_origin(in_file: bool) -> &'static [u8]
-    ensures { result.now ≡ entry_origin in_file }
-{
-    if in_file {
-        b"etc/apk/world"
-    } else {
-        b"this command"
+        Some(entry) => {
+            let text = dep_text(alloc, dep)?;
+            let listed_text = dep_text(alloc, &entry)?;
+            Ok(text.as_bytes() == listed_text.as_bytes())
+        }
     }
 }
 
@@ -182,8 +132,11 @@ fn add_entry_origin(text: &mut Vec<u8>, listed: &World, dep: &Dep<'_>) -> Result
         ++ entry_origin_text listed.now (dependency dep.now)) }
 {
     let alloc = *text.allocator();
-    let in_file = is_entry_of_file(alloc, listed, dep)?;
-    text.extend_from_slice(entry_origin(in_file))
+    if is_entry_of_file(alloc, listed, dep)? {
+        text.extend_from_slice(b"etc/apk/world")
+    } else {
+        text.extend_from_slice(b"this command")
+    }
 }
 
 /// Adds who has the dependency `dep`: the origin of this entry of world, or a candidate.
@@ -255,7 +208,7 @@ fn bar<'a>(world: &'a World, details: &Details<'_>) -> Option<Dep<'a>>
 }
 
 // Adds why a candidate may not be selected: its tag, which world does not use, or a conflict of
-// world that it meets. Adds nothing if it may.
+// world that it meets, with its origin. Adds nothing if it may.
 fn add_refusal(
     text: &mut Vec<u8>,
     sources: &Sources<'_>,
@@ -264,59 +217,23 @@ fn add_refusal(
     ensures { OnOk result (text.new.items ≡ text.old.items
         ++ world_conflict_reason_text sources.now.listed.now sources.now.world.now details.now) }
 {
-    if is_allowed_by_tags_of_world(sources.world, details) {
-        return add_bar(text, sources.listed, bar(sources.world, details));
+    if !is_allowed_by_tags_of_world(sources.world, details) {
+        text.extend_from_slice(b" (tagged @")?;
+        text.extend_from_slice(details.tag().unwrap_or(b""))?;
+        return text.extend_from_slice(b")");
     }
-    text.extend_from_slice(b" (tagged @")?;
-    text.extend_from_slice(details.tag().unwrap_or(b""))?;
-    text.extend_from_slice(b")")
-}
-
-// Adds the conflict of world that bars a candidate, in parentheses; nothing if there is none.
-fn add_bar(text: &mut Vec<u8>, listed: &World, bar: Option<Dep<'_>>) -> Result<(), AllocError>
-    ensures { OnOk result (text.new.items ≡ text.old.items
-        ++ world_conflict_text listed.now (option_map dependency bar.entry)) }
-{
-    match bar {
-        None => Ok(()),
-        Some(dep) => add_barring_entry(text, listed, &dep),
-    }
-}
-
-// Adds the conflict of world that bars a candidate, with its origin, in parentheses.
-fn add_barring_entry(text: &mut Vec<u8>, listed: &World, dep: &Dep<'_>) -> Result<(), AllocError>
-    ensures { OnOk result (text.new.items ≡ text.old.items
-        ++ world_conflict_text listed.now (Some (dependency dep.now))) }
-{
+    let Some(dep) = bar(sources.world, details) else {
+        return Ok(());
+    };
     text.extend_from_slice(b" (")?;
-    add_entry_origin(text, listed, dep)?;
+    add_entry_origin(text, sources.listed, &dep)?;
     text.extend_from_slice(b" has ")?;
-    add_dep(text, dep)?;
+    add_dep(text, &dep)?;
     text.extend_from_slice(b")")
 }
 
-// The text of a candidate that offers `name`: its version, or name and version if it has another
-// name; and why it may not be selected, if it may not.
-fn offer(
-    alloc: Global,
-    sources: &Sources<'_>,
-    name: &[u8],
-    details: &Details<'_>,
-) -> Result<Text, AllocError>
-    ensures { IfOk result (λ text. text
-        ≡ offer_text sources.now.listed.now sources.now.world.now name.now details.now) }
-{
-    let mut text = Vec::new(alloc);
-    if name == details.name() {
-        add_version(&mut text, details)?;
-    } else {
-        add_package(&mut text, details)?;
-    }
-    add_refusal(&mut text, sources, details)?;
-    Ok(Text::from_vec(text))
-}
-
-// The text of the candidate at a place, which offers a name; nothing if no candidate is there.
+// The text of the candidate at a place, which offers `name`: its version, or name and version if it
+// has another name; and why it may not be selected, if it may not. Empty if no candidate is there.
 fn offer_at(
     alloc: Global,
     sources: &Sources<'_>,
@@ -328,10 +245,17 @@ fn offer_at(
     ensures { IfOk result (λ text. text
         ≡ offer_text_at sources.now.pool.now sources.now.listed.now name.now id) }
 {
-    match sources.pool.at(id) {
-        None => Text::of(alloc, b""),
-        Some(details) => offer(alloc, sources, name, &details),
+    let mut text = Vec::new(alloc);
+    let Some(details) = sources.pool.at(id) else {
+        return Ok(Text::from_vec(text));
+    };
+    if name == details.name() {
+        text.extend_from_slice(version_text(&details))?;
+    } else {
+        add_package(&mut text, &details)?;
     }
+    add_refusal(&mut text, sources, &details)?;
+    Ok(Text::from_vec(text))
 }
 
 /// Adds a text to a list, unless the list has it.

@@ -1,12 +1,12 @@
 //! Why no selection satisfies a world: a refutation. The rules are in `docs/selection.md`, "What
 //! satisfies world" and "`unable to select packages`".
-ghost use Rattle.std.specs.Prelude.{◌≡◌, ℕ, [], IfOk, IfSome, MatchBool, MatchOption};
+ghost use Rattle.std.specs.Prelude.{◌≡◌, ℕ, [], IfOk, IfSome, MatchOption};
 ghost use Rattle.unmet_world.specs.Lines.{IsExplanationOfUnmetWorldOfPool};
 ghost use Rattle.unmet_world.specs.Refutation.{IsFirstUnmetOfWorld, IsRefutation, IsUnmet, want_of_world_entry};
 
 use crate::lines::explanation;
 use crate::propagation::propagate;
-use crate::refutation::{Owner, Refutation, Want, is_refutation, wanted};
+use crate::refutation::{Owner, Refutation, Want, is_refutation};
 use crate::texts::Sources;
 use dep_core::{Repos, World};
 use search_tables::{NeedRef, Sealed};
@@ -41,7 +41,14 @@ pub fn why_unmet(
             },
         }));
     }
-    longer(alloc, pool, world)
+    // What the search finds is a refutation only if it passes the test.
+    let Some(refutation) = propagate(alloc, pool, world)? else {
+        return Ok(None);
+    };
+    if is_refutation(alloc, pool, world, &refutation)? {
+        return Ok(Some(refutation));
+    }
+    Ok(None)
 }
 
 /// The explanation why no selection satisfies a world, as it is printed. `listed` has the entries
@@ -68,21 +75,6 @@ pub fn explanation_of(
     explanation(alloc, &sources, &found)
 }
 
-// The refutation with steps that the search finds, if `is_refutation` accepts it.
-fn longer(alloc: Global, pool: &Sealed<'_>, world: &World) -> Result<Option<Refutation>, AllocError>
-    // The world is the one with which the pool was sealed.
-    requires { world.now ≡ pool.now.world }
-    ensures { IfOk result (λ found. IfSome found (λ r. IsRefutation pool.now r)) }
-{
-    let Some(refutation) = propagate(alloc, pool, world)? else {
-        return Ok(None);
-    };
-    if is_refutation(alloc, pool, world, &refutation)? {
-        return Ok(Some(refutation));
-    }
-    Ok(None)
-}
-
 // The index of the first entry of world that no candidate meets which may be selected.
 fn first_unmet(alloc: Global, pool: &Sealed<'_>, world: &World) -> Result<Option<usize>, AllocError>
     // The world is the one with which the pool was sealed.
@@ -91,30 +83,14 @@ fn first_unmet(alloc: Global, pool: &Sealed<'_>, world: &World) -> Result<Option
         IsUnmet pool.now (want_of_world_entry index) → ⊥) (IsFirstUnmetOfWorld pool.now)) }
 {
     for index in 0..world.len() {
-        let want = Want {
-            owner: Owner::World,
-            index,
-        };
-        if is_unmet(alloc, pool, world, want)? {
+        let dep = world.entry(index);
+        if dep.conflict {
+            continue;
+        }
+        let options = pool.options_for(alloc, &NeedRef::Entry(&dep))?;
+        if options.is_empty() {
             return Ok(Some(index));
         }
     }
     Ok(None)
-}
-
-// Whether no candidate that may be selected meets the wanted dependency. False if there is no such
-// dependency.
-fn is_unmet(alloc: Global, pool: &Sealed<'_>, world: &World, want: Want) -> Result<bool, AllocError>
-    // The world is the one with which the pool was sealed.
-    requires { world.now ≡ pool.now.world }
-    ensures { IfOk result (λ is. MatchBool is (IsUnmet pool.now want)
-        (IsUnmet pool.now want → ⊥)) }
-{
-    match wanted(pool, world, want) {
-        None => Ok(false),
-        Some(dep) => {
-            let options = pool.options_for(alloc, &NeedRef::Entry(&dep))?;
-            Ok(options.is_empty())
-        }
-    }
 }

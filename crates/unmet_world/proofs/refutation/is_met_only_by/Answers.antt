@@ -4,6 +4,6 @@ use Rattle.dep_core.specs.Meets.{dependency}
 use Rattle.search_tables.specs.Selection.{AreAllMembersOf}
 use Rattle.unmet_world.proofs.refutation.is_met_only_by.Goals as goal
 
-pub returns-in_ok-options-in-Some : goal.returns-in_ok-options-in-Some
-returns-in_ok-options-in-Some c = λ is.
-    (dependency c.in-Some.dep, sym (c.wanted.ensures c.requires) ∙ ap (option_map dependency) c.in-Some.is, subst (λ (z : List ℕ). AreAllMembersOf z (option_to_list c.args.kept.now ++ c.args.out.now)) c.in_ok-options-in-Some.ensures (c.are_left.ensures is))
+pub returns : goal.returns
+returns c = λ is.
+    (dependency c.in-Some.dep, sym (c.wanted.ensures c.requires) ∙ ap (option_map dependency) c.in-Some.is, subst (λ (z : List ℕ). AreAllMembersOf z (option_to_list c.args.kept.now ++ c.args.out.now)) c.in_ok-options.ensures (c.are_left.ensures is))

@@ -6,7 +6,7 @@ use Rattle.unmet_world.proofs.refutation.is_refutation.Goals as goal
 pub loop-left-init : goal.loop-left-init
 loop-left-init c = record {
   within = omega arith;
-  gathered = none_gathered c.args.pool.now c.args.refutation.now.steps.items c.len-left.result _ _ (omega arith) c.new-checked.ensures.out c.new-checked.ensures.sure;
+  gathered = none_gathered c.args.pool.now c.args.refutation.now.steps.items c.len-left.result _ _ (omega arith) c.new.ensures c.new-2.ensures;
 }
 
 pub loop-left-preserved : goal.loop-left-preserved
