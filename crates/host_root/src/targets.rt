@@ -3,7 +3,7 @@
 
 use super::folders::{Contents, Folders, keep, look_at, push, push_folders};
 use host_files::{
-    Found, Host, HostFault, LOCK_FOLDER, Reason, look_to_write, parent_of, path_text,
+    Found, Host, HostFault, LOCK_FOLDER, Reason, is_slash, look_to_write, parent_of, path_text,
 };
 use std::alloc::Global;
 use std::collections::BTreeSet;
@@ -98,11 +98,6 @@ fn is_reserved(path: &[u8]) -> bool {
         }
     }
     false
-}
-
-/// Whether a byte is the slash between two parts of a path.
-fn is_slash(byte: &u8) -> bool {
-    *byte == b'/'
 }
 
 /// Tests whether the host allows names as long as each of these parts of a path. `parts` is what
