@@ -177,33 +177,23 @@ impl Failure {
     /// Prints why the call failed. If the reason concerns another path than those of the call, this
     /// path is printed first.
     fn print_reason<W: Write>(&self, alloc: Global, to: &mut W) -> io::Result<()> {
-        match &self.fault {
-            HostFault::Memory => to.write_all(b"Cannot allocate memory"),
-            HostFault::Host { error, at } => {
-                self.print_place(at, to)?;
-                print_host_reason(alloc, error, to)
-            }
-            HostFault::Own { reason, at } => {
-                self.print_place(at, to)?;
-                to.write_all(reason.text().as_bytes())
-            }
-        }
-    }
-
-    /// Prints the path `at` that a reason concerns, and a colon, unless it is a path of the call.
-    fn print_place<W: Write>(&self, at: &Option<Vec<u8>>, to: &mut W) -> io::Result<()> {
+        // The path that the reason concerns, if this is not the path of the call.
+        let at = match &self.fault {
+            HostFault::Memory => None,
+            HostFault::Host { at, .. } | HostFault::Own { at, .. } => at.as_ref(),
+        };
         if let Some(at) = at
-            && !self.names(at)
+            && at.as_slice() != self.path.as_slice()
+            && at.as_slice() != self.target.as_slice()
         {
             write_path(at, to)?;
             to.write_all(b": ")?;
         }
-        Ok(())
-    }
-
-    /// Whether a path is one of those that the call was given.
-    fn names(&self, path: &[u8]) -> bool {
-        path == self.path.as_slice() || path == self.target.as_slice()
+        match &self.fault {
+            HostFault::Memory => to.write_all(b"Cannot allocate memory"),
+            HostFault::Host { error, .. } => print_host_reason(alloc, error, to),
+            HostFault::Own { reason, .. } => to.write_all(reason.text().as_bytes()),
+        }
     }
 }
 
@@ -211,9 +201,9 @@ impl Failure {
 /// `\x` and two digits.
 pub fn write_path<W: Write>(path: &[u8], to: &mut W) -> io::Result<()> {
     // Each part of the path ends with such a byte, except perhaps the last one.
-    for piece in path.split_inclusive(|byte| acts_on_terminal(*byte)) {
+    for piece in path.split_inclusive(acts_on_terminal) {
         match piece.split_last() {
-            Some((last, before)) if acts_on_terminal(*last) => {
+            Some((last, before)) if acts_on_terminal(last) => {
                 to.write_all(before)?;
                 to.write_all(&[b'\\', b'x', hex_digit(*last >> 4), hex_digit(*last & 15)])?;
             }
@@ -224,8 +214,8 @@ pub fn write_path<W: Write>(path: &[u8], to: &mut W) -> io::Result<()> {
 }
 
 /// Whether a byte is a control character, which could change what a terminal shows.
-fn acts_on_terminal(byte: u8) -> bool {
-    byte < 0x20 || byte == 0x7f
+fn acts_on_terminal(byte: &u8) -> bool {
+    *byte < 0x20 || *byte == 0x7f
 }
 
 /// The hexadecimal digit of a number below 16.

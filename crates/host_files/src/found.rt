@@ -84,7 +84,10 @@ pub fn look_to_write<R: Files>(rt: &R, alloc: Global, path: &[u8]) -> Result<Fou
 fn found_of(alloc: Global, path: &[u8], looked: io::Result<Metadata>) -> Result<Found, HostFault> {
     let data = match looked {
         Ok(data) => data,
-        Err(e) if is_absence(e.kind()) => return Ok(Found::Nothing),
+        // These errors say that there is nothing at the path.
+        Err(e) if matches!(e.kind(), ErrorKind::NotFound | ErrorKind::NotADirectory) => {
+            return Ok(Found::Nothing);
+        }
         Err(e) => return Err(e.into()),
     };
     if data.is_file() {
@@ -106,11 +109,6 @@ pub fn is_same(a: &Metadata, b: &Metadata) -> bool {
     a.dev() == b.dev() && a.ino() == b.ino()
 }
 
-/// Whether an error says that there is nothing at a path.
-fn is_absence(kind: ErrorKind) -> bool {
-    matches!(kind, ErrorKind::NotFound | ErrorKind::NotADirectory)
-}
-
 /// A path as text, as the host takes it. A path that is no UTF-8 text is a fault.
 pub fn path_text(path: &[u8]) -> Result<&str, HostFault> {
     match str::from_utf8(path) {
@@ -119,9 +117,14 @@ pub fn path_text(path: &[u8]) -> Result<&str, HostFault> {
     }
 }
 
+/// Whether a byte is the slash between two parts of a path.
+pub fn is_slash(byte: &u8) -> bool {
+    *byte == b'/'
+}
+
 /// The path of the folder that contains a path. The root is the empty path.
 pub fn parent_of(path: &[u8]) -> &[u8] {
-    match path.iter().rposition(|byte| *byte == b'/') {
+    match path.iter().rposition(is_slash) {
         Some(end) => &path[..end],
         None => &[],
     }
@@ -129,7 +132,7 @@ pub fn parent_of(path: &[u8]) -> &[u8] {
 
 /// The last part of a path: what follows its last slash.
 pub fn last_part_of(path: &[u8]) -> &[u8] {
-    match path.iter().rposition(|byte| *byte == b'/') {
+    match path.iter().rposition(is_slash) {
         Some(end) => &path[end + 1..],
         None => path,
     }

@@ -13,7 +13,7 @@ mod opened;
 mod rights;
 
 pub use failure::{Failure, HostFault, Reason, write_path};
-pub use found::{Found, LookedAt, look, look_to_write, parent_of, path_text};
+pub use found::{Found, LookedAt, is_slash, look, look_to_write, parent_of, path_text};
 pub use lock::{Held, LOCK_FOLDER, Lock, lock_root, unlock_root};
 pub use nearby::LastFolder;
 pub use opened::{Opened, close, is_open};

@@ -4,7 +4,7 @@
 
 use super::Host;
 use super::failure::HostFault;
-use super::found::{is_same, last_part_of, path_text};
+use super::found::{is_same, is_slash, last_part_of, path_text};
 use std::alloc::Global;
 use std::fs;
 use std::fs::{File, OpenFile};
@@ -52,7 +52,8 @@ impl LastFolder {
         path: &'b [u8],
     ) -> Result<&'b str, HostFault> {
         self.paths = self.paths.saturating_add(1);
-        if self.paths == PATHS_IN_A_ROW && is_deep(&self.path) {
+        // The number of folders above the path is the number of parts of this folder.
+        if self.paths == PATHS_IN_A_ROW && self.path.split(is_slash).count() >= DEEP {
             self.opened = OpenFolder::open(rt, alloc, &self.path)?;
         }
         match &mut self.opened {
@@ -60,11 +61,6 @@ impl LastFolder {
             None => path_text(path),
         }
     }
-}
-
-/// Whether the folder has at least `DEEP` parts.
-fn is_deep(folder: &[u8]) -> bool {
-    folder.iter().filter(|byte| **byte == b'/').count() >= DEEP - 1
 }
 
 /// An open folder, and the short path by which the host finds it, `/proc/self/fd/N/`.
@@ -87,16 +83,17 @@ impl OpenFolder {
         alloc: Global,
         folder: &[u8],
     ) -> Result<Option<OpenFolder>, HostFault> {
-        let Ok(file) = fs::open(rt, path_text(folder)?) else {
+        let folder = path_text(folder)?;
+        let Ok(file) = fs::open(rt, folder) else {
             return Ok(None);
         };
         // The number of the open folder (its file descriptor), which is part of the short path.
         let number = file.as_raw_fd();
         let path = format!(in alloc; "/proc/self/fd/{number}/")?;
-        if !leads_to(rt, path.as_str(), &file) || !leads_to(rt, path_text(folder)?, &file) {
+        if !leads_to(rt, path.as_str(), &file) || !leads_to(rt, folder, &file) {
             return Ok(None);
         }
-        let path = Vec::from_slice(alloc, path.as_str().as_bytes())?;
+        let path = path.into_bytes();
         Ok(Some(OpenFolder {
             _file: file,
             folder_len: path.len(),

@@ -54,11 +54,6 @@ impl Rights {
         self.mode & EXECUTE_BITS != 0
     }
 
-    /// Whether `self` and `other` have the same user and the same group.
-    fn has_owner_of(&self, other: Rights) -> bool {
-        self.user == other.user && self.group == other.group
-    }
-
     /// Changes the rights of the file at a path from `self` to `wanted`, as far as the caller may.
     /// Then the rights are synced, even if they were equal. If the caller may not change the owner,
     /// the file does not get the bits that let a program run with the owner's rights.
@@ -75,8 +70,9 @@ impl Rights {
         let path = path_text(path)?;
         // The file is opened before its mode changes, since the new mode may not allow to open it.
         let file = open_to_sync(rt, path)?;
+        let has_owner = self.user == wanted.user && self.group == wanted.group;
         // Whether the file has the wanted owner now, and which bits of the mode are then set.
-        let is_given = self.has_owner_of(wanted) || give_away(rt, path, wanted);
+        let is_given = has_owner || give_away(rt, path, wanted);
         let kept = if is_given { ALL_BITS } else { RIGHTS_BITS };
         // A file system without modes refuses this. Its files have no mode to set, so the error is
         // ignored.

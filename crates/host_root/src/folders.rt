@@ -42,13 +42,9 @@ impl Folders {
         }
     }
 
-    /// Whether all folders above a path exist. Those that are found are then known.
-    pub fn ensure_folders<R: Files>(&mut self, rt: &R, path: &[u8]) -> Result<bool, HostFault> {
-        Ok(self.deepest_known_folder(rt, path)? == parent_of(path))
-    }
-
     /// The deepest existing folder above a path, as a prefix of the path; the root is the empty
-    /// prefix. The search ends at the first part of the path that is no folder.
+    /// prefix. The search ends at the first part of the path that is no folder. Each folder above
+    /// the path that is found is then known.
     pub fn deepest_known_folder<'p, R: Files>(
         &mut self,
         rt: &R,
@@ -72,7 +68,7 @@ impl Folders {
 
     /// What is at a path: nothing if a folder above the path is missing.
     pub fn find<R: Host>(&mut self, rt: &R, path: &[u8]) -> Result<Found, HostFault> {
-        if !self.ensure_folders(rt, path)? {
+        if self.deepest_known_folder(rt, path)? != parent_of(path) {
             return Ok(Found::Nothing);
         }
         let alloc = self.alloc;
@@ -91,19 +87,6 @@ impl Folders {
             return path_text(path);
         }
         self.last.host_path(rt, self.alloc, path)
-    }
-
-    /// Makes the absent folders above a path. A file in the place of such a folder is a fault.
-    fn make_missing_folders<R: Files>(&mut self, rt: &R, path: &[u8]) -> Result<(), HostFault> {
-        if self.knows_folders(path)? {
-            return Ok(());
-        }
-        for (i, byte) in path.iter().enumerate() {
-            if *byte == b'/' {
-                self.make_if_absent(rt, &path[..i])?;
-            }
-        }
-        Ok(())
     }
 
     /// Remembers that there is a folder at a path, so that the host is not asked for it again.
@@ -142,9 +125,16 @@ impl Folders {
     }
 
     /// Prepares a path for a file: makes the missing folders above the path, and removes a folder
-    /// at the path if only folders are below it. Returns what was found at the path.
+    /// at the path if only folders are below it. A file in the place of a folder above the path is
+    /// a fault. Returns what was found at the path.
     pub fn make_room<R: Host>(&mut self, rt: &R, path: &[u8]) -> Result<Found, HostFault> {
-        self.make_missing_folders(rt, path)?;
+        if !self.knows_folders(path)? {
+            for (i, byte) in path.iter().enumerate() {
+                if *byte == b'/' {
+                    self.make_if_absent(rt, &path[..i])?;
+                }
+            }
+        }
         let found = look_at(rt, self.alloc, path)?;
         if found.is_folder() {
             self.remove_folders_at(rt, path)?;
@@ -152,22 +142,17 @@ impl Folders {
         Ok(found)
     }
 
-    /// Removes the folder at the path of a new file, and the folders below it. If there is anything
-    /// but folders below it, this is a fault, and nothing is removed.
+    /// Removes the folder at the path of a new file, and the folders below it. Notes their parents
+    /// for the next sync of the names. If there is anything but folders below the folder, this is a
+    /// fault, and nothing is removed.
     fn remove_folders_at<R: Host>(&mut self, rt: &R, path: &[u8]) -> Result<(), HostFault> {
         let folders = empty_tree(rt, self.alloc, path)?;
         // In reverse order, each folder is removed after the folders in it.
         for folder in folders.iter().rev() {
-            self.remove_empty(rt, folder)?;
+            self.note(parent_of(folder))?;
+            fs::remove_dir(rt, path_text(folder)?)?;
+            self.forget(folder);
         }
-        Ok(())
-    }
-
-    /// Removes an empty folder, and notes its parent for the next sync of the names.
-    fn remove_empty<R: Files>(&mut self, rt: &R, folder: &[u8]) -> Result<(), HostFault> {
-        self.note(parent_of(folder))?;
-        fs::remove_dir(rt, path_text(folder)?)?;
-        self.forget(folder);
         Ok(())
     }
 
@@ -175,17 +160,42 @@ impl Folders {
     /// the root. The removal ends at the first folder that is not empty.
     pub fn prune<R: Files>(&mut self, rt: &R, path: &[u8]) -> Result<(), HostFault> {
         for i in (0..path.len()).rev() {
-            if path[i] == b'/' && !self.remove_if_empty(rt, &path[..i])? {
+            if path[i] != b'/' {
+                continue;
+            }
+            let folder = &path[..i];
+            // The parent of the folder, which is noted before the removal.
+            let around = parent_of(folder);
+            let was_noted = self.changed.contains(around);
+            self.note(around)?;
+            let is_gone = match fs::remove_dir(rt, path_text(folder)?) {
+                Ok(()) => {
+                    self.forget(folder);
+                    continue;
+                }
+                Err(e) if is_absent(e.kind()) => true,
+                Err(e) if keeps_folder(e.kind()) => false,
+                Err(e) => return Err(e.into()),
+            };
+            // No name in the parent (`around`) changed, so the parent stays noted only if it was
+            // before.
+            if !was_noted {
+                self.changed.remove(around);
+            }
+            if !is_gone {
                 break;
             }
         }
         Ok(())
     }
 
-    /// Syncs each folder that was noted since the last sync.
+    /// Syncs each folder that was noted since the last sync, so that the names in it survive a
+    /// crash.
     pub fn write_through<R: Files>(&mut self, rt: &R) -> Result<(), HostFault> {
         for folder in &self.changed {
-            write_folder(rt, folder)?;
+            // The root is the empty path.
+            let path: &[u8] = if folder.is_empty() { b"." } else { folder };
+            fs::open(rt, path_text(path)?)?.sync_all()?;
         }
         self.changed.clear();
         Ok(())
@@ -234,29 +244,6 @@ impl Folders {
             }
         }
         self.keep_known(folder)
-    }
-
-    /// Removes a folder if it is empty. Returns whether it is absent afterwards.
-    fn remove_if_empty<R: Files>(&mut self, rt: &R, folder: &[u8]) -> Result<bool, HostFault> {
-        // The parent of the folder, which is noted before the removal.
-        let around = parent_of(folder);
-        let was_noted = self.changed.contains(around);
-        self.note(around)?;
-        let is_gone = match fs::remove_dir(rt, path_text(folder)?) {
-            Ok(()) => {
-                self.forget(folder);
-                return Ok(true);
-            }
-            Err(e) if is_absent(e.kind()) => true,
-            Err(e) if keeps_folder(e.kind()) => false,
-            Err(e) => return Err(e.into()),
-        };
-        // No name in the parent (`around`) changed, so the parent stays noted only if it was
-        // before.
-        if !was_noted {
-            self.changed.remove(around);
-        }
-        Ok(is_gone)
     }
 
     /// Forgets a removed folder: it is no longer known, and no longer noted for the next sync.
@@ -359,12 +346,6 @@ pub fn push(alloc: Global, list: &mut Vec<Vec<u8>>, path: &[u8]) -> Result<(), H
         Ok(()) => Ok(()),
         Err(_) => Err(HostFault::Memory),
     }
-}
-
-/// Syncs a folder, so that the names in it survive a crash. The root is the empty path.
-fn write_folder<R: Files>(rt: &R, folder: &[u8]) -> Result<(), HostFault> {
-    let path: &[u8] = if folder.is_empty() { b"." } else { folder };
-    Ok(fs::open(rt, path_text(path)?)?.sync_all()?)
 }
 
 /// Whether this kind of error, of a removal of a folder, says that there is no such folder: a

@@ -15,7 +15,7 @@ use std::fs::OpenOptions;
 
 /// The path of the journal entry. The file exists while a committed change is not completed
 /// (`docs/crash-safety.md`, "A change of several files").
-const INTENT: &[u8] = b"lib/apk/intent";
+const INTENT: &str = "lib/apk/intent";
 
 /// The last bytes of the path at which a new file is written beside a file that the user modified
 /// (`docs/commands.md`, "What a change does with files").
@@ -87,10 +87,7 @@ impl<'a, R: Host> Root<'a, R> {
     /// command that recovers completes it. False if this run does not hold the lock, since another
     /// run may be making the change.
     pub fn has_unfinished_change(&self) -> bool {
-        match path_text(INTENT) {
-            Ok(path) => self.held.is_some() && fs::symlink_metadata(self.rt, path).is_ok(),
-            Err(_) => false,
-        }
+        self.held.is_some() && fs::symlink_metadata(self.rt, INTENT).is_ok()
     }
 
     /// Whether this run has found the committed change of an earlier run, and has not completed it
@@ -153,7 +150,7 @@ impl<'a, R: Host> Root<'a, R> {
         match self.folders.find(self.rt, path)? {
             Found::File(looked_at) => {
                 // A journal entry was found: an earlier run did not complete its change.
-                self.recovers |= path == INTENT;
+                self.recovers |= path == INTENT.as_bytes();
                 self.seen = Some((Vec::from_slice(self.alloc, path)?, looked_at));
                 Ok(Some(looked_at.len))
             }
@@ -181,21 +178,15 @@ impl<'a, R: Host> Root<'a, R> {
     pub fn fill(&mut self, path: &[u8], at: u64, into: &mut [u8]) -> Result<(), HostFault> {
         self.take_lock()?;
         if !is_open(&self.reader, path) {
-            self.open_to_read(path)?;
+            let looked_at = self.look_at(path)?;
+            let file = fs::open(self.rt, self.folders.host_path(self.rt, path)?)?;
+            self.reader = Some(Opened::of(self.alloc, path, file, looked_at)?);
         }
         match &mut self.reader {
             Some(reader) => reader.fill(at, into),
             // Never the case here: the file was opened above.
             None => Err(HostFault::own(Reason::Nothing)),
         }
-    }
-
-    /// Opens the file at a path for reading.
-    fn open_to_read(&mut self, path: &[u8]) -> Result<(), HostFault> {
-        let looked_at = self.look_at(path)?;
-        let file = fs::open(self.rt, self.folders.host_path(self.rt, path)?)?;
-        self.reader = Some(Opened::of(self.alloc, path, file, looked_at)?);
-        Ok(())
     }
 
     /// Makes an empty file at a path, which stays open, and the missing folders above the file. A
@@ -220,7 +211,11 @@ impl<'a, R: Host> Root<'a, R> {
         }
         close(&mut self.reader, path);
         if !is_open(&self.writer, path) {
-            self.open_again(path)?;
+            let looked_at = self.look_at(path)?;
+            let file = OpenOptions::new()
+                .append(true)
+                .open(self.rt, path_text(path)?)?;
+            self.writer = Some(Opened::of(self.alloc, path, file, looked_at)?);
         }
         self.seen = None;
         match &mut self.writer {
@@ -228,16 +223,6 @@ impl<'a, R: Host> Root<'a, R> {
             // Never the case here: the file was opened above.
             None => Err(HostFault::own(Reason::Nothing)),
         }
-    }
-
-    /// Opens the file at a path to append to it.
-    fn open_again(&mut self, path: &[u8]) -> Result<(), HostFault> {
-        let looked_at = self.look_at(path)?;
-        let file = OpenOptions::new()
-            .append(true)
-            .open(self.rt, path_text(path)?)?;
-        self.writer = Some(Opened::of(self.alloc, path, file, looked_at)?);
-        Ok(())
     }
 
     /// Appends the bytes `piece` to the file at a path. If that fails, those of the bytes that were
@@ -278,7 +263,7 @@ impl<'a, R: Host> Root<'a, R> {
         self.folders.note(parent_of(to))?;
         // The new name is copied before the rename, so that nothing fails after it.
         let target = Vec::from_slice(self.alloc, to)?;
-        rename_path(self.rt, from, to)?;
+        fs::rename(self.rt, path_text(from)?, path_text(to)?)?;
         self.maybe_renamed_name = Some(target);
         Ok(())
     }
@@ -329,17 +314,15 @@ impl<'a, R: Host> Root<'a, R> {
     /// killed run may have removed the file and not the folders.
     pub fn remove_file_at(&mut self, path: &[u8]) -> Result<(), HostFault> {
         self.take_lock_to_write()?;
-        if self.length_of(path)?.is_none() {
-            if self.recovers {
-                self.folders.prune(self.rt, path)?;
-            }
+        if self.length_of(path)?.is_some() {
+            self.forget(path);
+            self.folders.note(parent_of(path))?;
+            fs::remove_file(self.rt, path_text(path)?)?;
+            // Removing the journal entry ends a recovery.
+            self.recovers &= path != INTENT.as_bytes();
+        } else if !self.recovers {
             return Ok(());
         }
-        self.forget(path);
-        self.folders.note(parent_of(path))?;
-        fs::remove_file(self.rt, path_text(path)?)?;
-        // Removing the journal entry ends a recovery.
-        self.recovers &= path != INTENT;
         self.folders.prune(self.rt, path)
     }
 
@@ -351,8 +334,9 @@ impl<'a, R: Host> Root<'a, R> {
             return Err(HostFault::own(Reason::LostWrite));
         }
         let written = self.folders.write_through(self.rt);
-        self.has_lost = written.is_err();
-        if written.is_ok() {
+        if written.is_err() {
+            self.has_lost = true;
+        } else {
             self.maybe_renamed_name = None;
         }
         written
@@ -365,10 +349,4 @@ impl<'a, R: Host> Root<'a, R> {
         close(&mut self.reader, path);
         close(&mut self.writer, path);
     }
-}
-
-/// Renames the file at `from` to `to`, in one call of the host, which is given the paths
-/// themselves.
-fn rename_path<R: Host>(rt: &R, from: &[u8], to: &[u8]) -> Result<(), HostFault> {
-    Ok(fs::rename(rt, path_text(from)?, path_text(to)?)?)
 }

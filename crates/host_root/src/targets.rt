@@ -3,7 +3,7 @@
 
 use super::folders::{Contents, Folders, keep, look_at, push, push_folders};
 use host_files::{
-    Found, Host, HostFault, LOCK_FOLDER, Reason, look_to_write, parent_of, path_text,
+    Found, Host, HostFault, LOCK_FOLDER, Reason, is_slash, look_to_write, parent_of, path_text,
 };
 use std::alloc::Global;
 use std::collections::BTreeSet;
@@ -84,12 +84,7 @@ impl Targets {
         // The paths of the probe before and after its rename.
         let probe = below(self.alloc, folder, PROBE)?;
         let moved = below(self.alloc, source, PROBE)?;
-        make_probe(rt, &probe)?;
-        // The probe is under `moved` afterwards, also if both folders are the same.
-        if folder != source {
-            rename_probe(rt, &probe, &moved)?;
-        }
-        fs::remove_dir(rt, path_text(&moved)?)?;
+        try_rename(rt, &probe, &moved)?;
         keep(self.alloc, &mut self.asked, folder)
     }
 }
@@ -103,11 +98,6 @@ fn is_reserved(path: &[u8]) -> bool {
         }
     }
     false
-}
-
-/// Whether a byte is the slash between two parts of a path.
-fn is_slash(byte: &u8) -> bool {
-    *byte == b'/'
 }
 
 /// Tests whether the host allows names as long as each of these parts of a path. `parts` is what
@@ -148,7 +138,7 @@ pub fn check_remove<R: Host>(
     folders: &mut Folders,
     path: &[u8],
 ) -> Result<(), HostFault> {
-    if !folders.ensure_folders(rt, path)? {
+    if folders.deepest_known_folder(rt, path)? != parent_of(path) {
         return Ok(());
     }
     match look_at(rt, alloc, path)? {
@@ -196,30 +186,35 @@ fn device_of<R: Files>(rt: &R, folder: &[u8]) -> Result<u64, HostFault> {
     Ok(fs::symlink_metadata(rt, path_text(folder)?)?.dev())
 }
 
+/// Makes the probe at the path `probe`, renames it to the path `moved`, and removes it there. If
+/// the rename fails, the probe is removed at its first path.
+fn try_rename<R: Files>(rt: &R, probe: &[u8], moved: &[u8]) -> Result<(), HostFault> {
+    let probe = path_text(probe)?;
+    let moved = path_text(moved)?;
+    make_probe(rt, probe)?;
+    // If both paths are the same, there is nothing to rename.
+    if probe != moved
+        && let Err(e) = fs::rename(rt, probe, moved)
+    {
+        let _ = fs::remove_dir(rt, probe);
+        if e.kind() == ErrorKind::CrossesDevices {
+            return Err(HostFault::own(Reason::OtherFileSystem));
+        }
+        return Err(e.into());
+    }
+    Ok(fs::remove_dir(rt, moved)?)
+}
+
 /// Makes the probe at this path. A probe that a killed run has left is removed first.
-fn make_probe<R: Files>(rt: &R, probe: &[u8]) -> Result<(), HostFault> {
-    let path = path_text(probe)?;
-    match fs::create_dir(rt, path) {
+fn make_probe<R: Files>(rt: &R, probe: &str) -> Result<(), HostFault> {
+    match fs::create_dir(rt, probe) {
         Err(e) if e.kind() == ErrorKind::AlreadyExists => {
-            fs::remove_dir(rt, path)?;
-            Ok(fs::create_dir(rt, path)?)
+            fs::remove_dir(rt, probe)?;
+            Ok(fs::create_dir(rt, probe)?)
         }
         Ok(()) => Ok(()),
         Err(e) => Err(e.into()),
     }
-}
-
-/// Renames the probe from the path `probe` to the path `moved`. If that fails, the probe is
-/// removed.
-fn rename_probe<R: Files>(rt: &R, probe: &[u8], moved: &[u8]) -> Result<(), HostFault> {
-    let Err(e) = fs::rename(rt, path_text(probe)?, path_text(moved)?) else {
-        return Ok(());
-    };
-    let _ = fs::remove_dir(rt, path_text(probe)?);
-    if e.kind() == ErrorKind::CrossesDevices {
-        return Err(HostFault::own(Reason::OtherFileSystem));
-    }
-    Err(e.into())
 }
 
 /// The path of a file or folder in `folder`, given the last part of its path. The root is the empty

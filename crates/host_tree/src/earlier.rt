@@ -17,12 +17,32 @@ pub(crate) fn note_earlier_changes<R: Host>(
 ) -> Result<(), HostFault> {
     root.note_way(STAGED)?;
     // Without an unfinished change there are no further folders.
-    if !root.recovers() {
-        return Ok(());
+    if root.recovers() {
+        note_intent(root, alloc)
+    } else {
+        Ok(())
     }
-    let Some(intent) = read_intent(root, alloc)? else {
+}
+
+/// Notes the folders above each name in the journal entry of the root. Nothing is noted if there is
+/// no journal entry, or if its file is no valid entry; then recovery refuses the file.
+fn note_intent<R: Host>(root: &mut Root<'_, R>, alloc: Global) -> Result<(), HostFault> {
+    let name = intent_name(alloc)?;
+    let Some(len) = root.length_of(name.as_bytes())? else {
         return Ok(());
     };
+    let mut file = vec![in alloc; 0u8; len as usize]?;
+    root.fill(name.as_bytes(), 0, &mut file)?;
+    match PreparedIntent::of_file(alloc, file) {
+        Ok(intent) => note_names(root, &intent),
+        // The file is no valid journal entry.
+        Err(ReadFault::Bad(_)) => Ok(()),
+        Err(ReadFault::Memory) => Err(HostFault::Memory),
+    }
+}
+
+/// Notes the folders above each name in a journal entry.
+fn note_names<R: Host>(root: &mut Root<'_, R>, intent: &PreparedIntent) -> Result<(), HostFault> {
     for i in 0..intent.removals_len() {
         root.note_way(intent.removal(i).as_bytes())?;
     }
@@ -30,24 +50,4 @@ pub(crate) fn note_earlier_changes<R: Host>(
         root.note_way(intent.write(i).as_bytes())?;
     }
     Ok(())
-}
-
-/// The journal entry of the root. None if there is no journal entry, or if its file is no valid
-/// entry; then recovery refuses the file.
-fn read_intent<R: Host>(
-    root: &mut Root<'_, R>,
-    alloc: Global,
-) -> Result<Option<PreparedIntent>, HostFault> {
-    let name = intent_name(alloc)?;
-    let Some(len) = root.length_of(name.as_bytes())? else {
-        return Ok(None);
-    };
-    let mut file = vec![in alloc; 0u8; len as usize]?;
-    root.fill(name.as_bytes(), 0, &mut file)?;
-    match PreparedIntent::of_file(alloc, file) {
-        Ok(intent) => Ok(Some(intent)),
-        // The file is no valid journal entry.
-        Err(ReadFault::Bad(_)) => Ok(None),
-        Err(ReadFault::Memory) => Err(HostFault::Memory),
-    }
 }
