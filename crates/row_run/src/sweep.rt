@@ -143,10 +143,10 @@ impl<'a, P: Program> Swept<'a, P> {
         report.compare(line, what, run.err.bytes(), err)
     }
 
-    /// Checks each crash image of the tree that a run left, and, unless `is_stop`, this tree itself:
-    /// it has the files that the command line finds or those that the command line leaves, and a
-    /// second run from there is checked. Returns whether some image has the files that the command
-    /// line leaves. `call` is the failed call, for reports.
+    /// Checks each crash image of the tree that a run left, and, unless `is_stop`, this tree itself.
+    /// Each has the files that the command line finds, or those that the command line leaves. A
+    /// second run from there is checked too. Returns whether some image has the files that the
+    /// command line leaves. `call` is the failed call, for reports.
     fn go_on_from(&self, call: u64, run: Run, is_stop: bool, report: &mut Report) -> bool {
         let Run { mut tree, .. } = run;
         let mut new_files_seen = false;
@@ -179,11 +179,11 @@ impl<'a, P: Program> Swept<'a, P> {
     }
 
     /// Checks that a tree, after a recovery, has the files that the command line finds, or those
-    /// that the command line leaves, and checks a second run of the command line over this tree. If
-    /// the second run begins with the files that the command line finds, it has to end as the row
-    /// says. Otherwise it has to end as a run over the files that the command line leaves. Returns
-    /// whether the tree has the files that the command line leaves. `place` names the tree in a
-    /// report.
+    /// that the command line leaves. Then checks a second run of the command line over this tree.
+    /// If the second run begins with the files that the command line finds, it has to end as the
+    /// row says. Otherwise it has to end as a run over the files that the command line leaves.
+    /// Returns whether the tree has the files that the command line leaves. `place` names the tree
+    /// in a report.
     fn run_again_from(
         &self,
         call: u64,
@@ -213,8 +213,8 @@ impl<'a, P: Program> Swept<'a, P> {
 
     /// Lets a stream fail after each number of bytes in turn (`ends after each`): standard output
     /// if `is_out`, and else standard error. `whole` is what the command line prints on this stream
-    /// if nothing fails. The stream has to get exactly these bytes, the exit status has to say that
-    /// a stream failed, and each crash image of the tree has to have the files that the command
+    /// if nothing fails. The stream has to get exactly these bytes, and the exit status has to say
+    /// that a stream failed. Each crash image of the tree has to have the files that the command
     /// line leaves.
     fn end_each(&self, is_out: bool, whole: &[u8], report: &mut Report) {
         let line = self.trial.step.line;

@@ -187,9 +187,10 @@ impl Reader {
         Ok(())
     }
 
-    /// Reads the rest of a line `fail N N ..` (the calls of the tree with these numbers fail),
-    /// `fail each` (each call fails in a further run of its own), or, if `is_stop`, `stop each`
-    /// (there are further runs, in each of which all calls after some number of calls fail).
+    /// Reads the rest of a line `fail N N ..`, by which the calls of the tree with these numbers
+    /// fail, or `fail each`, by which each call fails in a further run of its own. If `is_stop`,
+    /// reads the rest of a line `stop each`, by which there are further runs: in each of them, all
+    /// calls after some number of calls fail.
     pub(crate) fn plan_failures(&mut self, is_stop: bool, rest: &[u8]) -> Result<(), Trouble> {
         let is_each = rest == b"each".as_slice();
         if is_stop && !is_each {
