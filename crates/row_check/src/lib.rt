@@ -6,13 +6,13 @@
 #![tactic(auto)]
 
 mod check;
-mod differences;
 mod recovery;
+mod report;
 mod start;
 
-pub use check::{Program, Run, check_images, check_run, check_streams};
-pub use differences::{RowFault, add_number, compare, compare_numbers, differs, digits};
-pub use recovery::{Found, Sides, images_of, new_image};
-pub use row_text::{Fault, Row, SinkPlan, Step, TreePlan, read_rows};
-pub use start::{are_alike, bytes_of, copy_of, tree_of};
+pub use check::{Program, Run, Trial, check_images};
+pub use recovery::{Sides, images_of, new_image};
+pub use report::{Piece, Report};
+pub use row_text::{Row, SinkPlan, Step, read_rows};
+pub use start::{are_alike, tree_of};
 pub use tree_memory::{MemorySink, MemoryTree};

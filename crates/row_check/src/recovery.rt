@@ -1,11 +1,9 @@
 //! Crash images: each crash image of a tree is recovered, twice, and compared with the files before
 //! and after a command line. The rules are in `tests/rows.md`, "What goes wrong" and "Crash images
 //! and repetitions".
-use crate::check::Program;
-use crate::differences::{RowFault, differs, digits};
-use crate::start::{are_alike, are_equal, copy_of};
-use row_text::Step;
-use std::alloc::{AllocError, Global};
+use crate::check::{Program, Trial};
+use crate::report::{Piece, Report};
+use crate::start::are_alike;
 use tree_memory::MemoryTree;
 
 /// The two sides of a command line: the files that the command line finds, and those that it leaves
@@ -20,7 +18,7 @@ pub struct Sides {
 
 /// Which side of a command line the recovered files of a tree are. If the command line changes
 /// nothing, they can be both sides.
-#[derive(Clone, Copy)]
+#[derive(Drop)]
 pub struct Found {
     /// The files are those that the command line finds.
     pub before: bool,
@@ -29,70 +27,56 @@ pub struct Found {
 }
 
 impl Sides {
-    /// The two sides of a command line: the trees `before` and `after` it, each after a recovery.
-    pub fn new<P: Program>(
-        alloc: Global,
-        program: &P,
-        step: &Step,
-        before: &MemoryTree,
-        after: &MemoryTree,
-    ) -> Result<Sides, RowFault> {
-        let before = copy_of(alloc, before)?;
-        let after = copy_of(alloc, after)?;
-        Ok(Sides {
-            before: recovered(alloc, program, step, before)?,
-            after: recovered(alloc, program, step, after)?,
-        })
-    }
-
-    /// Whether the command line changes nothing, so that the two sides are the same files.
-    pub fn are_alike(&self, alloc: Global) -> Result<bool, RowFault> {
-        Ok(are_alike(alloc, &self.before, &self.after)?)
+    /// The two sides of a command line, which left the tree `after`.
+    pub fn new<P: Program>(trial: &Trial<'_, P>, after: &MemoryTree, report: &mut Report) -> Sides {
+        let before = report.image_of(trial.before, 0);
+        let after = report.image_of(after, 0);
+        Sides {
+            before: recovered(trial, before, report),
+            after: recovered(trial, after, report),
+        }
     }
 
     /// Which side of the command line the files of a tree, after a recovery, are. If they are
-    /// neither side, the row fails; `where_found` names the tree in the report.
+    /// neither side, the row fails. `place` names the tree in the report.
     pub fn find<P: Program>(
         &self,
-        alloc: Global,
-        program: &P,
-        step: &Step,
+        trial: &Trial<'_, P>,
         tree: MemoryTree,
-        where_found: &[u8],
-    ) -> Result<Found, RowFault> {
-        let tree = recovered(alloc, program, step, tree)?;
+        place: &[Piece<'_>],
+        report: &mut Report,
+    ) -> Found {
+        let tree = recovered(trial, tree, report);
         let found = Found {
-            before: are_alike(alloc, &tree, &self.before)?,
-            after: are_alike(alloc, &tree, &self.after)?,
+            before: are_alike(&tree, &self.before, false, report),
+            after: are_alike(&tree, &self.after, false, report),
         };
-        if found.before || found.after {
-            return Ok(found);
+        if !found.before && !found.after {
+            let how = b" has neither the files of before nor those of behind";
+            report.differ(trial.step.line, place, how);
         }
-        let what: &[u8] = b" has neither the files of before nor those of behind";
-        Err(differs(alloc, step.line, &[where_found, what]))
+        found
     }
 
     /// Checks that each crash image of a tree has, after a recovery, the files that the command
     /// line leaves.
     pub fn check_images<P: Program>(
         &self,
-        alloc: Global,
-        program: &P,
-        step: &Step,
+        trial: &Trial<'_, P>,
         tree: &MemoryTree,
-    ) -> Result<(), RowFault> {
+        report: &mut Report,
+    ) {
         for choice in 0..images_of(tree) {
-            let Some(image) = new_image(alloc, tree, choice)? else {
+            let Some(image) = new_image(tree, choice, report) else {
                 continue;
             };
-            let image = recovered(alloc, program, step, image)?;
-            if !are_alike(alloc, &image, &self.after)? {
-                let choice = digits(alloc, choice)?;
-                let pieces: [&[u8]; 3] = [b"image ", &choice, b" behind the run has other files"];
-                return Err(differs(alloc, step.line, &pieces));
+            let image = recovered(trial, image, report);
+            if !are_alike(&image, &self.after, false, report) {
+                let what = [Piece::Text(b"image "), Piece::Number(choice)];
+                report.differ(trial.step.line, &what, b" behind the run has other files");
+                return;
             }
         }
-        Ok(())
     }
 }
 
@@ -105,42 +89,39 @@ pub fn images_of(tree: &MemoryTree) -> u64 {
 
 /// The crash image of a tree that the number `choice` picks. None if this image equals the one with
 /// the same map of names and all files as read, which a smaller number picks.
-pub fn new_image(
-    alloc: Global,
-    tree: &MemoryTree,
-    choice: u64,
-) -> Result<Option<MemoryTree>, AllocError> {
-    let image = tree.pick_image(alloc, choice)?;
+pub fn new_image(tree: &MemoryTree, choice: u64, report: &mut Report) -> Option<MemoryTree> {
+    let image = report.image_of(tree, choice);
     let picks = tree.picks();
     // The numbers below `picks` are the images with all files as read.
     if picks == 0 || choice < picks {
-        return Ok(Some(image));
+        return Some(image);
     }
     // The image with the same map of names, and all files as read.
-    let as_read = tree.pick_image(alloc, choice % picks)?;
-    if are_equal(alloc, &image, &as_read)? {
-        return Ok(None);
+    let as_read = report.image_of(tree, choice % picks);
+    if are_alike(&image, &as_read, true, report) {
+        return None;
     }
-    Ok(Some(image))
+    Some(image)
 }
 
 /// The tree after a recovery. A second recovery has to succeed too, and to change no file.
 fn recovered<P: Program>(
-    alloc: Global,
-    program: &P,
-    step: &Step,
+    trial: &Trial<'_, P>,
     tree: MemoryTree,
-) -> Result<MemoryTree, RowFault> {
+    report: &mut Report,
+) -> MemoryTree {
     let mut tree = tree;
     // `first` is the tree after the first of two recoveries.
-    let went_well = program.recover(alloc, &mut tree);
-    let first = copy_of(alloc, &tree)?;
-    let went_well = went_well && program.recover(alloc, &mut tree);
-    if !went_well {
-        return Err(differs(alloc, step.line, &[b"a recovery fails"]));
+    let went_well = trial.program.recover(report.alloc, &mut tree);
+    let first = report.image_of(&tree, 0);
+    if !went_well || !trial.program.recover(report.alloc, &mut tree) {
+        report.differ(trial.step.line, &[], b"a recovery fails");
+    } else if !are_alike(&first, &tree, false, report) {
+        report.differ(
+            trial.step.line,
+            &[],
+            b"a second recovery leaves other files",
+        );
     }
-    if !are_alike(alloc, &first, &tree)? {
-        return Err(differs(alloc, step.line, &[b"a second recovery leaves other files"]));
-    }
-    Ok(first)
+    first
 }

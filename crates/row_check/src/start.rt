@@ -1,119 +1,79 @@
-//! Trees in memory: the tree that a row begins with, copies of trees, and comparisons of two trees.
-//! The rules are in `tests/rows.md`, "Lines": the lines `from` and `file`, and the last paragraph.
+//! Trees in memory: the tree that a row begins with, the bytes of its files, and the comparison of
+//! two trees. The rules are in `tests/rows.md`, "Lines": the lines `from` and `file`, and the last
+//! paragraph.
 use crate::check::Program;
-use crate::differences::{RowFault, differs};
-use base_core::Name;
-use row_text::{Content, NamedFile, Row};
-use std::alloc::{AllocError, Global};
+use crate::report::{Piece, Report};
+use row_text::{Content, Row};
+use std::alloc::AllocError;
 use tree_memory::MemoryTree;
 
-/// The tree that a row begins with: the files that an earlier row left, if the row names one, and
-/// its own files. `left` has the trees that earlier rows left, or None for a row that failed.
+/// The tree that a row begins with: the files that an earlier row left, if the row names one
+/// (`from`), and its own files. `left` has the trees that earlier rows left, or None for a row that
+/// failed, after which the row fails too.
 pub fn tree_of<P: Program>(
-    alloc: Global,
     program: &P,
     row: &Row,
     left: &[Option<MemoryTree>],
-) -> Result<MemoryTree, RowFault> {
-    let mut tree = first_tree(alloc, row, left)?;
+    report: &mut Report,
+) -> MemoryTree {
+    let mut tree = MemoryTree::new(report.alloc);
+    if let Some(number) = row.from {
+        match left.get(number) {
+            Some(Some(earlier)) => tree = report.image_of(earlier, 0),
+            _ => report.differ(row.line, &[], b"the row that it begins with failed"),
+        }
+    }
     for file in &row.files {
-        put(alloc, program, row.line, &mut tree, file)?;
+        let Some(content) = &file.content else {
+            continue;
+        };
+        let bytes = bytes_of(program, content, report);
+        if !tree.can_put(&file.name) {
+            let what = [Piece::Text(b"no file can stand at ")];
+            report.differ(row.line, &what, file.name.as_bytes());
+        } else if tree.put(&file.name, &bytes).is_err() {
+            report.run_out();
+        }
     }
-    Ok(tree)
-}
-
-/// An empty tree, or a copy of the tree that an earlier row left, if `row` names one (`from`). If
-/// that row failed, there is no tree, and `row` fails too.
-fn first_tree(
-    alloc: Global,
-    row: &Row,
-    left: &[Option<MemoryTree>],
-) -> Result<MemoryTree, RowFault> {
-    let Some(number) = row.from else {
-        return Ok(MemoryTree::new(alloc));
-    };
-    match left.get(number) {
-        Some(Some(tree)) => Ok(copy_of(alloc, tree)?),
-        _ => Err(differs(alloc, row.line, &[b"the row that it begins with failed"])),
-    }
-}
-
-/// Puts a file of the row into a tree. If the file has no content, nothing is put.
-fn put<P: Program>(
-    alloc: Global,
-    program: &P,
-    line: u64,
-    tree: &mut MemoryTree,
-    file: &NamedFile,
-) -> Result<(), RowFault> {
-    let Some(content) = &file.content else {
-        return Ok(());
-    };
-    let bytes = bytes_of(alloc, program, content)?;
-    if !tree.can_put(&file.name) {
-        let pieces: [&[u8]; 2] = [b"no file can stand at ", file.name.as_bytes()];
-        return Err(differs(alloc, line, &pieces));
-    }
-    tree.put(&file.name, &bytes)?;
-    Ok(())
+    tree
 }
 
 /// The bytes of a content of a row: the bytes that the row gives, or those of the container that
 /// the program writes of the dump text. If the text is no dump text, the row fails.
-pub fn bytes_of<P: Program>(
-    alloc: Global,
-    program: &P,
-    content: &Content,
-) -> Result<Vec<u8>, RowFault> {
-    match content {
-        Content::Bytes(bytes) => Ok(Vec::from_slice(alloc, bytes)?),
-        Content::Dump { text, line } => match program.container_of(alloc, text)? {
-            Some(bytes) => Ok(bytes),
-            None => Err(differs(alloc, *line, &[b"no dump text"])),
-        },
+pub fn bytes_of<P: Program>(program: &P, content: &Content, report: &mut Report) -> Vec<u8> {
+    let Some(line) = content.dump else {
+        return report.copy_of(&content.text);
+    };
+    match program.container_of(report.alloc, &content.text) {
+        Ok(Some(bytes)) => return bytes,
+        Ok(None) => report.differ(line, &[], b"no dump text"),
+        Err(AllocError) => report.run_out(),
     }
+    Vec::new(report.alloc)
 }
 
-/// A new tree with the same files, all synced. Its counts are 0, and no failure is planned.
-pub fn copy_of(alloc: Global, tree: &MemoryTree) -> Result<MemoryTree, AllocError> {
-    // The image 0 has the current names, and all files as read.
-    tree.pick_image(alloc, 0)
-}
-
-/// Whether a name is a scratch name, under which an output is first written. Comparisons of the
-/// files before and after a command line leave it out.
-fn is_scratch(name: &Name) -> bool {
-    name.as_bytes().ends_with(b".apk-tmp")
-}
-
-/// Whether two trees have the same files, apart from those under scratch names.
-pub fn are_alike(alloc: Global, one: &MemoryTree, other: &MemoryTree) -> Result<bool, AllocError> {
-    // `false`: files under scratch names do not count.
-    Ok(has_all_of(alloc, one, other, false)? && has_all_of(alloc, other, one, false)?)
-}
-
-/// Whether two trees have the same files, those under scratch names included.
-pub fn are_equal(alloc: Global, one: &MemoryTree, other: &MemoryTree) -> Result<bool, AllocError> {
-    // `true`: files under scratch names count too.
-    Ok(has_all_of(alloc, one, other, true)? && has_all_of(alloc, other, one, true)?)
-}
-
-/// Whether `tree` has each file of `other`, with the same bytes. `with_scratch` says whether files
-/// under scratch names count.
-fn has_all_of(
-    alloc: Global,
-    tree: &MemoryTree,
+/// Whether two trees have the same files. `with_scratch` says whether files count whose names are
+/// scratch names, under which an output is first written. Comparisons of the files before and after
+/// a command line leave them out.
+pub fn are_alike(
+    one: &MemoryTree,
     other: &MemoryTree,
     with_scratch: bool,
-) -> Result<bool, AllocError> {
-    let names = other.names(alloc)?;
-    for i in 0..names.len() {
-        let name = names.get(i);
-        // Whether the file of this name is compared.
-        let counts = with_scratch || !is_scratch(name);
-        if counts && tree.file(name) != other.file(name) {
-            return Ok(false);
+    report: &mut Report,
+) -> bool {
+    for tree in [one, other] {
+        let Ok(names) = tree.names(report.alloc) else {
+            report.run_out();
+            return false;
+        };
+        for i in 0..names.len() {
+            let name = names.get(i);
+            // Whether the file of this name is compared.
+            let counts = with_scratch || !name.as_bytes().ends_with(b".apk-tmp");
+            if counts && one.file(name) != other.file(name) {
+                return false;
+            }
         }
     }
-    Ok(true)
+    true
 }

@@ -114,25 +114,15 @@ fn add_field(
     let Some((place, form)) = value_named(&FIELDS, prefix) else {
         return add_name(writer, fields, word);
     };
-    let value = value_of(alloc, writer, form, rest)?;
+    let value = match form {
+        Form::Dependencies => list_value(alloc, writer, rest),
+        Form::Number => writer.int(number_of(rest)),
+        Form::Bytes => writer.blob(rest),
+    }?;
     if place < fields.len() {
         fields[place] = value;
     }
     Ok(())
-}
-
-// Writes the value of a field, whose text has this form.
-fn value_of(
-    alloc: Global,
-    writer: &mut Writer,
-    form: Form,
-    text: &[u8],
-) -> Result<Val, AllocError> {
-    match form {
-        Form::Dependencies => list_value(alloc, writer, text),
-        Form::Number => writer.int(number_of(text)),
-        Form::Bytes => writer.blob(text),
-    }
 }
 
 // Sets the name (field 0) and the version (field 1) of a package, which the word has in the form of
@@ -156,26 +146,12 @@ fn list_value(alloc: Global, writer: &mut Writer, list: &[u8]) -> Result<Val, Al
     writer.arr(values.as_slice())
 }
 
-// Writes the value of a dependency: its name, its version and its match number.
+// Writes the value of a dependency: its name, its version and its match number. This number has the
+// match bits of the operator, and 16 more for a conflict. It is 23 for a conflict without version,
+// and null for a name alone (`docs/formats.md`, "Dependencies").
 fn dep_value(writer: &mut Writer, dep: &Dep<'_>) -> Result<Val, AllocError> {
     let name = writer.blob(dep.name)?;
     let version = version_value(writer, dep)?;
-    let matching = matching_value(writer, dep)?;
-    writer.obj(&[name, version, matching])
-}
-
-// Writes the version that a dependency names, or null if it names none.
-fn version_value(writer: &mut Writer, dep: &Dep<'_>) -> Result<Val, AllocError> {
-    match &dep.version {
-        None => Ok(Val::of(0)),
-        Some(version) => writer.blob(version.text()),
-    }
-}
-
-// Writes the match number of a dependency: the match bits of its operator, and 16 more for a
-// conflict. It is 23 for a conflict without version, and null for a name alone (`docs/formats.md`,
-// "Dependencies").
-fn matching_value(writer: &mut Writer, dep: &Dep<'_>) -> Result<Val, AllocError> {
     let bits = u64::from(dep.op.bits());
     // By whether the dependency is a conflict, and whether it has a version.
     let number = match (dep.conflict, dep.version.is_some()) {
@@ -185,7 +161,16 @@ fn matching_value(writer: &mut Writer, dep: &Dep<'_>) -> Result<Val, AllocError>
         (true, true) => 16 | bits,
     };
     if number == 0 {
-        return Ok(Val::of(0));
+        return writer.obj(&[name, version, Val::of(0)]);
     }
-    writer.int(number)
+    let matching = writer.int(number)?;
+    writer.obj(&[name, version, matching])
+}
+
+// Writes the version that a dependency names, or null if it names none.
+fn version_value(writer: &mut Writer, dep: &Dep<'_>) -> Result<Val, AllocError> {
+    match &dep.version {
+        None => Ok(Val::of(0)),
+        Some(version) => writer.blob(version.text()),
+    }
 }

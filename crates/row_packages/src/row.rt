@@ -74,10 +74,12 @@ impl<'t> Row<'t> {
 
 /// The first word of a line, and the text after the blank that ends it.
 pub fn split_word<'t>(line: &'t [u8]) -> (&'t [u8], &'t [u8]) {
-    match line.iter().position(|byte| *byte == b' ') {
-        Some(at) => (&line[..at], &line[at + 1..]),
-        None => (line, b""),
+    for i in 0..line.len() {
+        if line[i] == b' ' {
+            return (&line[..i], &line[i + 1..]);
+        }
     }
+    (line, b"")
 }
 
 /// The number that the decimal digits of a text form. Bytes that are no digits are skipped, and a

@@ -12,4 +12,4 @@ mod row;
 mod words;
 
 pub use reader::read_rows;
-pub use row::{Content, Fault, NamedFile, Row, SinkPlan, Step, Sweeps, TreePlan, Trouble};
+pub use row::{Content, Fault, NamedFile, Plan, Row, SinkPlan, Step, Trouble};

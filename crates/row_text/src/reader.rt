@@ -1,11 +1,11 @@
 //! Reads a text of rows line by line: rows, their command lines, and the results that are expected
 //! of these. Each line belongs to the last row, command line or file before it. The forms of lines
 //! are in `tests/rows.md`, "Lines"; what is wrong with a line is in "A text that is none".
-use crate::parts::{add_line, name_of, number_at_most};
-use crate::row::{Content, Fault, Row, SinkPlan, Step, TreePlan, Trouble};
-use crate::words::{number, words_of};
+use crate::parts::{name_of, plan_stream};
+use crate::row::{Content, Fault, Plan, Row, SinkPlan, Step, Trouble};
+use crate::words::{number, number_at_most, split_text, words_of};
 use row_lines::value_named;
-use std::alloc::{AllocError, Global};
+use std::alloc::Global;
 
 /// To which text the next line `|` adds a line, and of which text a line `\` removes the last line
 /// end.
@@ -17,10 +17,8 @@ pub(crate) enum Target {
     Given(Form),
     /// The last file that is expected after the command line (`then`), written in this form.
     Wanted(Form),
-    /// The expected standard output of the command line, in lines that begin with `>`.
-    Out,
-    /// The expected standard output of the command line, in lines that begin with `|` (`out hex`,
-    /// `out dump`), written in this form.
+    /// The expected standard output of the command line, written in this form: as text in lines that
+    /// begin with `>`, and otherwise in lines `|` (`out hex`, `out dump`).
     Printed(Form),
     /// The expected standard error of the command line, in lines that begin with `!`.
     Err,
@@ -37,10 +35,18 @@ pub(crate) enum Form {
     Dump,
 }
 
-/// The first word of a line that begins with a word. The tables in `tests/rows.md`, "Lines" and
-/// "What goes wrong", say what a line with each word means.
+/// The first word of a line, or the mark with which the line begins. The tables in `tests/rows.md`,
+/// "Lines" and "What goes wrong", say what a line with each word means.
 #[derive(Clone, Copy)]
 enum Word {
+    /// `|`: a line of the file or of the output that was named last.
+    Piece,
+    /// `>`: a line that standard output is expected to have.
+    Printed,
+    /// `!`: a line that standard error is expected to have.
+    Complaint,
+    /// `$`: a command line.
+    Command,
     Row,
     From,
     In,
@@ -59,7 +65,11 @@ enum Word {
 
 // For each word that a line may begin with: its bytes, and its variant of `Word`.
 #[rattlefmt::skip]
-const WORDS: [(&[u8], Word); 14] = [
+const WORDS: [(&[u8], Word); 18] = [
+    (b"|", Word::Piece),
+    (b">", Word::Printed),
+    (b"!", Word::Complaint),
+    (b"$", Word::Command),
     (b"row", Word::Row),
     (b"from", Word::From),
     (b"in", Word::In),
@@ -91,25 +101,22 @@ pub(crate) struct Reader {
     /// The last command line of this row, which may have further lines; None before its first one.
     pub(crate) step: Option<Step>,
     /// The planned failures of the next command line.
-    pub(crate) plan: Plans,
+    pub(crate) plan: Plan,
     /// To which text a line `|` adds a line, and of which a line `\` removes the last line end.
     pub(crate) target: Target,
 }
 
-/// The planned failures of a command line: of its tree and its two streams.
-#[derive(Drop)]
-pub(crate) struct Plans {
-    /// Which calls of the tree fail.
-    pub(crate) tree: TreePlan,
-    /// How many bytes standard output takes.
-    pub(crate) out: SinkPlan,
-    /// How many bytes standard error takes.
-    pub(crate) err: SinkPlan,
-}
-
 /// The rows of a text, or its first fault.
 pub fn read_rows(alloc: Global, text: &[u8]) -> Result<Vec<Row>, Fault> {
-    let mut reader = Reader::new(alloc);
+    let mut reader = Reader {
+        alloc,
+        line: 0,
+        rows: Vec::new(alloc),
+        row: None,
+        step: None,
+        plan: empty_plan(alloc),
+        target: Target::Nothing,
+    };
     match reader.read_text(text) {
         Ok(()) => Ok(reader.rows),
         Err(trouble) => Err(Fault {
@@ -119,31 +126,18 @@ pub fn read_rows(alloc: Global, text: &[u8]) -> Result<Vec<Row>, Fault> {
     }
 }
 
-impl Plans {
-    /// The plans by which nothing fails.
-    fn none() -> Plans {
-        Plans {
-            tree: TreePlan::Whole,
-            out: SinkPlan::WHOLE,
-            err: SinkPlan::WHOLE,
-        }
+/// The plan by which nothing fails.
+fn empty_plan(alloc: Global) -> Plan {
+    Plan {
+        calls: Vec::new(alloc),
+        fail_each: false,
+        stop_each: false,
+        out: SinkPlan::WHOLE,
+        err: SinkPlan::WHOLE,
     }
 }
 
 impl Reader {
-    /// A reader before the first line.
-    fn new(alloc: Global) -> Reader {
-        Reader {
-            alloc,
-            line: 0,
-            rows: Vec::new(alloc),
-            row: None,
-            step: None,
-            plan: Plans::none(),
-            target: Target::Nothing,
-        }
-    }
-
     /// Reads all lines of a text. After a fault, `self.line` is the number of the line with the
     /// fault.
     fn read_text(&mut self, text: &[u8]) -> Result<(), Trouble> {
@@ -166,72 +160,65 @@ impl Reader {
     /// Reads a line. Its first byte, or else its first word, says what kind of line it is. After an
     /// empty line, no line may add to the text before it.
     fn read_line(&mut self, line: &[u8]) -> Result<(), Trouble> {
-        let Some((first, rest)) = line.split_first() else {
-            self.target = Target::Nothing;
-            return Ok(());
-        };
-        match *first {
+        match line {
+            [] => {
+                self.target = Target::Nothing;
+                Ok(())
+            }
             // A comment, which is skipped.
-            b'#' => Ok(()),
-            // A line of the file or of the output that was named last.
-            b'|' => self.add_piece(text_after_blank(rest)?),
-            // A line that standard output is expected to have.
-            b'>' => self.add_out(text_after_blank(rest)?),
-            // A line that standard error is expected to have.
-            b'!' => self.add_err(text_after_blank(rest)?),
+            [b'#', ..] => Ok(()),
             // The text that was written last has no line end after its last line.
-            b'\\' => self.cut_line_end(rest),
-            // A command line.
-            b'$' => self.begin_step(text_after_blank(rest)?),
-            _ => self.read_words(line),
-        }
-    }
-
-    /// Reads a line that begins with a word.
-    fn read_words(&mut self, line: &[u8]) -> Result<(), Trouble> {
-        let (word, rest) = first_word(line);
-        self.target = Target::Nothing;
-        match value_named(&WORDS, word) {
-            Some(word) => self.read_word(word, rest),
-            None => Err(Trouble::UnknownWord),
+            [b'\\'] => {
+                let outcome = self.edit_text(None);
+                self.target = Target::Nothing;
+                outcome
+            }
+            // Nothing may follow the `\` in its line.
+            [b'\\', ..] => Err(Trouble::BadShape),
+            _ => {
+                let (word, rest) = split_text(line, b' ');
+                match value_named(&WORDS, word) {
+                    Some(word) => self.read_word(word, rest),
+                    None => Err(Trouble::UnknownWord),
+                }
+            }
         }
     }
 
     /// Reads the rest of a line, which follows its first word.
     fn read_word(&mut self, word: Word, rest: &[u8]) -> Result<(), Trouble> {
+        if let Word::Piece = word {
+            return match self.target {
+                // These texts are in lines that begin with `>` and `!`.
+                Target::Printed(Form::Text) | Target::Err => Err(Trouble::OutOfPlace),
+                _ => self.edit_text(Some(rest)),
+            };
+        }
+        self.target = Target::Nothing;
         match word {
+            Word::Printed => {
+                self.target = Target::Printed(Form::Text);
+                self.edit_text(Some(rest))
+            }
+            Word::Complaint => {
+                self.target = Target::Err;
+                self.edit_text(Some(rest))
+            }
+            Word::Command => self.begin_step(rest),
             Word::Row => self.begin_row(rest),
             Word::From => self.begin_with(rest),
             Word::In => self.keep_in_memory(rest),
             Word::File => self.add_given(rest),
             Word::Then => self.add_wanted(rest),
             Word::Names => self.add_names(rest),
-            Word::Fail => self.plan_failures(rest),
-            Word::Stop => self.plan_stops(rest),
+            Word::Fail => self.plan_failures(false, rest),
+            Word::Stop => self.plan_failures(true, rest),
             Word::Out => self.read_out(rest),
-            Word::Err => self.plan_err(rest),
-            // The rest of the line is `N at most`, and of the next three kinds of lines `N`.
+            Word::Err => plan_stream(&mut self.plan.err, rest),
+            // The rest of the line is `N at most`, and of other kinds of lines `N`.
             Word::Reads => self.add_count(word, number_at_most(rest)),
-            Word::Status | Word::Calls | Word::Writes => self.add_count(word, number(rest)),
+            _ => self.add_count(word, number(rest)),
         }
-    }
-}
-
-/// The text after the first byte of a line, such as `|` or `$`. It is empty, or follows a blank.
-fn text_after_blank(rest: &[u8]) -> Result<&[u8], Trouble> {
-    match rest.split_first() {
-        None => Ok(rest),
-        Some((b' ', text)) => Ok(text),
-        // Another byte than a blank follows the first byte of the line.
-        Some(_) => Err(Trouble::UnknownWord),
-    }
-}
-
-/// The first word of a line, and what follows the blank that ends it.
-pub(crate) fn first_word(line: &[u8]) -> (&[u8], &[u8]) {
-    match line.iter().position(|byte| *byte == b' ') {
-        Some(at) => (&line[..at], &line[at + 1..]),
-        None => (line, b""),
     }
 }
 
@@ -241,10 +228,7 @@ impl Reader {
     fn begin_row(&mut self, rest: &[u8]) -> Result<(), Trouble> {
         self.end_row()?;
         // What is before the first `:`, and what follows it.
-        let (name, sentence) = match rest.iter().position(|byte| *byte == b':') {
-            Some(at) => (&rest[..at], &rest[at + 1..]),
-            None => (rest, b"".as_slice()),
-        };
+        let (name, sentence) = split_text(rest, b':');
         if name.is_empty() || name.contains(&b' ') {
             return Err(Trouble::NoName);
         }
@@ -267,21 +251,25 @@ impl Reader {
 
     /// The number of the complete row with this name, counted from 0, or None if there is none.
     fn number_of(&self, name: &[u8]) -> Option<usize> {
-        self.rows.iter().position(|row| row.name.as_slice() == name)
+        for i in 0..self.rows.len() {
+            if self.rows[i].name.as_slice() == name {
+                return Some(i);
+            }
+        }
+        None
     }
 
-    /// Ends the last row, if there is one: adds it to the complete rows. A row without a command
-    /// line is a fault.
+    /// Ends the last row, if there is one: adds its last command line to it, and the row to the
+    /// complete rows. A row without a command line is a fault.
     fn end_row(&mut self) -> Result<(), Trouble> {
-        self.end_step()?;
-        if let Some(row) = self.row.take() {
-            // The row has no command line.
-            if row.steps.is_empty() {
+        if let Some(mut row) = self.row.take() {
+            let Some(step) = self.step.take() else {
                 return Err(Trouble::NothingRun);
-            }
+            };
+            row.steps.push(step)?;
             self.rows.push(row)?;
         }
-        self.plan = Plans::none();
+        self.plan = empty_plan(self.alloc);
         Ok(())
     }
 
@@ -308,25 +296,24 @@ impl Reader {
 
 /// Command lines, and what is expected of them.
 impl Reader {
-    /// Begins a command line, with the failures that were planned for it.
+    /// Begins a command line, with the failures that were planned for it. The command line before
+    /// it, if there is one, is complete.
     fn begin_step(&mut self, text: &[u8]) -> Result<(), Trouble> {
-        if self.row.is_none() {
+        let Some(row) = &mut self.row else {
             return Err(Trouble::NoRow);
+        };
+        if let Some(step) = self.step.take() {
+            row.steps.push(step)?;
         }
-        self.end_step()?;
-        let command = words_of(self.alloc, text)?;
-        // No line may add to a text of the command line before.
-        self.target = Target::Nothing;
-        // The planned failures of this command line; for the next one, none are planned yet.
-        let plan = std::mem::replace(&mut self.plan, Plans::none());
-        let Plans { tree, out, err } = plan;
         self.step = Some(Step {
             line: self.line,
-            command,
-            tree,
-            out_plan: out,
-            err_plan: err,
-            out: Content::Bytes(Vec::new(self.alloc)),
+            command: words_of(self.alloc, text)?,
+            // For the next command line, no failures are planned yet.
+            plan: std::mem::replace(&mut self.plan, empty_plan(self.alloc)),
+            out: Content {
+                text: Vec::new(self.alloc),
+                dump: None,
+            },
             err: Vec::new(self.alloc),
             status: None,
             files: Vec::new(self.alloc),
@@ -338,52 +325,24 @@ impl Reader {
         Ok(())
     }
 
-    /// Ends the last command line, if there is one: adds it to the command lines of its row.
-    fn end_step(&mut self) -> Result<(), AllocError> {
-        if let Some(step) = self.step.take()
-            && let Some(row) = &mut self.row
-        {
-            row.steps.push(step)?;
-        }
-        Ok(())
-    }
-
-    /// Reads the rest of a line `> LINE`: standard output is expected to have the line `piece`.
-    fn add_out(&mut self, piece: &[u8]) -> Result<(), Trouble> {
-        let Some(step) = &mut self.step else {
-            return Err(Trouble::NoCommand);
-        };
-        self.target = Target::Out;
-        match &mut step.out {
-            Content::Bytes(bytes) => add_line(bytes, piece),
-            // After a line `out dump`, no other output may be expected.
-            Content::Dump { .. } => Err(Trouble::OutOfPlace),
-        }
-    }
-
-    /// Reads the rest of a line `! LINE`: standard error is expected to have the line `piece`.
-    fn add_err(&mut self, piece: &[u8]) -> Result<(), Trouble> {
-        let Some(step) = &mut self.step else {
-            return Err(Trouble::NoCommand);
-        };
-        self.target = Target::Err;
-        add_line(&mut step.err, piece)
-    }
-
-    /// Adds an expected number to the command line. `word` says which number: the exit status, the
-    /// number of calls of the tree, the number of calls that write, or the most bytes that one read
-    /// may ask for.
+    /// Adds an expected number to the command line, which may state it only once. `word` says which
+    /// number: the exit status, the number of calls of the tree, the number of calls that write, or
+    /// the most bytes that one read may ask for.
     fn add_count(&mut self, word: Word, number: Result<u64, Trouble>) -> Result<(), Trouble> {
         let number = number?;
         let Some(step) = &mut self.step else {
             return Err(Trouble::NoCommand);
         };
-        match word {
-            Word::Status => set_once(&mut step.status, number),
-            Word::Calls => set_once(&mut step.calls, number),
-            Word::Writes => set_once(&mut step.writes, number),
+        let earlier = match word {
+            Word::Status => step.status.replace(number),
+            Word::Calls => step.calls.replace(number),
+            Word::Writes => step.writes.replace(number),
             // `Word::Reads`: the callers pass no other word.
-            _ => set_once(&mut step.reads, number),
+            _ => step.reads.replace(number),
+        };
+        match earlier {
+            None => Ok(()),
+            Some(_) => Err(Trouble::SaidTwice),
         }
     }
 
@@ -400,19 +359,9 @@ impl Reader {
             return Err(Trouble::NoCommand);
         };
         // The command line has such a line already.
-        if step.names.is_some() {
-            return Err(Trouble::SaidTwice);
+        match step.names.replace(names) {
+            None => Ok(()),
+            Some(_) => Err(Trouble::SaidTwice),
         }
-        step.names = Some(names);
-        Ok(())
     }
-}
-
-/// Sets an expected number of a command line, which its lines may state only once.
-fn set_once(place: &mut Option<u64>, number: u64) -> Result<(), Trouble> {
-    if place.is_some() {
-        return Err(Trouble::SaidTwice);
-    }
-    *place = Some(number);
-    Ok(())
 }

@@ -31,11 +31,12 @@ pub struct NamedFile {
 
 /// The bytes of a file or of standard output.
 #[derive(Drop)]
-pub enum Content {
-    /// These bytes.
-    Bytes(Vec<u8>),
-    /// The container of the dump text `text`, which begins at line `line` of the text of rows.
-    Dump { text: Vec<u8>, line: u64 },
+pub struct Content {
+    /// These bytes, or the dump text of a container.
+    pub text: Vec<u8>,
+    /// If `text` is a dump text: the line of the text of rows at which it begins. The bytes are
+    /// then those of the container of this dump text.
+    pub dump: Option<u64>,
 }
 
 /// A command line, the failures that are planned for it, and what is expected of it.
@@ -45,12 +46,8 @@ pub struct Step {
     pub line: u64,
     /// The words of the command line, without the program's name.
     pub command: Words,
-    /// Which calls of the tree fail.
-    pub tree: TreePlan,
-    /// How many bytes standard output takes before it fails.
-    pub out_plan: SinkPlan,
-    /// How many bytes standard error takes before it fails.
-    pub err_plan: SinkPlan,
+    /// The planned failures.
+    pub plan: Plan,
     /// The expected bytes of standard output.
     pub out: Content,
     /// The expected bytes of standard error.
@@ -70,24 +67,20 @@ pub struct Step {
     pub reads: Option<u64>,
 }
 
-/// Which calls of the tree fail while a command line runs.
+/// The planned failures of a command line. If further runs are planned, in which calls or streams
+/// fail, none of these fails in the first run.
 #[derive(Drop)]
-pub enum TreePlan {
-    /// None of them fails.
-    Whole,
-    /// The calls with these numbers fail, counted from 1.
-    Fail(Vec<u64>),
-    /// In the first run no call fails. Further runs, in which calls fail, are made for each call.
-    Each(Sweeps),
-}
-
-/// Which further runs are made of a command line, one for each of its calls.
-#[derive(Clone, Copy)]
-pub struct Sweeps {
-    /// Whether there are runs in which this call alone fails (`fail each`).
-    pub fail: bool,
-    /// Whether there are runs in which all calls after this call fail (`stop each`).
-    pub stop: bool,
+pub struct Plan {
+    /// The numbers of the calls of the tree that fail, counted from 1 (`fail N N ..`).
+    pub calls: Vec<u64>,
+    /// Whether there is a further run for each call, in which this call alone fails (`fail each`).
+    pub fail_each: bool,
+    /// Whether there is a further run for each call, after which all calls fail (`stop each`).
+    pub stop_each: bool,
+    /// How many bytes standard output takes before it fails.
+    pub out: SinkPlan,
+    /// How many bytes standard error takes before it fails.
+    pub err: SinkPlan,
 }
 
 /// How many bytes a stream takes.

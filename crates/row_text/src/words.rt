@@ -49,7 +49,12 @@ pub(crate) fn words_of(alloc: Global, text: &[u8]) -> Result<Words, Trouble> {
     for byte in rest {
         line.add(*byte)?;
     }
-    line.finish()
+    match line.place {
+        Place::Between => {}
+        Place::Word => line.end_word()?,
+        Place::Quotation => return Err(Trouble::BadQuotation),
+    }
+    Ok(line.words)
 }
 
 impl Line {
@@ -82,17 +87,17 @@ impl Line {
         self.place = Place::Between;
         Ok(())
     }
+}
 
-    /// The words of the line, after its last byte. A quotation that does not end is a fault.
-    fn finish(self) -> Result<Words, Trouble> {
-        let mut line = self;
-        match line.place {
-            Place::Between => {}
-            Place::Word => line.end_word()?,
-            Place::Quotation => return Err(Trouble::BadQuotation),
+/// The part of a text before the first byte `mark`, and the part after it. If the text does not have
+/// this byte, these are the whole text and no text.
+pub(crate) fn split_text(text: &[u8], mark: u8) -> (&[u8], &[u8]) {
+    for i in 0..text.len() {
+        if text[i] == mark {
+            return (&text[..i], &text[i + 1..]);
         }
-        Ok(line.words)
     }
+    (text, b"")
 }
 
 /// Adds the bytes of a line of hexadecimal digits, in groups with blanks between them.
@@ -106,28 +111,32 @@ pub(crate) fn add_hex(out: &mut Vec<u8>, line: &[u8]) -> Result<(), Trouble> {
 /// Adds the bytes of a group: an even number of hexadecimal digits, such as `4144`, or such digits
 /// after a count and `*`, as in `2049*00`, which adds their bytes 2049 times.
 fn add_group(out: &mut Vec<u8>, group: &[u8]) -> Result<(), Trouble> {
-    match group.iter().position(|byte| *byte == b'*') {
-        None => add_digits(out, group),
-        Some(at) => {
-            let (count, digits) = (&group[..at], &group[at + 1..]);
-            for _ in 0..number(count)? {
-                add_digits(out, digits)?;
-            }
-            Ok(())
-        }
+    let (count, digits) = split_text(group, b'*');
+    // There is no `*`.
+    if count.len() == group.len() {
+        return add_digits(out, group);
     }
+    for _ in 0..number(count)? {
+        add_digits(out, digits)?;
+    }
+    Ok(())
 }
 
-/// Adds a byte for each two hexadecimal digits. An odd number of digits is a fault.
+/// Adds a byte for each two hexadecimal digits. An odd number of digits is a fault, and so is an
+/// upper-case digit.
 fn add_digits(out: &mut Vec<u8>, digits: &[u8]) -> Result<(), Trouble> {
     // The value of the first digit of a pair, until its second digit is read.
     let mut high = None;
     for digit in digits {
-        let value = digit_value(*digit)?;
+        let value = match *digit {
+            b'0'..=b'9' => *digit - b'0',
+            b'a'..=b'f' => *digit - b'a' + 10,
+            _ => return Err(Trouble::BadHex),
+        };
         match high {
             None => high = Some(value),
             Some(first) => {
-                out.push(byte_of(first, value))?;
+                out.push((first << 4) | value)?;
                 high = None;
             }
         }
@@ -138,21 +147,8 @@ fn add_digits(out: &mut Vec<u8>, digits: &[u8]) -> Result<(), Trouble> {
     }
 }
 
-/// The byte of two hexadecimal digits, given their values, the high digit first.
-fn byte_of(high: u8, low: u8) -> u8 {
-    (high << 4) | low
-}
-
-/// The value of a hexadecimal digit. An upper-case digit is a fault.
-fn digit_value(digit: u8) -> Result<u8, Trouble> {
-    match digit {
-        b'0'..=b'9' => Ok(digit - b'0'),
-        b'a'..=b'f' => Ok(digit - b'a' + 10),
-        _ => Err(Trouble::BadHex),
-    }
-}
-
-/// The decimal number in a text. A text with other bytes than digits, or without bytes, is a fault.
+/// The decimal number in a text. A text with other bytes than digits, or without bytes, is a fault,
+/// and so is a number above 2^64 - 1.
 pub(crate) fn number(text: &[u8]) -> Result<u64, Trouble> {
     if text.is_empty() {
         return Err(Trouble::BadNumber);
@@ -162,19 +158,23 @@ pub(crate) fn number(text: &[u8]) -> Result<u64, Trouble> {
         if !digit.is_ascii_digit() {
             return Err(Trouble::BadNumber);
         }
-        number = next_number(number, *digit - b'0')?;
+        // The number with one more digit at its end, or None if it is too great.
+        let next = match number.checked_mul(10) {
+            Some(tens) => tens.checked_add(u64::from(*digit - b'0')),
+            None => None,
+        };
+        number = match next {
+            Some(next) => next,
+            None => return Err(Trouble::BadNumber),
+        };
     }
     Ok(number)
 }
 
-/// The number with one more decimal digit at its end. A number above 2^64 - 1 is a fault.
-fn next_number(number: u64, digit: u8) -> Result<u64, Trouble> {
-    // Ten times the number.
-    let Some(tens) = number.checked_mul(10) else {
-        return Err(Trouble::BadNumber);
-    };
-    match tens.checked_add(u64::from(digit)) {
-        Some(next) => Ok(next),
-        None => Err(Trouble::BadNumber),
+/// The number of a text such as `N at most`.
+pub(crate) fn number_at_most(text: &[u8]) -> Result<u64, Trouble> {
+    match text.strip_suffix(b" at most") {
+        Some(count) => number(count),
+        None => Err(Trouble::BadShape),
     }
 }
