@@ -18,8 +18,8 @@ is_sound_leaf p (Obj which) w = w == 0
 is_sound_leaf p TextArr w = w == 0
 is_sound_leaf p (ObjArr which) w = w == 0
 
--- why the word `w` of the payload `p` cannot be read as a leaf of this kind; None if it can be read, or if the kind is
--- that of an array or an object
+-- why the word `w` of the payload `p` cannot be read as a leaf of this kind; None if it can be read. An array and an
+-- object are no leaves: for their kinds, the result is None too
 abbrev pub leaf_fault : List ℕ → Kind → ℕ → Option Cause
 leaf_fault p Int w = result_err (int_of p w)
 leaf_fault p Text w = result_err (blob_of p w)

@@ -1,5 +1,5 @@
 -- The fault of a visit, as the functions of the walk return it, and the cause that is reported for it. Serves the
--- contracts of `src/visit_fault.rt` and `src/readers.rt`; the rule is in `docs/formats.md`, "The shape".
+-- contracts of `src/visit_fault.rt`, `src/readers.rt` and `src/walk.rt`; the rule is in `docs/formats.md`, "The shape".
 use Rattle.std.specs.Prelude.{Bool, true, false, Result, Ok, Err}
 use Rattle.base_core.specs.declared.cause.Cause.{Cause}
 use Rattle.base_core.specs.declared.cause.Cause.TheVariants as Causes

@@ -44,7 +44,7 @@ pub use tables::{
     Schema, Which, fields_of, number_of, tables_are_as_listed, tables_are_unrolled_whole,
 };
 pub use walk::{
-    a_walk_of_fields_reports_the_first_faulty_visit, entry_word, object_entries, shape,
+    a_walk_of_fields_reports_the_first_faulty_visit, entry_word, shape,
     the_first_faulty_visit_is_reported, values_of_few_visits_have_no_fault, walk_fields,
 };
 pub use words::Val;

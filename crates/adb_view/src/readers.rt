@@ -1,5 +1,6 @@
-//! The readers of words that the walk in `walk` calls. They return the small `VisitFault` in place
-//! of a cause. The result of each reader is defined in `docs/formats.md`, "Values".
+//! The readers of words that the walk in `walk` calls. A word that cannot be read has the small
+//! `VisitFault`, and no cause yet. The result of each reader is defined in `docs/formats.md`,
+//! "Values".
 
 ghost use Rattle.std.specs.Prelude.{◌≡◌, option_map};
 ghost use Rattle.adb_view.specs.Adb.{payload_of};
@@ -40,8 +41,8 @@ pub(crate) fn is_sound_leaf(adb: Adb<'_>, kind: Kind, word: Val) -> bool
     }
 }
 
-/// Why the word cannot be read as a leaf of this kind; None if it can be read, or if the kind is
-/// that of an array or an object.
+/// Why the word cannot be read as a leaf of this kind. None if it can be read. An array and an object
+/// are no leaves: for their kinds, the result is None too.
 #[tactic(auto, using(crate::proofs::ReaderFaults::int_fault, crate::proofs::ReaderFaults::blob_fault))]
 pub(crate) fn leaf_fault(adb: Adb<'_>, kind: Kind, word: Val) -> Option<VisitFault>
     ensures { option_map cause_of_fault result ≡ leaf_fault (payload_of adb.entry) kind word }
@@ -59,8 +60,8 @@ pub(crate) fn leaf_fault(adb: Adb<'_>, kind: Kind, word: Val) -> Option<VisitFau
     }
 }
 
-/// All entries of the array or the object to which the word refers, or why there are none. `kind`
-/// is that of the words of arrays, or of objects.
+/// All entries of the array or the object to which the word refers, or the fault if the word cannot
+/// be read. `kind` is that of the words of arrays, or of objects.
 #[tactic(auto, using(crate::proofs::ReaderFaults::run_fault, crate::proofs::ReaderFaults::read_ok))]
 pub(crate) fn read_entries<'a>(adb: Adb<'a>, kind: u32, word: Val) -> Result<Arr<'a>, VisitFault>
     // The result has the words of the entries, or the cause of the definition.

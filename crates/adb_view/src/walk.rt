@@ -8,8 +8,6 @@ ghost use Rattle.adb_view.specs.Plain.{Fields, plains_of, Shape, object, plain_o
 ghost use Rattle.adb_view.specs.Visits.{field_visits, visits, MOST_VALUES};
 ghost use Rattle.adb_view.specs.Adb.{payload_of};
 ghost use Rattle.adb_view.specs.Entries.{array_entries};
-ghost use Rattle.adb_view.specs.Gives.{Gives};
-ghost use Rattle.adb_view.specs.Readers.{run_entries_of_kind_in_payload_at_word, OBJECT};
 ghost use Rattle.adb_view.specs.Head.{root_word_of_payload};
 ghost use Rattle.adb_view.specs.Schema.{table, shape_of, shapes_of, table_number};
 ghost use Rattle.adb_view.specs.Walk.{first_fault_of_numbered_visits, shape_fault};
@@ -33,16 +31,6 @@ use crate::tables::{Field, Kind, Which, fields_of};
 use crate::visit_fault::VisitFault;
 use crate::words::{Val, kind as word_kind};
 use base_core::Cause;
-
-/// All entries of the object to which the word `object` refers, also those past the fields of its
-/// table.
-pub fn object_entries<'a>(adb: Adb<'a>, object: Val) -> Result<Arr<'a>, Cause>
-    // The result has the words of the entries, or the cause of the definition.
-    ensures { Gives array_entries result (run_entries_of_kind_in_payload_at_word OBJECT
-        (payload_of adb.entry) object) }
-{
-    Arr::read(adb.payload(), word_kind::OBJECT, object)
-}
 
 /// The word of the entry with the index `i`, which counts from 0.
 pub fn entry_word(entries: Arr<'_>, i: usize) -> Val

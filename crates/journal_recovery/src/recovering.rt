@@ -109,8 +109,7 @@ fn replay<T: Tree>(alloc: Global, tree: &mut T) -> Result<(), RecoverFault>
 
 /// Does all actions of the intent that `file`, the file under the intent's name, encodes, and then
 /// removes the intent. It is not known which actions were done before. The names are synced first:
-/// otherwise a crash could undo the publishing of the intent and keep one of the actions. The
-/// clauses are those of `replay`.
+/// otherwise a crash could undo the publishing of the intent and keep one of the actions.
 fn replay_file<T: Tree>(alloc: Global, tree: &mut T, file: Vec<u8>) -> Result<(), RecoverFault>
     // The bytes are those of the file under the intent's name.
     requires { IfObservable (T.history tree.old)
@@ -156,7 +155,7 @@ fn empty_stage<T: Tree>(alloc: Global, tree: &mut T) -> Result<(), RecoverFault>
 
 /// Removes these names, which are all in the staging area. All names of the tree are synced first,
 /// so that no crash restores an intent for which one of these files is staged. Without names no
-/// call is made. The clauses are those of `empty_stage`.
+/// call is made.
 fn clear_all<T: Tree>(tree: &mut T, names: &Names) -> Result<(), Disk>
     // If the names are all in the staging area of a durable tree without an intent, each moment is
     // durable, and the state is unchanged.
@@ -182,7 +181,7 @@ fn clear_all<T: Tree>(tree: &mut T, names: &Names) -> Result<(), Disk>
 }
 
 /// Removes these names, which are all in the staging area, one by one. It is called when no crash
-/// restores an intent. The clauses are those of `clear_all`.
+/// restores an intent.
 fn remove_all<T: Tree>(tree: &mut T, names: &Names) -> Result<(), Disk>
     // If the names are all in the staging area of a durable tree, and no crash restores an intent,
     // each moment is durable, and the state is unchanged.

@@ -9,9 +9,6 @@ ghost use Rattle.pkg_core.specs.Contents.{fault_of_files_read, fault_if_wanted_a
 ghost use Rattle.pkg_core.specs.Opened.{opened_files};
 ghost use Rattle.pkg_core.specs.Whole.{container_fault, package_fault, table_of_schema, container_fault_of_table, files_read_from_package, package_with_contents};
 ghost use Rattle.pkg_core.specs.Refusals.{IsFaultOf};
-ghost use Rattle.sha1.specs.Sha1.{sha1};
-ghost use Rattle.sha2.specs.Sha256.{sha256};
-ghost use Rattle.sha2.specs.Sha512.{sha512};
 ghost use Rattle.adb_view.specs.declared.tables.Which.TheVariants as Tables;
 ghost use Rattle.base_core.specs.declared.cause.Digest.TheVariants as Digests;
 ghost use Rattle.base_core.specs.declared.cause.Cause.{Cause};

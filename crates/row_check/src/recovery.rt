@@ -80,8 +80,8 @@ impl Sides {
     }
 }
 
-/// How many crash images of a tree are checked: for each map of names that a number picks, three
-/// images, in which unsynced files have their bytes as read, no bytes, or bytes of value 255
+/// How many crash images of a tree are checked. Each map of names that a number picks has three
+/// images: unsynced files have their bytes as read, no bytes, or bytes of value 255
 /// (`docs/crash-safety.md`, "Images of the tree in memory").
 pub fn images_of(tree: &MemoryTree) -> u64 {
     tree.picks().saturating_mul(3)

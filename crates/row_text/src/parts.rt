@@ -206,9 +206,12 @@ impl Reader {
             return Err(Trouble::NoRow);
         }
         // Only `fail each` and `stop each` may be planned together.
-        let has_fail = self.plan.fail_each && !is_stop;
-        let has_stop = self.plan.stop_each && (is_stop || !is_each);
-        if !self.plan.calls.is_empty() || has_fail || has_stop {
+        let excludes_fail_each = !is_stop;
+        let excludes_stop_each = is_stop || !is_each;
+        if !self.plan.calls.is_empty()
+            || (self.plan.fail_each && excludes_fail_each)
+            || (self.plan.stop_each && excludes_stop_each)
+        {
             return Err(Trouble::SaidTwice);
         }
         self.plan.calls = calls;

@@ -358,9 +358,9 @@ impl Reader {
         let Some(step) = &mut self.step else {
             return Err(Trouble::NoCommand);
         };
-        // The command line has such a line already.
         match step.names.replace(names) {
             None => Ok(()),
+            // The command line has such a line already.
             Some(_) => Err(Trouble::SaidTwice),
         }
     }

@@ -67,8 +67,8 @@ pub struct Step {
     pub reads: Option<u64>,
 }
 
-/// The planned failures of a command line. If further runs are planned, in which calls or streams
-/// fail, none of these fails in the first run.
+/// The planned failures of a command line. In the first run only what `calls`, `out` and `err` plan
+/// fails; the further runs have failures of their own.
 #[derive(Drop)]
 pub struct Plan {
     /// The numbers of the calls of the tree that fail, counted from 1 (`fail N N ..`).

@@ -1,4 +1,4 @@
--- The option that a word spells, in tables that are joined or seen as others.
+-- Lemmas about a search through a list, and about the option that a word spells in one of two joined tables.
 use Rattle.std.proofs.Common.{Bool, List, None, Option, Some, [], ap, cond, drop, false, get_or, length, map, refl, sym, true, ℕ, ◌++◌, ◌+◌, ◌<◌, ◌≤◌, ◌∙◌, ◌∷◌, ◌≡◌}
 use Rattle.std.specs.List.{find}
 use Rattle.std.specs.Option.{option_map, option_or}

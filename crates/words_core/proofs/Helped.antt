@@ -1,4 +1,4 @@
--- Lines of help, one after another.
+-- Lemmas about the lines of help: the rest of a list behind a place, and a text that grows line by line.
 use Rattle.std.proofs.Common.{List, Some, [], ap, append-nil, append_assoc, arith, codes, drop, get_or, length, map, refl, suc, sym, zero, ℕ, ◌++◌, ◌+◌, ◌∙◌, ◌<◌, ◌∷◌, ◌≡◌, ◌≤◌}
 use Rattle.std.specs.List.{slice_get}
 use Rattle.std.specs.Prelude.{Result, Ok, Err, OnOk, if◌then◌else◌, is_ok}
