@@ -30,13 +30,13 @@ use Rattle.root_laws.proofs.change_files.Lists.{IsOneOf, passing_kept}
 use Rattle.root_laws.proofs.change_files.OwnedFiles.{owner_is}
 use Rattle.audit_core.specs.db_core.Members.{Listing, Member, listings_of_path, listings_of_members, members_of_kept}
 use Rattle.audit_core.specs.db_core.OwnedListings.{owned_listings, owned_paths}
-use Rattle.root_laws.specs.db_write.NewDatabase.{packages_in_new_database}
+use Rattle.root_laws.specs.db_core.NewDatabase.{packages_in_new_database}
 use Rattle.audit_core.specs.file_guard.AsListed.{file_hash, file_size, file_target, is_as_listed, is_as_listed_by_size_hash_target}
 use Rattle.root_laws.specs.file_owners.Owners.{owned_flags_of, owner_of_path}
 use Rattle.root_laws.proofs.file_owners.OneOwner.{owner_is as member_place}
 use Rattle.root_laws.specs.path_claims.Claims.{is_owning_member}
 
--- what the laws of `db_write` say
+-- what the laws of `db_core` say
 pub record WrittenLaws : Type 0 where
   pub paths : (members : List Member) (flags : List Bool) → flat_map paths_of_package_files (list_of (packages_in_new_database members flags)) ≡ owned_paths members flags
   pub entries : (members : List Member) (flags : List Bool)

@@ -4,7 +4,7 @@ use Rattle.std.specs.Prelude.{not}
 use Rattle.std.specs.Str.{bytes_eq}
 use Rattle.std.proofs.lemmas.Bool.{false_from_ne_true}
 use Rattle.std.proofs.lemmas.Slice.Eq.{bytes_eq-Decides}
-use Rattle.db_write.specs.adb_schema.Reserved.{is_intent_or_stage_name, is_reserved}
+use Rattle.db_core.specs.adb_schema.Reserved.{is_intent_or_stage_name, is_reserved}
 use Rattle.base_core.specs.Files.{Files}
 use Rattle.base_core.proofs.Rising.{IsIn, contains_from_in, in_from_contains}
 use Rattle.base_core.proofs.Listed.{in_both}

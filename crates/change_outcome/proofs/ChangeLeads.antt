@@ -5,7 +5,7 @@ use Rattle.std.specs.Str.{bytes_eq}
 use Rattle.std.specs.List.{list_any}
 use Rattle.std.proofs.lemmas.Bool.{eqb-true, and_parts, or_from, or_parts, false_from_ne_true, not-false}
 use Rattle.std.proofs.lemmas.Slice.Eq.{bytes_eq-Decides}
-use Rattle.db_write.specs.adb_schema.Reserved.{is_reserved}
+use Rattle.db_core.specs.adb_schema.Reserved.{is_reserved}
 use Rattle.base_core.specs.Files.{Files}
 use Rattle.base_core.proofs.Rising.{IsIn}
 use Rattle.base_core.proofs.Listed.{in_both}
@@ -20,7 +20,7 @@ use Rattle.package_changes.proofs.change_files.Untouched.{changed_so, is_gone, t
 use Rattle.change_inputs.specs.Inputs.{Inputs}
 use Rattle.change_inputs.specs.World.{found_text_or_empty}
 use Rattle.change_outcome.specs.ChangeOutcome.{intent_of_change, has_actions, is_absent_or_different, name_if_needed, database_and_world_after_change, names_of_written_database_and_world}
-use Rattle.db_write.specs.db_core.Members.{Listing}
+use Rattle.db_core.specs.db_core.Members.{Listing}
 use Rattle.journal_core.specs.Staged.{HasNoStagedNames}
 use Rattle.journal_core.specs.journal_intent.FreeNames.{IsNoneOf, IsOneOf}
 use Rattle.journal_core.specs.journal_intent.Intent.{Intent}

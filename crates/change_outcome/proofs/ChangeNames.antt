@@ -2,8 +2,8 @@
 use Rattle.std.proofs.Common.{◌≡◌, inl, inr, ◌&&◌, ◌<◌, ℕ, zero, suc, Bool, true, false, List, [], ◌∷◌, ◌++◌, length, get_or, All, AllPairs, refl, sym, subst, arith, true≢false, Less}
 use Rattle.std.specs.Prelude.{not}
 use Rattle.std.specs.Str.{bytes_eq}
-use Rattle.db_write.specs.adb_schema.Reserved.{is_intent_or_stage_name}
-use Rattle.db_write.specs.adb_schema.Rules.{is_name_allowed_in_intent}
+use Rattle.db_core.specs.adb_schema.Reserved.{is_intent_or_stage_name}
+use Rattle.db_core.specs.adb_schema.Rules.{is_name_allowed_in_intent}
 use Rattle.base_core.specs.Files.{Files}
 use Rattle.base_core.specs.Name.{IsName, is_name}
 use Rattle.base_core.proofs.Rising.{IsIn, Rises, in_at, order, not_itself}

@@ -4,7 +4,7 @@ use Rattle.std.specs.List.{list_any}
 use Rattle.std.specs.Str.{bytes_eq}
 use Rattle.std.proofs.lemmas.Bool.{or_cases}
 use Rattle.std.proofs.lemmas.Slice.Eq.{bytes_eq-Decides}
-use Rattle.db_write.specs.adb_schema.Reserved.{is_at_or_below, is_intent_or_stage_name, is_reserved}
+use Rattle.db_core.specs.adb_schema.Reserved.{is_at_or_below, is_intent_or_stage_name, is_reserved}
 use Rattle.base_core.proofs.Rising.{IsIn, Rises, not_itself}
 use Rattle.base_core.proofs.AtName.{other_name}
 use Rattle.journal_core.specs.journal_intent.FreeNames.{AreFreeNames, HaveNoRepeats, IsFreeName, IsNoneOf, IsOneOf}

@@ -1,6 +1,6 @@
 -- What is known of a change that nothing refuses.
 use Rattle.std.proofs.Common.{◌≡◌, ◌∙◌, ℕ, false, List, Option, Some, None, Result, Ok, Err, refl, sym, ap, subst}
-use Rattle.db_write.specs.adb_write.Canonical.{ByteAndValueCounts, counts_at_first_overflow}
+use Rattle.db_core.specs.adb_write.Canonical.{ByteAndValueCounts, counts_at_first_overflow}
 use Rattle.base_core.specs.Files.{Files, HasOnlyNamesAmong}
 use Rattle.package_changes.specs.change_files.FileChange.{FileChange}
 use Rattle.package_changes.specs.change_files.NamesAfter.{name_change}
@@ -10,8 +10,8 @@ use Rattle.change_inputs.specs.Inputs.{Inputs}
 use Rattle.change_outcome.specs.ChangeOutcome.{ChangeDone, ChangeWishes, IsFirstClashUnlessMembersRefused, IsFirstClashOfChange, intent_of_change, change_done, members_after_change, change_or_refusal, change_with_members, packages_before_and_after_with_purge, database_and_world_after_change, touched_paths, unless_clash, unless_contested, or_result_too_large, unless_overflow, unless_reserved_path, change_done_unless_over_writer_limits}
 use Rattle.change_outcome.specs.MembersAfter.{MemberFound}
 use Rattle.change_outcome.specs.Triggers.{unless_trigger_due}
-use Rattle.db_write.specs.db_core.Members.{Member}
-use Rattle.db_write.specs.NewDatabase.{database_of}
+use Rattle.db_core.specs.db_core.Members.{Member}
+use Rattle.db_core.specs.NewDatabase.{database_of}
 use Rattle.package_changes.specs.file_owners.Owners.{first_contested_member_path_in_byte_order, owned_flags_of}
 use Rattle.journal_core.specs.Staged.{HasEmptyStageAndFreeJournalPaths}
 use Rattle.journal_core.specs.journal_intent.Intent.{intent_name}

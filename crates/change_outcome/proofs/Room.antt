@@ -6,7 +6,7 @@ use Rattle.std.specs.List.{list_any}
 use Rattle.std.specs.Fmt.{decimal}
 use Rattle.std.proofs.lemmas.Bool.{and_parts, or_cases, or_left, or_right, false_from_ne_true}
 use Rattle.std.proofs.lemmas.Slice.Eq.{bytes_eq-Decides}
-use Rattle.db_write.specs.adb_schema.Reserved.{is_at_or_below, is_reserved}
+use Rattle.db_core.specs.adb_schema.Reserved.{is_at_or_below, is_reserved}
 use Rattle.base_core.specs.Files.{Files, IsFolderOf}
 use Rattle.base_core.proofs.Rising.{IsIn}
 use Rattle.package_changes.specs.change_files.FileChange.{FileChange}
@@ -18,7 +18,7 @@ use Rattle.package_changes.specs.change_files.Touched.{is_old_or_new_database_or
 use Rattle.package_changes.proofs.change_files.AfterNames.{names_after}
 use Rattle.package_changes.proofs.change_files.Reserved.{unreserved_path, written_unreserved}
 use Rattle.package_changes.proofs.change_files.Untouched.{changed_so}
-use Rattle.db_write.specs.db_core.Members.{Listing}
+use Rattle.db_core.specs.db_core.Members.{Listing}
 use Rattle.journal_core.specs.Staged.{AreIntentAndStagedPathsFree, HasEmptyStageAndFreeJournalPaths, HasNoStagedNames, IsPresentOrOfJournal}
 use Rattle.journal_core.specs.journal_intent.FreeNames.{IsIntentNameOrNumberedStageName}
 use Rattle.journal_core.specs.journal_intent.Intent.{intent_name, is_staged, stage_name}

@@ -4,7 +4,7 @@ use Rattle.std.specs.Prelude.{◌≡◌, ℕ, ◌==◌, Bool, true, false, not, 
 use Rattle.std.specs.Option.{option_map_or}
 use Rattle.adb_view.specs.FieldIndexes.{INFO_INSTALLED_SIZE_INDEX, PACKAGE_INFO_INDEX}
 use Rattle.adb_view.specs.Values.{entry_at_index, int_in}
-use Rattle.db_write.specs.adb_write.Canonical.{ByteAndValueCounts, counts_at_first_overflow}
+use Rattle.db_core.specs.adb_write.Canonical.{ByteAndValueCounts, counts_at_first_overflow}
 use Rattle.base_core.specs.Files.{Files}
 use Rattle.package_changes.specs.change_files.FileChange.{FileChange}
 use Rattle.package_changes.specs.change_files.FilesAfter.{DatabaseAndWorldAfter, files_after_change, listing_bytes}
@@ -12,8 +12,8 @@ use Rattle.package_changes.specs.change_files.NamesAfter.{name_change}
 use Rattle.package_changes.specs.change_files.PlanLists.{paths_with_apk_new_file, file_writes_of, first_reserved_added_path_in_byte_order, kept_left_over_paths_of, sorted_distinct_names, removals_of}
 use Rattle.change_inputs.specs.Chains.{and_then}
 use Rattle.change_inputs.specs.Inputs.{Inputs}
-use Rattle.db_write.specs.db_core.Members.{Member, member_name}
-use Rattle.db_write.specs.NewDatabase.{database_of}
+use Rattle.db_core.specs.db_core.Members.{Member, member_name}
+use Rattle.db_core.specs.NewDatabase.{database_of}
 use Rattle.dep_core.specs.World.{world_text}
 use Rattle.package_changes.specs.file_owners.Owners.{first_contested_member_path_in_byte_order, owned_flags_of}
 use Rattle.journal_core.specs.journal_intent.Intent.{Intent}

@@ -5,12 +5,11 @@ pub use Rattle.change_inputs.specs.make_info as make_info
 pub use Rattle.change_inputs.specs.package_files as package_files
 pub use Rattle.change_inputs.specs.v2_core as v2_core
 pub use Rattle.change_inputs.specs.v2_lines as v2_lines
-pub use Rattle.db_write.specs as db_write
-pub use Rattle.db_write.specs.adb_fields as adb_fields
-pub use Rattle.db_write.specs.adb_schema as adb_schema
-pub use Rattle.db_write.specs.adb_sound as adb_sound
-pub use Rattle.db_write.specs.adb_write as adb_write
-pub use Rattle.db_write.specs.db_core as db_core
+pub use Rattle.db_core.specs as db_core
+pub use Rattle.db_core.specs.adb_fields as adb_fields
+pub use Rattle.db_core.specs.adb_schema as adb_schema
+pub use Rattle.db_core.specs.adb_sound as adb_sound
+pub use Rattle.db_core.specs.adb_write as adb_write
 pub use Rattle.journal_core.specs as journal_core
 pub use Rattle.journal_core.specs.journal_intent as journal_intent
 pub use Rattle.package_changes.specs as package_changes
@@ -20,6 +19,7 @@ pub use Rattle.package_changes.specs.search_tables as search_tables
 pub use Rattle.root_names.specs as root_names
 pub use Rattle.star_patterns.specs as star_patterns
 -- modules that the contract of `apk` cites
+pub mod Arrivals
 pub mod ChangeOutcome
 pub mod ConfigurationLines
 pub mod MembersAfter
@@ -29,3 +29,7 @@ pub mod Triggers
 pub mod Premises
 pub mod Made
 pub mod Leading
+-- what only inner contracts and proofs use
+pub mod Answered
+pub mod NameReads
+pub mod Told

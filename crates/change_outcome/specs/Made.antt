@@ -1,13 +1,13 @@
 -- A change that is not refused. It serves the law `a_change_that_is_made_passes_each_test`; the tests
 -- are defined in `docs/commands.md`, "What a change does with files".
 use Rattle.std.specs.Prelude.{◌≡◌, ℕ, List, Option, None, Ok}
-use Rattle.db_write.specs.adb_write.Canonical.{counts_at_first_overflow}
+use Rattle.db_core.specs.adb_write.Canonical.{counts_at_first_overflow}
 use Rattle.base_core.specs.Files.{Files}
 use Rattle.package_changes.specs.change_files.PlanLists.{first_reserved_added_path_in_byte_order}
 use Rattle.change_inputs.specs.Inputs.{Inputs}
 use Rattle.change_outcome.specs.ChangeOutcome.{ChangeDone, ChangeWishes, intent_of_change, change_done, members_after_change, packages_before_and_after_with_purge, database_and_world_after_change}
 use Rattle.change_outcome.specs.MembersAfter.{MemberFound, found_members}
-use Rattle.db_write.specs.NewDatabase.{database_of}
+use Rattle.db_core.specs.NewDatabase.{database_of}
 use Rattle.package_changes.specs.file_owners.Owners.{first_contested_member_path_in_byte_order, owned_flags_of}
 use Rattle.journal_core.specs.journal_intent.IntentValue.{value_of_intent}
 use Rattle.change_inputs.specs.make_info.Reads.{Reads}

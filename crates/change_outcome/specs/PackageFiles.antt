@@ -2,18 +2,18 @@
 -- `docs/commands.md`, "`add` and `del`", parts "What is read" and "What is refused"; of scripts in "`mkpkg`", part
 -- "Scripts", and their numbers in `docs/formats.md`, "Schemas", table 6.
 use Rattle.std.specs.Prelude.{ℕ, ◌==◌, ◌-◌, Bool, true, false, not, if◌then◌else◌, List, [], ◌∷◌, length, Option, Some, None, Result, Ok, Err, bytes_eq, slice_get}
-use Rattle.db_write.specs.adb_schema.Soundness.{payload_in, root_value_of_payload}
+use Rattle.db_core.specs.adb_schema.Soundness.{payload_in, root_value_of_payload}
 use Rattle.adb_view.specs.FieldIndexes.{PACKAGE_SCRIPTS_INDEX}
 use Rattle.adb_view.specs.Values.{entry_at_index, text_in}
 use Rattle.adb_view.specs.declared.tables.Which.TheVariants as Tables
 use Rattle.adb_view.specs.Plain.{Plain}
 use Rattle.base_core.specs.declared.cause.Cause.{Cause}
-use Rattle.db_write.specs.adb_fields.Repeated.{package_name}
+use Rattle.db_core.specs.adb_fields.Repeated.{package_name}
 use Rattle.dep_core.specs.Repositories.{Repository}
 use Rattle.package_changes.specs.file_owners.Replaces.{package_version_text}
 use Rattle.package_changes.specs.Changes.{candidate_version_text}
-use Rattle.db_write.specs.pkg_core.Contents.{Contents, contents_in}
-use Rattle.db_write.specs.pkg_core.Whole.{files_read_from_package, package_fault, payload_sha256_of_package_file}
+use Rattle.db_core.specs.pkg_core.Contents.{Contents, contents_in}
+use Rattle.db_core.specs.pkg_core.Whole.{files_read_from_package, package_fault, payload_sha256_of_package_file}
 use Rattle.change_inputs.specs.candidate_core.Candidates.{Candidate, is_same_id_by_nonempty_prefix}
 use Rattle.report_core.specs.Numbers.{NAME_FIELD, VERSION_FIELD, HASHES_FIELD, PRE_INSTALL_SCRIPT, POST_INSTALL_SCRIPT, PRE_DEINSTALL_SCRIPT, POST_DEINSTALL_SCRIPT, PRE_UPGRADE_SCRIPT, POST_UPGRADE_SCRIPT}
 use Rattle.report_core.specs.Reports.{Change, Downgrade, Install, Purge, Reinstall, Replace, Upgrade}

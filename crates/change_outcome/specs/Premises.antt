@@ -2,7 +2,7 @@
 -- that a database has no reserved name is a rule of `docs/formats.md`, "Tests of a container", "The
 -- texts", field 401.
 use Rattle.std.specs.Prelude.{◌≡◌, All, false, None}
-use Rattle.db_write.specs.adb_schema.Reserved.{is_reserved}
+use Rattle.db_core.specs.adb_schema.Reserved.{is_reserved}
 use Rattle.base_core.specs.Files.{Files}
 use Rattle.package_changes.specs.change_files.FileChange.{FileChange, old_listings}
 use Rattle.package_changes.specs.change_files.PlanLists.{first_reserved_added_path_in_byte_order}

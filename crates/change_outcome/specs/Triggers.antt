@@ -3,12 +3,12 @@
 use Rattle.std.specs.Prelude.{ℕ, ◌==◌, Bool, true, false, ◌&&◌, if◌then◌else◌, List, [], ◌∷◌, length, map, codes, Result, Ok, Err, bytes_eq}
 use Rattle.std.specs.List.{filter, flat_map, list_any}
 use Rattle.base_core.specs.Name.{path_parts_of}
-use Rattle.db_write.specs.adb_fields.Repeated.{entries_of_field_at_index, package_name}
+use Rattle.db_core.specs.adb_fields.Repeated.{entries_of_field_at_index, package_name}
 use Rattle.adb_view.specs.FieldIndexes.{PACKAGE_TRIGGERS_INDEX}
 use Rattle.adb_view.specs.Values.{text_in}
 use Rattle.adb_view.specs.Plain.{Plain}
 use Rattle.package_changes.specs.change_files.PlanLists.{sorted_distinct_names}
-use Rattle.db_write.specs.db_core.Members.{Member, member_name}
+use Rattle.db_core.specs.db_core.Members.{Member, member_name}
 use Rattle.dep_core.specs.LeadingSlash.{without_leading_slash}
 use Rattle.change_inputs.specs.package_files.Folders.{folder_of}
 use Rattle.report_core.specs.Reports.{report_line, trigger_due_for_folder_text}

@@ -2,7 +2,7 @@
 pub use Rattle.change_outcome.proofs as change_outcome
 pub use Rattle.change_outcome.proofs.candidate_core as candidate_core
 pub use Rattle.change_outcome.proofs.change_inputs as change_inputs
-pub use Rattle.change_outcome.proofs.db_write as db_write
+pub use Rattle.change_outcome.proofs.db_core as db_core
 pub use Rattle.change_outcome.proofs.journal_core as journal_core
 pub use Rattle.change_outcome.proofs.journal_intent as journal_intent
 pub use Rattle.change_outcome.proofs.package_changes as package_changes

@@ -4,7 +4,6 @@ pub use Rattle.change_outcome.specs.adb_sound as adb_sound
 pub use Rattle.change_outcome.specs.candidate_core as candidate_core
 pub use Rattle.change_outcome.specs.change_inputs as change_inputs
 pub use Rattle.change_outcome.specs.db_core as db_core
-pub use Rattle.change_outcome.specs.db_write as db_write
 pub use Rattle.change_outcome.specs.journal_core as journal_core
 pub use Rattle.change_outcome.specs.journal_intent as journal_intent
 pub use Rattle.change_outcome.specs.package_changes as package_changes

@@ -1,6 +1,6 @@
 -- Members whose packages are from sound containers, and files that a database may list.
 -- The rules are in `docs/formats.md`, "Tests of a container" (what is sound), "Names that stand
--- twice" and "The texts", field 401 (which paths a database may list). Serves the law of `db_write`
+-- twice" and "The texts", field 401 (which paths a database may list). Serves the law of `src/laws.rt`
 -- that a new database is sound.
 use Rattle.std.specs.Prelude.{◌≡◌, ℕ, true, false, List, [], ◌∷◌, length, map, Option, Some, None}
 use Rattle.adb_view.specs.Plain.{Plain, IsNormal}

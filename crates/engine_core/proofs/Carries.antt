@@ -5,7 +5,7 @@ use Rattle.std.proofs.lemmas.Bool.{ne_eqb}
 use Rattle.std.proofs.lemmas.List.{length-map}
 use Rattle.std.specs.Option.{option_copied}
 use Rattle.std.specs.Str.{bytes_eq}
-use Rattle.added_packages.specs.adb_write.Canonical.{ByteAndValueCounts, counts_after_values, counts_at_first_overflow}
+use Rattle.change_outcome.specs.adb_write.Canonical.{ByteAndValueCounts, counts_after_values, counts_at_first_overflow}
 use Rattle.journal_staging.specs.adb_schema.Reserved.{is_reserved}
 use Rattle.base_core.specs.Listed.{AreSortedDistinctTexts}
 use Rattle.base_core.specs.Name.{IsName}
@@ -39,7 +39,7 @@ use Rattle.change_report.specs.journal_intent.IntentValue.{intent_of_lists, valu
 use Rattle.change_report.specs.change_files.NamesAfter.{name_change}
 use Rattle.change_report.specs.db_core.Members.{Member, is_added, member_name}
 use Rattle.change_report.specs.db_core.Seen.{members_of}
-use Rattle.change_report.specs.db_write.NewDatabase.{database_of}
+use Rattle.change_report.specs.db_core.NewDatabase.{database_of}
 use Rattle.change_report.specs.file_owners.Owners.{owned_flags_of}
 use Rattle.change_report.specs.file_owners.Replaces.{package_version_text}
 use Rattle.change_report.specs.own_core.Planned.{IsOfAddedFile, IsUnreservedName, written_names}

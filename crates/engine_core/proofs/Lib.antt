@@ -3,7 +3,7 @@ pub use Rattle.change_report.proofs.candidate_core as candidate_core
 pub use Rattle.change_report.proofs.change_files as change_files
 pub use Rattle.change_report.proofs.change_inputs as change_inputs
 pub use Rattle.change_report.proofs.change_outcome as change_outcome
-pub use Rattle.change_report.proofs.db_write as db_write
+pub use Rattle.change_report.proofs.db_core as db_core
 pub use Rattle.change_report.proofs.file_owners as file_owners
 pub use Rattle.change_report.proofs.journal_core as journal_core
 pub use Rattle.change_report.proofs.journal_intent as journal_intent

@@ -2,10 +2,10 @@
 use Rattle.std.proofs.Common.{◌≡◌, ◌∙◌, ◌≤◌, ℕ, Bool, true, false, List, All, Option, Result, Ok, Err, length, refl, sym, ap, subst, arith}
 use Rattle.std.specs.Prelude.{if◌then◌else◌, nat_lt}
 use Rattle.std.proofs.lemmas.Bool.{ltb-false}
-use Rattle.added_packages.specs.Answered.{DenotesUnlessDisk}
-use Rattle.added_packages.specs.Arrivals.{AreMembersFoundFromOldPackagesAndReads, arrivals_seen, members_by_packages_before_and_reads}
-use Rattle.added_packages.specs.declared.arrivals.Arrivals.{Arrivals}
-use Rattle.added_packages.specs.declared.arrivals.MemberRead.{MemberRead}
+use Rattle.change_outcome.specs.Answered.{DenotesUnlessDisk}
+use Rattle.change_outcome.specs.Arrivals.{AreMembersFoundFromOldPackagesAndReads, arrivals_seen, members_by_packages_before_and_reads}
+use Rattle.change_outcome.specs.declared.arrivals.Arrivals.{Arrivals}
+use Rattle.change_outcome.specs.declared.arrivals.MemberRead.{MemberRead}
 use Rattle.adb_view.specs.Plain.{Plain}
 use Rattle.base_core.specs.Faults.{Counts}
 use Rattle.base_core.specs.Files.{Files}

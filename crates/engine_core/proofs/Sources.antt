@@ -7,7 +7,7 @@ use Rattle.base_core.specs.Files.{Files}
 use Rattle.base_core.specs.Tree.{TreeState, files_of}
 use Rattle.journal_staging.specs.adb_schema.Reserved.{is_reserved}
 use Rattle.adb_view.specs.Plain.{Plain}
-use Rattle.added_packages.specs.Arrivals.{IsTestedPackageWithContentsOfMember}
+use Rattle.change_outcome.specs.Arrivals.{IsTestedPackageWithContentsOfMember}
 use Rattle.change_report.specs.change_files.FileChange.{FileChange}
 use Rattle.change_report.specs.change_files.FilesAfter.{DatabaseAndWorldAfter, files_after_change, database_name, is_listing_written_under_name, listing_bytes, new_world_bytes_unless_empty_and_absent, world_name, listing_written_under_name}
 use Rattle.change_report.specs.change_files.PlanLists.{FileWrite, file_writes_of, file_write_under_name}

@@ -3,9 +3,9 @@ use Rattle.std.proofs.Common.{◌≡◌, ℕ, zero, suc, List, [], ◌∷◌, Co
 use Rattle.std.specs.Prelude.{slice_get, option_and_then}
 use Rattle.std.proofs.lemmas.Option.{same_Some}
 use Rattle.adb_view.specs.Plain.{Plain}
-use Rattle.added_packages.specs.Arrivals.{AreMembersFoundFromOldPackagesAndReads, IsMemberRead, IsPackageRead, added_package_in_member_read}
-use Rattle.added_packages.specs.declared.arrivals.MemberRead.{MemberRead}
-use Rattle.added_packages.specs.declared.arrivals.MemberRead.TheVariants.{Comes, Stays}
+use Rattle.change_outcome.specs.Arrivals.{AreMembersFoundFromOldPackagesAndReads, IsMemberRead, IsPackageRead, added_package_in_member_read}
+use Rattle.change_outcome.specs.declared.arrivals.MemberRead.{MemberRead}
+use Rattle.change_outcome.specs.declared.arrivals.MemberRead.TheVariants.{Comes, Stays}
 use Rattle.base_core.specs.Tree.{TreeState}
 use Rattle.base_core.specs.declared.cause.Cause.{Cause}
 use Rattle.change_report.specs.change_outcome.MembersAfter.{MemberFound, added_member_found, found_members}

@@ -5,7 +5,6 @@ pub use Rattle.change_report.specs.change_files as change_files
 pub use Rattle.change_report.specs.change_inputs as change_inputs
 pub use Rattle.change_report.specs.change_outcome as change_outcome
 pub use Rattle.change_report.specs.db_core as db_core
-pub use Rattle.change_report.specs.db_write as db_write
 pub use Rattle.change_report.specs.file_owners as file_owners
 pub use Rattle.change_report.specs.journal_core as journal_core
 pub use Rattle.change_report.specs.journal_intent as journal_intent

@@ -4,7 +4,7 @@
 use Rattle.std.specs.Prelude.{◌≡◌, ℕ, Bool, true, false, not, List, All, Option, Some, None, Ok, bytes_eq}
 use Rattle.std.specs.Option.{option_copied}
 use Rattle.journal_staging.specs.adb_schema.Reserved.{is_reserved}
-use Rattle.added_packages.specs.Arrivals.{AreMembersFoundFromOldPackagesAndReads, arrivals_seen, members_by_packages_before_and_reads}
+use Rattle.change_outcome.specs.Arrivals.{AreMembersFoundFromOldPackagesAndReads, arrivals_seen, members_by_packages_before_and_reads}
 use Rattle.base_core.specs.Calls.{IfObservable}
 use Rattle.base_core.specs.Files.{Files}
 use Rattle.base_core.specs.Tree.{TreeState, files_of}

@@ -2,7 +2,7 @@
 -- `src/rendering.rt` and `src/committing.rt`; the rules are in `docs/commands.md`, "`add` and `del`", and
 -- in `docs/crash-safety.md`, "A change of several files".
 use Rattle.std.specs.Prelude.{◌≡◌, ◌++◌, ℕ, Bool, true, false, List, All, Option, Some, None, Ok, Err, map}
-use Rattle.added_packages.specs.adb_write.Canonical.{counts_at_first_overflow}
+use Rattle.change_outcome.specs.adb_write.Canonical.{counts_at_first_overflow}
 use Rattle.base_core.specs.Files.{Files}
 use Rattle.base_core.specs.Tree.{TreeState}
 use Rattle.change_report.specs.change_files.PlanLists.{sorted_distinct_names}

@@ -2,8 +2,8 @@
 -- `docs/commands.md`, "What a change does with files" and "`add` and `del`", part "What is written".
 use Rattle.std.specs.Prelude.{◌≡◌, ◌⊎◌, ℕ, true, false, List, [], ◌∷◌, ◌++◌, Option, Some, None, Contains, is_some, option_and_then, slice_get}
 use Rattle.std.specs.Borrow.{Bor}
-use Rattle.added_packages.specs.Arrivals.{arrivals_seen, added_package_in_member_read}
-use Rattle.added_packages.specs.declared.arrivals.Arrivals.{Arrivals}
+use Rattle.change_outcome.specs.Arrivals.{arrivals_seen, added_package_in_member_read}
+use Rattle.change_outcome.specs.declared.arrivals.Arrivals.{Arrivals}
 use Rattle.adb_view.specs.Plain.{Plain}
 use Rattle.change_report.specs.change_files.PlanLists.{FileWrite}
 use Rattle.change_report.specs.change_outcome.ChangeOutcome.{name_if_needed}

@@ -11,7 +11,7 @@ use crate::committing::commit;
 use crate::packages::read_packages;
 use crate::planning::plan_change;
 use crate::rendering::{database_and_world_after_change, render};
-use added_packages::packages_that_were_read_are_those_found;
+use change_outcome::packages_that_were_read_are_those_found;
 use base_core::{Text, Tree, counts_of_consecutive_calls_compose};
 use change_report::{Refused, a_change_has_a_first_clash_or_none};
 use journal_staging::runs_with_accepted_targets_begin_with_reads;

@@ -1,8 +1,8 @@
 //! The packages after a change: each added one is read and tested. The rules are in
 //! `docs/commands.md`, "`add` and `del`", parts "What is read" and "What is refused".
 
-ghost use Rattle.added_packages.specs.Answered.{DenotesUnlessDisk};
-ghost use Rattle.added_packages.specs.Arrivals.{CanBeMembers, arrivals_seen};
+ghost use Rattle.change_outcome.specs.Answered.{DenotesUnlessDisk};
+ghost use Rattle.change_outcome.specs.Arrivals.{CanBeMembers, arrivals_seen};
 ghost use Rattle.base_core.specs.Read.{OnlyReads};
 ghost use Rattle.change_report.specs.change_outcome.ChangeOutcome.{members_after_change};
 ghost use Rattle.change_report.specs.db_core.Seen.{packages_of};
@@ -12,7 +12,7 @@ ghost use Rattle.engine_core.specs.SelectionSeen.{HasDatabaseOfInputs, HasPoolOf
 ghost use Rattle.std.specs.Prelude.{IfOk};
 
 use crate::choosing::Selection;
-use added_packages::{Arrivals, read_arrivals};
+use change_outcome::{Arrivals, read_arrivals};
 use base_core::Tree;
 use change_report::{PlacedNames, Refused};
 use std::alloc::Global;

@@ -2,7 +2,7 @@
 //! change is refused before anything is made. The rules are in `docs/commands.md`, "What a change
 //! does with files", and for triggers in "`add` and `del`", part "Which triggers are due".
 
-ghost use Rattle.added_packages.specs.Arrivals.{CanBeMembers, arrivals_seen};
+ghost use Rattle.change_outcome.specs.Arrivals.{CanBeMembers, arrivals_seen};
 ghost use Rattle.base_core.specs.Read.{OnlyReads};
 ghost use Rattle.change_report.specs.change_inputs.Answers.{Agrees};
 ghost use Rattle.change_report.specs.change_outcome.ChangeOutcome.{member_name_at_place};
@@ -17,7 +17,7 @@ ghost use Rattle.engine_core.specs.Runs.{IsRunOnFoundPackages};
 ghost use Rattle.std.specs.Prelude.{◌≡◌, ◌<◌, true, Err, IfErr, IfOk, List, length};
 
 use crate::packages::ReadPackages;
-use added_packages::{members_of_change, packages_that_were_read_are_those_found};
+use change_outcome::{members_of_change, packages_that_were_read_are_those_found};
 use base_core::{Text, Tree};
 use change_report::{
     Db, FilePlan, Members, PlanFault, Refused, a_change_has_a_first_clash_or_none, first_due, plan,

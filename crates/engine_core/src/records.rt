@@ -1,18 +1,18 @@
 //! The database after a change, and the stage of its files. The rules are in `docs/formats.md`,
 //! "The database after a change", and in `docs/crash-safety.md`, "A change of several files"; the
 //! limits in `docs/formats.md`, "Canonical layout".
-ghost use Rattle.added_packages.specs.adb_write.Canonical.{counts_at_first_overflow};
+ghost use Rattle.change_outcome.specs.adb_write.Canonical.{counts_at_first_overflow};
 ghost use Rattle.change_report.specs.change_inputs.Answers.{Agrees};
 ghost use Rattle.change_report.specs.change_outcome.ChangeOutcome.{is_absent_or_different, or_result_too_large, unless_overflow};
 ghost use Rattle.change_report.specs.db_core.Seen.{members_of};
-ghost use Rattle.change_report.specs.db_write.NewDatabase.{database_of};
+ghost use Rattle.change_report.specs.db_core.NewDatabase.{database_of};
 ghost use Rattle.change_report.specs.journal_core.Staged.{new_stage_of_removals_and_writes};
 ghost use Rattle.change_report.specs.journal_intent.Intent.{AreDistinctNamesAllowedInIntent};
 ghost use Rattle.change_report.specs.journal_intent.IntentValue.{intent_of_lists, value_of_intent};
 ghost use Rattle.std.specs.Option.{option_copied};
 ghost use Rattle.std.specs.Prelude.{◌≡◌, ◌++◌, true, IfOk};
 
-use added_packages::WriteFault;
+use change_outcome::WriteFault;
 use base_core::Names;
 use change_report::{Members, Owned, Refused, Stage, write_db};
 use report_core::Refusal;

@@ -2,7 +2,7 @@
 //! and the report are made in memory. The rules are in `docs/commands.md`, "`add` and `del`" (what
 //! is written, reported and refused), in `docs/formats.md`, "The database after a change", and in
 //! `docs/crash-safety.md`, "A change of several files".
-ghost use Rattle.added_packages.specs.adb_write.Canonical.{counts_at_first_overflow};
+ghost use Rattle.change_outcome.specs.adb_write.Canonical.{counts_at_first_overflow};
 ghost use Rattle.base_core.specs.Files.{Files};
 ghost use Rattle.base_core.specs.Tree.{TreeState};
 ghost use Rattle.change_report.specs.change_inputs.Answers.{Agrees};
@@ -10,7 +10,7 @@ ghost use Rattle.change_report.specs.change_inputs.Seen.{inputs_seen};
 ghost use Rattle.change_report.specs.change_outcome.ChangeOutcome.{change_report, has_actions, packages_before_and_after_with_purge, or_result_too_large, unless_overflow};
 ghost use Rattle.change_report.specs.change_outcome.MembersAfter.{MemberFound};
 ghost use Rattle.change_report.specs.db_core.Seen.{members_of};
-ghost use Rattle.change_report.specs.db_write.NewDatabase.{database_of};
+ghost use Rattle.change_report.specs.db_core.NewDatabase.{database_of};
 ghost use Rattle.change_report.specs.journal_intent.IntentValue.{intent_of_lists, value_of_intent};
 ghost use Rattle.engine_core.specs.Preparing.{AreRecordWrites, AreNewRecordsOf, IsPlannedFromSomeFiles, IsPlanned, bytes_if, inputs_of_plan, replacement_of_plan, wishes_of_plan};
 ghost use Rattle.engine_core.specs.Rendering.{AreWritesOf, IsRefusedForOverflow, IsRendered, IsStageOf, removals_of_plan};
@@ -23,7 +23,7 @@ use crate::records::{begin_stage, is_absent_or_different, new_database};
 use crate::removals::removals_of;
 use crate::wishes::names_to_remove;
 use crate::writes::{RecordWrites, names_of, writes_of};
-use added_packages::a_package_that_was_read_is_that_of_its_file;
+use change_outcome::a_package_that_was_read_is_that_of_its_file;
 use base_core::{Name, Names, Text};
 use change_report::{
     Changes, Loaded, Refused, ReportedChange, Stage, change_report,

@@ -14,7 +14,7 @@ use Rattle.engine_core.specs.change_outcome.MembersAfter.{MemberFound, added_pac
 use Rattle.engine_core.specs.change_outcome.PackageFiles.{AddedPackage, first_script_number_of_package, package_file_path_of_candidate, added_package_or_refusal, scripts_of_change, package_unless_other_than_candidate, unless_script_number, package_unless_bad_or_different, unless_script_needed}
 use Rattle.engine_core.specs.change_outcome.Triggers.{folders_of_paths, has_due_trigger, unless_trigger_due}
 use Rattle.tell_core.specs.db_core.Members.{Member}
-use Rattle.engine_core.specs.db_write.NewDatabase.{database_of}
+use Rattle.engine_core.specs.db_core.NewDatabase.{database_of}
 use Rattle.dep_core.specs.Repositories.{Repository}
 use Rattle.tell_core.specs.file_owners.Owners.{first_contested_member_path_in_byte_order, owned_flags_of}
 use Rattle.engine_core.specs.journal_intent.IntentValue.{intent_of_lists, value_of_intent}

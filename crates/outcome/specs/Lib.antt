@@ -3,7 +3,7 @@ pub use Rattle.demo_lines.specs as demo_lines
 pub use Rattle.engine_core.specs as engine_core
 pub use Rattle.engine_core.specs.change_files as change_files
 pub use Rattle.engine_core.specs.change_outcome as change_outcome
-pub use Rattle.engine_core.specs.db_write as db_write
+pub use Rattle.engine_core.specs.db_core as db_core
 pub use Rattle.engine_core.specs.journal_core as journal_core
 pub use Rattle.engine_core.specs.journal_intent as journal_intent
 pub use Rattle.engine_core.specs.package_changes as package_changes
@@ -23,7 +23,6 @@ pub use Rattle.tell_core.specs.adb_sound as adb_sound
 pub use Rattle.tell_core.specs.audit_core as audit_core
 pub use Rattle.tell_core.specs.candidate_core as candidate_core
 pub use Rattle.tell_core.specs.change_inputs as change_inputs
-pub use Rattle.tell_core.specs.db_core as db_core
 pub use Rattle.tell_core.specs.file_owners as file_owners
 pub use Rattle.tell_core.specs.installed_info as installed_info
 pub use Rattle.tell_core.specs.path_claims as path_claims

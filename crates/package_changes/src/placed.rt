@@ -1,5 +1,5 @@
 //! What happens to each package, name by name, also to the kept ones. `Changes` and the reading of
-//! added packages (`added_packages`) use it. The rules are in `docs/commands.md`, "`add` and
+//! added packages (`change_outcome`) use it. The rules are in `docs/commands.md`, "`add` and
 //! `del`", part "What is reported", and "`upgrade` and `fix`"; the terms in `docs/names.md`, "A
 //! change of what is installed".
 ghost use Rattle.change_files.specs.adb_fields.Repeated.{package_name};

@@ -6,7 +6,7 @@ use crate::package::database_file;
 use adb_schema::ReadFault;
 use base_core::Words;
 use db_core::{Db, Members};
-use db_write::write_db;
+use db_core::write_db;
 use own_core::plan;
 use pkg_core::Front;
 use row_lines::Answer;

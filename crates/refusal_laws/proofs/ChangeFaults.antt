@@ -17,7 +17,7 @@ use Rattle.outcome.specs.change_outcome.PackageFiles.{has_script_with_number}
 use Rattle.report_core.specs.Numbers.{TRIGGER_SCRIPT}
 use Rattle.outcome.specs.change_outcome.Triggers.{folders_of_paths, has_due_trigger, is_trigger_due, is_folder_matched_by_pattern, watches_folder, trigger_patterns_of_package, unless_trigger_due}
 use Rattle.outcome.specs.db_core.Members.{Member, member_name}
-use Rattle.outcome.specs.db_write.NewDatabase.{database_file_of_payload_unless_too_large, database_of, database_value}
+use Rattle.outcome.specs.db_core.NewDatabase.{database_file_of_payload_unless_too_large, database_of, database_value}
 use Rattle.outcome.specs.file_owners.Owners.{first_contested_member_path_in_byte_order, owned_flags_of}
 use Rattle.outcome.specs.journal_intent.IntentValue.{intent_of_lists, value_of_intent}
 use Rattle.outcome.proofs.journal_intent.Rooted.{payload_large}

@@ -15,7 +15,7 @@ use Rattle.outcome.specs.change_outcome.PackageFiles.{has_script_with_number}
 use Rattle.report_core.specs.Numbers.{TRIGGER_SCRIPT}
 use Rattle.outcome.specs.change_outcome.Triggers.{is_folder_matched_by_pattern, trigger_patterns_of_package}
 use Rattle.outcome.specs.db_core.Members.{Listing, Member, listings_of_members, member_name}
-use Rattle.outcome.specs.db_write.NewDatabase.{database_of, database_value}
+use Rattle.outcome.specs.db_core.NewDatabase.{database_of, database_value}
 use Rattle.outcome.specs.file_owners.Owners.{owned_flags_of, owner_of_path}
 use Rattle.outcome.specs.file_owners.Replaces.{takes_over}
 use Rattle.outcome.specs.journal_intent.IntentValue.{value_of_intent}

@@ -9,7 +9,7 @@ use Rattle.adb_view.specs.Plain.{Plain, Shape, Fields, null, int, blob_or_null, 
 use Rattle.adb_view.specs.Shaped.{Each, HasShape, HaveShapes}
 use Rattle.adb_view.proofs.FoundShapes.{arr_value_shape, blob_value_text, obj_value_shape}
 use Rattle.adb_view.proofs.Normal.{arr_normal, blob_value_normal, obj_normal}
-use Rattle.engine_core.proofs.db_write.RootParts.{EachIn}
+use Rattle.engine_core.proofs.db_core.RootParts.{EachIn}
 use Rattle.dep_core.specs.Dependency.{Dependency, is_dependency_name_by_bytes_and_length}
 use Rattle.dep_core.specs.DependencyText.{IsDependency, is_constraint_or_none, is_tag_or_none, operator_text}
 use Rattle.dep_core.specs.Reading.{dependency_of}

@@ -8,7 +8,7 @@ use Rattle.adb_view.specs.Schema.{shape_of}
 use Rattle.adb_view.specs.declared.tables.Kind.TheVariants.{Obj}
 use Rattle.adb_view.specs.declared.tables.Which.TheVariants as Tables
 use Rattle.adb_view.specs.Plain.{Plain, Shape, null, int, blob_or_null, number as number_shape, hash as hash_shape, array}
-use Rattle.engine_core.proofs.db_write.RootParts.{EachIn}
+use Rattle.engine_core.proofs.db_core.RootParts.{EachIn}
 use Rattle.dep_core.specs.World.{lines_of}
 use Rattle.make_index.specs.make_info.Fields.{TextNumberOrDependency}
 use Rattle.make_index.specs.make_info.Information.{plain_value}

@@ -4,7 +4,7 @@ pub use Rattle.engine_core.specs.candidate_core as candidate_core
 pub use Rattle.engine_core.specs.change_files as change_files
 pub use Rattle.engine_core.specs.change_inputs as change_inputs
 pub use Rattle.engine_core.specs.change_outcome as change_outcome
-pub use Rattle.engine_core.specs.db_write as db_write
+pub use Rattle.engine_core.specs.db_core as db_core
 pub use Rattle.engine_core.specs.file_owners as file_owners
 pub use Rattle.engine_core.specs.package_changes as package_changes
 pub use Rattle.engine_core.specs.path_claims as path_claims

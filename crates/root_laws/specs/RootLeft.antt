@@ -10,7 +10,7 @@ use Rattle.engine_core.specs.change_outcome.ChangeOutcome.{ChangeDone, members_a
 use Rattle.engine_core.specs.change_outcome.MembersAfter.{MemberFound, found_members}
 use Rattle.command_core.specs.Command.{CommandLine}
 use Rattle.engine_core.specs.db_core.Members.{Member}
-use Rattle.engine_core.specs.db_write.NewDatabase.{packages_in_new_database}
+use Rattle.engine_core.specs.db_core.NewDatabase.{packages_in_new_database}
 use Rattle.dep_core.specs.World.{world_text}
 use Rattle.engine_core.specs.Changed.{InputsAndReplacement, selected_from_reads_by_choice}
 use Rattle.engine_core.specs.Wishes.{wishes_of}

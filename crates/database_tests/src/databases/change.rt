@@ -4,7 +4,7 @@ use adb_schema::ReadFault;
 use adb_write::WriteFault;
 use base_core::Words;
 use db_core::{Db, Members, Owned};
-use db_write::write_db;
+use db_core::write_db;
 use pkg_core::Front;
 use row_members::{add_coming, add_installed, front_of, name_at};
 use std::alloc::{AllocError, Global};

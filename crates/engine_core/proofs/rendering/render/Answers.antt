@@ -1,6 +1,6 @@
 use Rattle.std.proofs.Common.{◌≡◌, Bool, Option, Ok, List, ap, map, refl, sym, subst, true}
 use Rattle.std.specs.Prelude.{IfErr, slice_get, Some}
-use Rattle.added_packages.specs.adb_write.Canonical.{counts_at_first_overflow}
+use Rattle.change_outcome.specs.adb_write.Canonical.{counts_at_first_overflow}
 use Rattle.change_report.specs.change_inputs.declared.root.Refused.TheVariants.{Memory}
 use Rattle.change_report.specs.change_outcome.ChangeOutcome.{unless_overflow}
 use Rattle.change_report.specs.db_core.Members.{Member}

@@ -1,5 +1,0 @@
-use Rattle.added_packages.proofs.LaterReads.{later_reads}
-use Rattle.added_packages.proofs.arrivals.packages_after_a_change_depend_on_their_reads.Goals as goal
-
-pub returns : goal.returns
-returns c = later_reads

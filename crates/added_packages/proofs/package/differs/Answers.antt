@@ -1,4 +1,0 @@
-use Rattle.added_packages.proofs.package.differs.Goals as goal
-
-pub returns : goal.returns
-returns c = c.told.ensures _ c.package_differs.ensures

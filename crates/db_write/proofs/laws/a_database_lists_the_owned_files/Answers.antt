@@ -1,5 +1,0 @@
-use Rattle.db_write.proofs.OwnedPaths.{all_owned_listed}
-use Rattle.db_write.proofs.laws.a_database_lists_the_owned_files.Goals as goal
-
-pub returns : goal.returns
-returns c = all_owned_listed
