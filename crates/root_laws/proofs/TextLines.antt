@@ -22,9 +22,9 @@ use Rattle.command_core.specs.Operands.{is_decimal_without_leading_zeros}
 use Rattle.hex.specs.Hex.{decode_of as hex_bytes}
 use Rattle.hex.specs.declared.error.FromHexError.{FromHexError}
 use Rattle.std.specs.Str.Parse.{digits_value}
-use Rattle.make_index.specs.make_info.Fields.{TextNumberOrDependency, need, dependency_value_and_others, decimal_number_without_leading_zeros, dependency_if_untagged, untagged_dependency_in, dependency_values_of_parts, nonempty_parts_between_spaces, text_value_if}
-use Rattle.make_index.specs.make_info.Information.{plain_value}
-use Rattle.make_index.specs.make_info.Values.{number_or_null, plains_of_list}
+use Rattle.make_core.specs.make_info.Fields.{TextNumberOrDependency, need, dependency_value_and_others, decimal_number_without_leading_zeros, dependency_if_untagged, untagged_dependency_in, dependency_values_of_parts, nonempty_parts_between_spaces, text_value_if}
+use Rattle.make_core.specs.make_info.Information.{plain_value}
+use Rattle.make_core.specs.make_info.Values.{number_or_null, plains_of_list}
 use Rattle.engine_core.specs.v2_core.Database.{array_or_null_of_list, trimmed_object_or_null_of_list}
 use Rattle.engine_core.specs.v2_core.Records.{InfoLine, info_line_from_parts}
 use Rattle.engine_core.specs.v2_lines.Accesses.{Access, access_from_parts, access_in, before_colon, after_colon, is_uid_or_gid, is_octal, octal_number}
@@ -34,7 +34,7 @@ use Rattle.engine_core.specs.v2_lines.Lines.{RecordLine, info_line, folder_line,
 use Rattle.engine_core.specs.v2_lines.declared.field.Grammar.{Grammar}
 use Rattle.engine_core.specs.v2_lines.declared.field.Grammar.TheVariants as Grammars
 use Rattle.engine_core.specs.v2_lines.declared.field.InfoField.{InfoField}
-use Rattle.make_index.specs.adb_schema.Rules.{is_folder_name, is_one_part}
+use Rattle.make_core.specs.adb_schema.Rules.{is_folder_name, is_one_part}
 
 -- ---- values that fit a field
 
