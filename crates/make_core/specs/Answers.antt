@@ -1,6 +1,6 @@
 -- What the calls that make a package ensure of their results.
--- No document has a rule for this: it serves the contracts of `src/` and of `make_core`. What is made is defined by
--- *made_package* of `Making`, after `docs/commands.md`, "`mkpkg`".
+-- No document has a rule for this: it serves the contracts of `src/packages` and of `src/commands.rt`. What is made is
+-- defined by *made_package* of `Making`, after `docs/commands.md`, "`mkpkg`".
 use Rattle.command_core.specs.declared.values.TheConstants.{FILES}
 use Rattle.std.specs.Prelude.{◌≡◌, ℕ, List, [], ◌∷◌, Option, Some, None, Result, Ok, Err, Vec}
 use Rattle.std.specs.Borrow.{Bor}

@@ -1,5 +1,5 @@
 -- The files that the operands of `mkndx` name, and what reads of a tree find.
--- No rule of a document: serves the contracts of `src/index.rt`.
+-- No rule of a document: serves the contracts of `src/indexes/index.rt` and `src/commands.rt`.
 use Rattle.std.specs.Prelude.{◌≡◌, ℕ, ◌+◌, List, [], ◌∷◌, Some}
 use Rattle.base_core.specs.Files.{AreFileBytes}
 use Rattle.base_core.specs.Tree.{TreeState, files_of}

@@ -1,7 +1,7 @@
 -- The part of a package that is kept until the index is written, and the results of the calls that keep
 -- it.
 -- Only `docs/DECISIONS.md`, "Making", has a rule for this, on entries that are too large. It serves the
--- contracts of `src/entry.rt` and `src/source.rt`.
+-- contracts of `src/indexes/entry.rt` and `src/indexes/source.rt`.
 use Rattle.std.specs.Prelude.{◌≡◌, ℕ, List, true, IsTrue, is_none, Option, Some, Result, Ok, Err}
 use Rattle.base_core.specs.declared.cause.Cause.{Cause}
 use Rattle.adb_view.specs.Head.{payload_head_fault, root_word_of_payload}

@@ -1,6 +1,6 @@
 -- Scripts as values of the program.
--- No document has a rule for this: it serves the contracts of `src/reading.rt` and `src/writing.rt`,
--- whose types are slices.
+-- No document has a rule for this: it serves the contracts of `src/packages/reading.rt` and
+-- `src/packages/writing.rt`, whose types are slices.
 use Rattle.std.specs.Prelude.{◌≡◌, List, Vec, map}
 use Rattle.std.specs.declared.alloc.Global.{Global}
 use Rattle.package_files.specs.Package as packages

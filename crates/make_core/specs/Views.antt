@@ -1,5 +1,6 @@
--- What the program's entries denote.
--- No document has a rule for this: it serves the contracts of `src/entry.rt` and `src/index.rt`.
+-- What the program's entries of an index denote.
+-- No document has a rule for this: it serves the contracts of `src/indexes/entry.rt` and
+-- `src/indexes/index.rt`.
 use Rattle.std.specs.Prelude.{List, Vec, map}
 use Rattle.std.specs.declared.alloc.Global.{Global}
 use Rattle.adb_view.specs.Plain.{Plain}

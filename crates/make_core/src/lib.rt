@@ -2,10 +2,10 @@
 //! returns the bytes of a sound container.
 //!
 //! `packages` makes a package, and `indexes` makes an index. The contracts cite `Making` (the
-//! package of a command), `Entries` (the entry of a package in an index), `EntryOrder` and `Index`
-//! (the index of a command) of `specs/`. What a package is made of, and its value, is defined in
-//! `package_files`; the information of a package and the output's name, in `make_info`. `laws` says
-//! that the results are sound and are read back.
+//! package of a command) and `Index` (the index of a command) of `specs/`. An index has the entries
+//! that `Entries` defines, in the order of `EntryOrder`. What a package is made of, and its value,
+//! is defined in `package_files`; the information of a package and the output's name, in
+//! `make_info`. `laws` says that the results are sound and are read back.
 //! The rules are in `docs/commands.md`, "`mkpkg`" and "`mkndx PACKAGE..`"; what the tests of a
 //! container are, in `docs/formats.md`, "Tests of a container".
 #![tactic(auto)]

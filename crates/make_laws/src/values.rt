@@ -1,6 +1,6 @@
 //! Which values `-I` of `mkpkg` accepts, what `--script` gives, and the values of a package and of
 //! an index, field by field: laws over the definitions of `make_info`, `package_files` and
-//! `make_index`.
+//! `make_core`.
 //! The rules are in `docs/commands.md`, "`mkpkg`" (the table of fields) and "`mkndx PACKAGE..`";
 //! the names of fields in `docs/formats.md`, "Schemas".
 ghost use Rattle.make_core.specs.adb_copy.Zeros.{without_zeros};

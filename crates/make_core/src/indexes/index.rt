@@ -52,7 +52,11 @@ use version_core::order_is_total;
 ///
 /// Operand by operand, `FileMissing` or `FileBad` at the operand's place; then `TooLarge` if the
 /// index exceeds a limit of the writer. `Disk` if the tree failed, and `Memory`.
-pub fn make<T: Tree>(alloc: Global, command: &Command, tree: &mut T) -> Result<Vec<u8>, MakeFault>
+pub(crate) fn make<T: Tree>(
+    alloc: Global,
+    command: &Command,
+    tree: &mut T,
+) -> Result<Vec<u8>, MakeFault>
     // The command is `mkndx`.
     requires { command.now.applet ≡ Applet.Mkndx }
     // If the tree is observable, the result is the index of its files or the first refusal, unless

@@ -24,7 +24,11 @@ use std::alloc::Global;
 /// `read_information` says; then `FileMissing` at the folder's place if a listed file is gone; then
 /// `TooLarge` if the package's values exceed a limit of the writer. `Disk` if the tree failed, and
 /// `Memory`.
-pub fn make<T: Tree>(alloc: Global, command: &Command, tree: &mut T) -> Result<Vec<u8>, MakeFault>
+pub(crate) fn make<T: Tree>(
+    alloc: Global,
+    command: &Command,
+    tree: &mut T,
+) -> Result<Vec<u8>, MakeFault>
     // The command is `mkpkg`.
     requires { command.now.applet ≡ Applet.Mkpkg }
     // The tree is only read, and `Disk` has a fault of the tree as its cause.

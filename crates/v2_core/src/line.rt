@@ -4,10 +4,10 @@
 ghost use Rattle.adb_schema.specs.Rules.{is_folder_name, is_one_part};
 ghost use Rattle.std.specs.Option.{option_map};
 ghost use Rattle.std.specs.Prelude.{◌≡◌, IfOk};
-ghost use Rattle.v2_lines.specs.InfoFields.{field_of_letter};
-ghost use Rattle.v2_lines.specs.InfoValues.{sha1_in_text};
-ghost use Rattle.v2_lines.specs.Lines.{file_hash_line, folder_line_if_path, file_line_if_one_part, info_line_or_skipped_if_no_field, record_line_or_skipped_if_letter_unknown, record_line_of};
-ghost use Rattle.v2_lines.specs.Views.{line_view};
+ghost use Rattle.v2_core.specs.InfoFields.{field_of_letter};
+ghost use Rattle.v2_core.specs.InfoValues.{sha1_in_text};
+ghost use Rattle.v2_core.specs.Lines.{file_hash_line, folder_line_if_path, file_line_if_one_part, info_line_or_skipped_if_no_field, record_line_or_skipped_if_letter_unknown, record_line_of};
+ghost use Rattle.v2_core.specs.Views.{line_view};
 
 use crate::access::{Access, read_access};
 use crate::field::InfoField;
@@ -35,7 +35,7 @@ const FILE_HASH: u8 = b'Z';
 
 /// The meaning of a record's line (the installed database of apk-tools 2).
 #[derive(Drop)]
-pub enum Line<'a> {
+pub(crate) enum Line<'a> {
     /// A field of the package, and its value.
     Info(InfoField, Value<'a>),
     /// A folder with this path begins; the path of the root is empty.
@@ -54,7 +54,7 @@ pub enum Line<'a> {
 
 /// Reads a line without its line end. None: the line has no `:` after its first byte (the letter),
 /// or its value is not in the letter's grammar.
-pub fn read_line<'a>(alloc: Global, line: &'a [u8]) -> Result<Option<Line<'a>>, AllocError>
+pub(crate) fn read_line<'a>(alloc: Global, line: &'a [u8]) -> Result<Option<Line<'a>>, AllocError>
     ensures { IfOk result (λ found. option_map line_view found ≡ record_line_of line.entry.now) }
 {
     match line {

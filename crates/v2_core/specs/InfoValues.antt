@@ -9,8 +9,8 @@ use Rattle.hex.specs.declared.error.FromHexError.{FromHexError}
 use Rattle.version_core.specs.Order.{is_version}
 use Rattle.dep_core.specs.Dependency.{is_package_name}
 use Rattle.make_info.specs.Fields.{TextNumberOrDependency, text, number, decimal_number_without_leading_zeros, dependency_values_of_parts, nonempty_parts_between_spaces, text_value_if}
-use Rattle.v2_lines.specs.declared.field.Grammar.{Grammar}
-use Rattle.v2_lines.specs.declared.field.Grammar.TheVariants as Grammars
+use Rattle.v2_core.specs.declared.field.Grammar.{Grammar}
+use Rattle.v2_core.specs.declared.field.Grammar.TheVariants as Grammars
 
 -- the decoded bytes, if there are 20 of them, as many as a SHA-1 has
 abbrev pub bytes_if_twenty : Result (List ℕ) DecodeError → Option (List ℕ)

@@ -4,11 +4,11 @@
 use Rattle.std.specs.Prelude.{ℕ, ◌==◌, if◌then◌else◌, List, [], ◌∷◌, Option, Some, None, option_map}
 use Rattle.adb_schema.specs.Rules.{is_folder_name, is_one_part}
 use Rattle.make_info.specs.Fields.{TextNumberOrDependency}
-use Rattle.v2_lines.specs.Accesses.{Access, access_in}
-use Rattle.v2_lines.specs.InfoFields.{field_of_letter, grammar_of}
-use Rattle.v2_lines.specs.InfoValues.{sha1_in_text, values_under_grammar}
-use Rattle.v2_lines.specs.declared.field.InfoField.{InfoField}
-use Rattle.v2_lines.specs.declared.line.TheConstants.{MARK, FOLDER, FOLDER_ACCESS, FILE, FILE_ACCESS, FILE_HASH}
+use Rattle.v2_core.specs.Accesses.{Access, access_in}
+use Rattle.v2_core.specs.InfoFields.{field_of_letter, grammar_of}
+use Rattle.v2_core.specs.InfoValues.{sha1_in_text, values_under_grammar}
+use Rattle.v2_core.specs.declared.field.InfoField.{InfoField}
+use Rattle.v2_core.specs.declared.line.TheConstants.{MARK, FOLDER, FOLDER_ACCESS, FILE, FILE_ACCESS, FILE_HASH}
 
 -- the meaning of a line: `info_line` is a field of the package and its values; `folder_line` begins a folder with
 -- this path, and `file_line` a file of this name. The access lines have the owner and mode of the last folder or

@@ -6,7 +6,7 @@ ghost use Rattle.std.specs.List.{list_all};
 ghost use Rattle.std.specs.Option.{option_map};
 ghost use Rattle.std.specs.Prelude.{◌≡◌, ◌==◌, ◌<◌, IfSome, length, position, true};
 ghost use Rattle.std.specs.Char.{is_ascii_digit};
-ghost use Rattle.v2_lines.specs.Accesses.{access_in, access_view, before_colon, after_colon, is_uid_or_gid, is_octal, is_octal_digit, octal_number};
+ghost use Rattle.v2_core.specs.Accesses.{access_in, access_view, before_colon, after_colon, is_uid_or_gid, is_octal, is_octal_digit, octal_number};
 
 use std::str;
 
@@ -15,7 +15,7 @@ const COLON: u8 = b':';
 
 /// The owner of a file or a folder, and its mode.
 #[derive(Clone, Copy)]
-pub struct Access<'a> {
+pub(crate) struct Access<'a> {
     /// The user's number, in decimal digits.
     pub user: &'a [u8],
     /// The group's number, in decimal digits.

@@ -3,10 +3,10 @@
 -- r, i.
 use Rattle.std.specs.Prelude.{ℕ, ◌==◌, Bool, true, false, List, [], ◌∷◌, Option}
 use Rattle.std.specs.List.{find}
-use Rattle.v2_lines.specs.declared.field.InfoField.{InfoField}
-use Rattle.v2_lines.specs.declared.field.InfoField.TheVariants as Fields
-use Rattle.v2_lines.specs.declared.field.Grammar.{Grammar}
-use Rattle.v2_lines.specs.declared.field.Grammar.TheVariants as Grammars
+use Rattle.v2_core.specs.declared.field.InfoField.{InfoField}
+use Rattle.v2_core.specs.declared.field.InfoField.TheVariants as Fields
+use Rattle.v2_core.specs.declared.field.Grammar.{Grammar}
+use Rattle.v2_core.specs.declared.field.Grammar.TheVariants as Grammars
 
 -- the letter with which the lines of a field begin, as the byte of C, P, V, A, T, U, L, o, m, I, t, k,
 -- q, c, D, p, r or i

@@ -8,10 +8,10 @@ use Rattle.std.proofs.lemmas.Iterator.Consumers.{YieldsList-turn, YieldsList-end
 use Rattle.std.proofs.lemmas.List.{length_push}
 use Rattle.make_info.specs.Fields.{dependency_values_of_parts, nonempty_parts_between_spaces}
 use Rattle.make_info.specs.Reading.{nonempty_part}
-use Rattle.v2_lines.specs.InfoValues.{with_needs}
-use Rattle.v2_lines.specs.Views.{needs_view}
-use Rattle.v2_lines.proofs.NeedLists.{more_needs, no_needs_before, no_needs_left, stopped_needs}
-use Rattle.v2_lines.proofs.value.read_needs.Goals as goal
+use Rattle.v2_core.specs.InfoValues.{with_needs}
+use Rattle.v2_core.specs.Views.{needs_view}
+use Rattle.v2_core.proofs.NeedLists.{more_needs, no_needs_before, no_needs_left, stopped_needs}
+use Rattle.v2_core.proofs.value.read_needs.Goals as goal
 
 pub loop-part-init : goal.loop-part-init
 loop-part-init c =

@@ -3,11 +3,11 @@
 //! The rules are in `docs/formats.md`, "Text database of version 2", the table, from C to the row
 //! D, p, r, i.
 ghost use Rattle.std.specs.Prelude.{◌≡◌, ◌==◌};
-ghost use Rattle.v2_lines.specs.InfoFields.{info_field_among, field_of_letter, grammar_of, is_list_info_field, letter_of};
+ghost use Rattle.v2_core.specs.InfoFields.{info_field_among, field_of_letter, grammar_of, is_list_info_field, letter_of};
 
 /// A field of a package that a line gives (the installed database of apk-tools 2).
 #[derive(Clone, Copy, Debug, PartialEq, Eq)]
-pub enum InfoField {
+pub(crate) enum InfoField {
     /// The field of lines `C:value`.
     Hashes,
     /// The field of lines `P:value`.
@@ -48,7 +48,7 @@ pub enum InfoField {
 
 /// The grammar of a field's values.
 #[derive(Clone, Copy)]
-pub enum Grammar {
+pub(crate) enum Grammar {
     /// `Q1` and the base64 of the 20 bytes of a SHA-1.
     Sha1Text,
     /// A package's name.
@@ -149,7 +149,7 @@ impl InfoField {
     }
 
     /// Whether a record may have several lines of the field, each of which adds to a list.
-    pub fn is_list_info_field(self) -> bool
+    pub(crate) fn is_list_info_field(self) -> bool
         ensures { result ≡ is_list_info_field self }
     {
         matches!(

@@ -8,7 +8,7 @@ use Rattle.std.specs.Str.Parse.{AllDigits, IsNumeral, ParsesUnsigned, digits_val
 use Rattle.std.proofs.lemmas.Bool.{and_parts, lt-ltb, ltb-true}
 use Rattle.std.proofs.lemmas.Bool.Decides.{nat_tests}
 use Rattle.make_info.proofs.Numbers.{fits, fits_not}
-use Rattle.v2_lines.specs.Accesses.{is_octal, is_octal_digit, octal_number}
+use Rattle.v2_core.specs.Accesses.{is_octal, is_octal_digit, octal_number}
 
 pub octal_digits : (ds : List ℕ) → is_octal ds ≡ true → list_all is_octal_digit ds ≡ true
 octal_digits ds h = (and_parts (not (length ds == 0)) (list_all is_octal_digit ds) h).1

@@ -8,8 +8,8 @@ use Rattle.dep_core.specs.declared.dep.Dep.{Dep}
 use Rattle.dep_core.specs.Meets.{dependency}
 use Rattle.make_info.specs.Fields.{TextNumberOrDependency, need, is_nonempty, untagged_dependency_in, dependency_values_of_parts, dependency_value_and_others}
 use Rattle.make_info.specs.Reading.{nonempty_part}
-use Rattle.v2_lines.specs.InfoValues.{with_needs}
-use Rattle.v2_lines.specs.Views.{needs_view}
+use Rattle.v2_core.specs.InfoValues.{with_needs}
+use Rattle.v2_core.specs.Views.{needs_view}
 
 with_none : (xs : Option (List TextNumberOrDependency)) → with_needs [] xs ≡ xs
 with_none None = refl

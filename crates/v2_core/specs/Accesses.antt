@@ -5,8 +5,8 @@ use Rattle.std.specs.Prelude.{ℕ, ◌^◌, ◌==◌, nat_lt, nat_le, Bool, not,
 use Rattle.std.specs.Char.{is_ascii_digit}
 use Rattle.std.specs.List.{after_first, before_first, list_all}
 use Rattle.std.specs.Str.Parse.{digits_value}
-use Rattle.v2_lines.specs.declared.access.Access.{Access as AccessSlices}
-use Rattle.v2_lines.specs.declared.access.TheConstants.{COLON}
+use Rattle.v2_core.specs.declared.access.Access.{Access as AccessSlices}
+use Rattle.v2_core.specs.declared.access.TheConstants.{COLON}
 
 -- an access: the owner of a file or a folder, and its mode; the numbers of the user and of the group
 -- are kept as texts

@@ -1,8 +1,8 @@
 use Rattle.std.proofs.Common.{◌≡◌, true, sym, ◌∙◌}
 use Rattle.std.proofs.lemmas.Str.{IsUtf8-from_ascii}
-use Rattle.v2_lines.specs.Accesses.{is_octal}
-use Rattle.v2_lines.proofs.Octal.{octal_ascii, octal_digits, parsed_octal}
-use Rattle.v2_lines.proofs.access.read_octal.Goals as goal
+use Rattle.v2_core.specs.Accesses.{is_octal}
+use Rattle.v2_core.proofs.Octal.{octal_ascii, octal_digits, parsed_octal}
+use Rattle.v2_core.proofs.access.read_octal.Goals as goal
 
 pub returns-in-Ok : goal.returns-in-Ok
 returns-in-Ok c =

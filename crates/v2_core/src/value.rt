@@ -8,9 +8,9 @@ ghost use Rattle.make_info.specs.Fields.{decimal_number_without_leading_zeros, d
 ghost use Rattle.make_info.specs.Reading.{nonempty_part};
 ghost use Rattle.std.specs.Option.{option_map};
 ghost use Rattle.std.specs.Prelude.{◌≡◌, ◌++◌, ◌==◌, IfOk, None, Some, if◌then◌else◌, length};
-ghost use Rattle.v2_lines.specs.InfoFields.{grammar_of};
-ghost use Rattle.v2_lines.specs.InfoValues.{commit_values, list_of_one_number_value, list_of_one_text_value, sha1_in_text, bytes_if_twenty, values_under_grammar, with_needs};
-ghost use Rattle.v2_lines.specs.Views.{bytes_view, needs_view, line_value_view};
+ghost use Rattle.v2_core.specs.InfoFields.{grammar_of};
+ghost use Rattle.v2_core.specs.InfoValues.{commit_values, list_of_one_number_value, list_of_one_text_value, sha1_in_text, bytes_if_twenty, values_under_grammar, with_needs};
+ghost use Rattle.v2_core.specs.Views.{bytes_view, needs_view, line_value_view};
 
 use crate::field::{Grammar, InfoField};
 use base64::DecodeAllocError;
@@ -26,7 +26,7 @@ const SHA1_LEN: usize = 20;
 
 /// The value of a line for its field.
 #[derive(Drop)]
-pub enum Value<'a> {
+pub(crate) enum Value<'a> {
     /// The unchanged text.
     Text(&'a [u8]),
     /// The bytes of a hash or of a commit, decoded.
