@@ -3,8 +3,8 @@
 //! line.
 //!
 //! The contracts cite `Payload` (what comes out), `Reading` (the records of a text), `Records` and
-//! `Database` (the value of records) of `specs/`, and what a line says: `InfoFields` (the letters,
-//! and the grammar of each one's values), `InfoValues`, `Accesses` and `Lines`.
+//! `Database` (the value of records) of `specs/`. What a line says is defined in `InfoFields` (the
+//! letters, and the grammar of each one's values), `InfoValues`, `Accesses` and `Lines`.
 //! The rules are in `docs/formats.md`, "Text database of version 2".
 #![tactic(auto)]
 
