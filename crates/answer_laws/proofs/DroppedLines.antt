@@ -7,12 +7,12 @@ use Rattle.adb_view.specs.Plain.{Plain, null}
 use Rattle.adb_view.specs.Values.{entries_in}
 use Rattle.adb_view.proofs.ValueEntries.{entries_arr, nth_obj}
 use Rattle.change_outcome.specs.make_info.Values.{plains_of_list}
-use Rattle.change_outcome.specs.v2_lines.InfoFields.{field_of_letter, grammar_of, info_field_among, info_fields, letter_of}
-use Rattle.change_outcome.specs.v2_lines.InfoValues.{sha1_in_text, values_under_grammar}
-use Rattle.change_outcome.specs.v2_lines.Lines.{RecordLine, info_line, folder_line, folder_access_line, file_line, file_access_line, file_hash_line, other_line, folder_line_if_path, file_line_if_one_part, info_line_or_skipped_if_no_field, record_line_or_skipped_if_letter_unknown, record_line_of}
-use Rattle.change_outcome.specs.v2_lines.Accesses.{access_in}
-use Rattle.change_outcome.specs.v2_lines.declared.field.InfoField.{InfoField}
-use Rattle.change_outcome.specs.v2_lines.declared.field.InfoField.TheVariants as Letters
+use Rattle.change_outcome.specs.v2_core.InfoFields.{field_of_letter, grammar_of, info_field_among, info_fields, letter_of}
+use Rattle.change_outcome.specs.v2_core.InfoValues.{sha1_in_text, values_under_grammar}
+use Rattle.change_outcome.specs.v2_core.Lines.{RecordLine, info_line, folder_line, folder_access_line, file_line, file_access_line, file_hash_line, other_line, folder_line_if_path, file_line_if_one_part, info_line_or_skipped_if_no_field, record_line_or_skipped_if_letter_unknown, record_line_of}
+use Rattle.change_outcome.specs.v2_core.Accesses.{access_in}
+use Rattle.change_outcome.specs.v2_core.declared.field.InfoField.{InfoField}
+use Rattle.change_outcome.specs.v2_core.declared.field.InfoField.TheVariants as Letters
 use Rattle.change_outcome.specs.v2_core.Database.{record_value}
 use Rattle.change_outcome.specs.v2_core.Records.{Record}
 use Rattle.installed_info.specs.adb_schema.Rules.{is_folder_name, is_one_part}

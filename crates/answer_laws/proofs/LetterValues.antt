@@ -15,11 +15,11 @@ use Rattle.change_outcome.specs.make_info.declared.field.Field.{Field}
 use Rattle.change_outcome.specs.make_info.declared.field.Field.TheVariants as Options
 use Rattle.make_laws.specs.OptionGrammar.{FieldTextGivesValues}
 use Rattle.make_laws.proofs.FieldValues.{says_from, says_to}
-use Rattle.change_outcome.specs.v2_lines.InfoFields.{field_of_letter, grammar_of, letter_of}
-use Rattle.change_outcome.specs.v2_lines.InfoValues.{commit_values, sha1_in_text, bytes_if_twenty, values_under_grammar}
-use Rattle.change_outcome.specs.v2_lines.Lines.{info_line, record_line_or_skipped_if_letter_unknown}
-use Rattle.change_outcome.specs.v2_lines.declared.field.InfoField.{InfoField}
-use Rattle.change_outcome.specs.v2_lines.declared.field.InfoField.TheVariants as Letters
+use Rattle.change_outcome.specs.v2_core.InfoFields.{field_of_letter, grammar_of, letter_of}
+use Rattle.change_outcome.specs.v2_core.InfoValues.{commit_values, sha1_in_text, bytes_if_twenty, values_under_grammar}
+use Rattle.change_outcome.specs.v2_core.Lines.{info_line, record_line_or_skipped_if_letter_unknown}
+use Rattle.change_outcome.specs.v2_core.declared.field.InfoField.{InfoField}
+use Rattle.change_outcome.specs.v2_core.declared.field.InfoField.TheVariants as Letters
 use Rattle.answer_laws.specs.TextLetters.{GivesCommit, GivesHash, LineValueGivesFieldValues, letter_line, line_letter}
 
 -- ---- the meaning of a line of a letter

@@ -11,9 +11,9 @@ use Rattle.make_laws.proofs.make_core.PackageFiles.{list-plains}
 use Rattle.make_laws.specs.NamedFields.{entries_of_field_named, field_named}
 use Rattle.change_outcome.specs.v2_core.Database.{array_or_null_of_list, listed_access_value, listed_file_value, listed_folder_value, listed_hash_value, record_value}
 use Rattle.change_outcome.specs.v2_core.Records.{ListedFile, ListedFolder, Record}
-use Rattle.change_outcome.specs.v2_lines.Accesses.{Access, access_in}
-use Rattle.change_outcome.specs.v2_lines.InfoValues.{sha1_in_text}
-use Rattle.change_outcome.specs.v2_lines.Lines.{file_access_line, file_hash_line, file_line_if_one_part, folder_access_line, folder_line_if_path, record_line_or_skipped_if_letter_unknown, record_line_of}
+use Rattle.change_outcome.specs.v2_core.Accesses.{Access, access_in}
+use Rattle.change_outcome.specs.v2_core.InfoValues.{sha1_in_text}
+use Rattle.change_outcome.specs.v2_core.Lines.{file_access_line, file_hash_line, file_line_if_one_part, folder_access_line, folder_line_if_path, record_line_or_skipped_if_letter_unknown, record_line_of}
 use Rattle.answer_laws.specs.TextLetters.{letter_line}
 use Rattle.answer_laws.proofs.DroppedLines.{file_parts}
 use Rattle.answer_laws.proofs.RecordFields.{package_parts}

@@ -6,9 +6,9 @@ use Rattle.change_outcome.specs.make_info.Fields.{TextNumberOrDependency}
 use Rattle.change_outcome.proofs.v2_core.Lists.{with_last-push}
 use Rattle.change_outcome.specs.v2_core.Reading.{record_with_text_line}
 use Rattle.change_outcome.specs.v2_core.Records.{ListedFile, ListedFolder, Record, empty_record, listed_file_from_parts, file_with_access, file_with_hash, listed_folder_from_parts, folder_with_access, folder_with_file, folder_with_files, folder_with_last_file_changed, list_with_last_changed, with_path_line}
-use Rattle.change_outcome.specs.v2_lines.Accesses.{Access}
-use Rattle.change_outcome.specs.v2_lines.declared.field.InfoField.{InfoField}
-use Rattle.change_outcome.specs.v2_lines.Lines.{RecordLine, file_access_line, file_hash_line, file_line, folder_access_line, folder_line, info_line, other_line, record_line_of}
+use Rattle.change_outcome.specs.v2_core.Accesses.{Access}
+use Rattle.change_outcome.specs.v2_core.declared.field.InfoField.{InfoField}
+use Rattle.change_outcome.specs.v2_core.Lines.{RecordLine, file_access_line, file_hash_line, file_line, folder_access_line, folder_line, info_line, other_line, record_line_of}
 use Rattle.answer_laws.specs.TextFiles.{file_access_in, file_hash_in, files_listed, folder_access_in, folders_of_record_lines, lines_up_to_file, lines_up_to_folder}
 use Rattle.answer_laws.specs.TextLetters.{record_with_lines}
 use Rattle.answer_laws.proofs.RecordFields.{accepted}

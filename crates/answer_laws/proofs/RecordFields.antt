@@ -16,10 +16,10 @@ use Rattle.change_outcome.specs.make_info.Information.{plain_value}
 use Rattle.change_outcome.specs.make_info.Values.{plains_of_list}
 use Rattle.make_laws.proofs.make_core.PackageFiles.{list-plains}
 use Rattle.make_laws.specs.SaidOfFields.{HasAllValues, HasValuesAsList, HasFirstValue}
-use Rattle.change_outcome.specs.v2_lines.InfoFields.{is_list_info_field, field_of_letter, letter_of}
-use Rattle.change_outcome.specs.v2_lines.Lines.{RecordLine, info_line, folder_line, folder_access_line, file_line, file_access_line, file_hash_line, other_line, record_line_of}
-use Rattle.change_outcome.specs.v2_lines.declared.field.InfoField.{InfoField}
-use Rattle.change_outcome.specs.v2_lines.declared.field.InfoField.TheVariants as Letters
+use Rattle.change_outcome.specs.v2_core.InfoFields.{is_list_info_field, field_of_letter, letter_of}
+use Rattle.change_outcome.specs.v2_core.Lines.{RecordLine, info_line, folder_line, folder_access_line, file_line, file_access_line, file_hash_line, other_line, record_line_of}
+use Rattle.change_outcome.specs.v2_core.declared.field.InfoField.{InfoField}
+use Rattle.change_outcome.specs.v2_core.declared.field.InfoField.TheVariants as Letters
 use Rattle.change_outcome.specs.v2_core.Database.{array_of_field_values, record_info_value, record_value, value_of_single_line_field, value_of_first_or_null, value_of_line, values_if_line_of_field}
 use Rattle.change_outcome.specs.v2_core.Reading.{record_with_text_line}
 use Rattle.change_outcome.specs.v2_core.Records.{InfoLine, ListedFolder, Record, has_line_of_field, info_line_from_parts, is_line_of_field, record_if_both_parts, with_info_values, with_info_line, with_path_line, with_record_line}

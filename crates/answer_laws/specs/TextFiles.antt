@@ -2,8 +2,8 @@
 -- database of version 2", the rows F, M, R, a and Z. Serves the laws of `src/listed.rt`.
 use Rattle.std.specs.Prelude.{ℕ, List, [], ◌∷◌, Option, Some, None}
 use Rattle.change_outcome.specs.v2_core.Records.{ListedFile, ListedFolder, listed_file_from_parts, listed_folder_from_parts}
-use Rattle.change_outcome.specs.v2_lines.Accesses.{Access}
-use Rattle.change_outcome.specs.v2_lines.Lines.{RecordLine, file_access_line, file_hash_line, file_line, folder_access_line, folder_line, info_line, other_line}
+use Rattle.change_outcome.specs.v2_core.Accesses.{Access}
+use Rattle.change_outcome.specs.v2_core.Lines.{RecordLine, file_access_line, file_hash_line, file_line, folder_access_line, folder_line, info_line, other_line}
 
 -- the lines before the first line that begins a folder; all lines if none does
 abbrev pub lines_up_to_folder : List RecordLine → List RecordLine

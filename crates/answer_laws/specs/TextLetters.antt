@@ -15,8 +15,8 @@ use Rattle.make_laws.specs.OptionGrammar.{SaysNumber, FieldTextGivesValues}
 use Rattle.make_laws.specs.SaidOfFields.{HasValuesAsList}
 use Rattle.change_outcome.specs.v2_core.Reading.{record_with_text_line}
 use Rattle.change_outcome.specs.v2_core.Records.{Record}
-use Rattle.change_outcome.specs.v2_lines.declared.field.InfoField.{InfoField}
-use Rattle.change_outcome.specs.v2_lines.declared.field.InfoField.TheVariants as Letters
+use Rattle.change_outcome.specs.v2_core.declared.field.InfoField.{InfoField}
+use Rattle.change_outcome.specs.v2_core.declared.field.InfoField.TheVariants as Letters
 
 -- ---- the table of letters
 

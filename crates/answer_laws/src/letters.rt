@@ -8,8 +8,8 @@ ghost use Rattle.answer_laws.specs.TextLetters.{BeginsWithUnlistedLetterAndColon
 ghost use Rattle.make_laws.specs.NamedFields.{entries_of_field_named, field_named};
 ghost use Rattle.change_outcome.specs.v2_core.Database.{listed_file_value, record_value, database_value_of_records};
 ghost use Rattle.change_outcome.specs.v2_core.Records.{ListedFile, Record, empty_record};
-ghost use Rattle.change_outcome.specs.v2_lines.Lines.{other_line, record_line_of};
-ghost use Rattle.change_outcome.specs.v2_lines.declared.field.InfoField.{InfoField};
+ghost use Rattle.change_outcome.specs.v2_core.Lines.{other_line, record_line_of};
+ghost use Rattle.change_outcome.specs.v2_core.declared.field.InfoField.{InfoField};
 
 use dep_core::{read_texts_are_spelled, spelled_texts_are_read};
 

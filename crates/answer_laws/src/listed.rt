@@ -9,9 +9,9 @@ ghost use Rattle.answer_laws.specs.TextLetters.{letter_line, record_with_lines};
 ghost use Rattle.make_laws.specs.NamedFields.{entries_of_field_named, field_named};
 ghost use Rattle.change_outcome.specs.v2_core.Database.{listed_access_value, listed_file_value, listed_folder_value, listed_hash_value, record_value};
 ghost use Rattle.change_outcome.specs.v2_core.Records.{ListedFile, ListedFolder, Record, empty_record};
-ghost use Rattle.change_outcome.specs.v2_lines.Accesses.{Access, access_in};
-ghost use Rattle.change_outcome.specs.v2_lines.InfoValues.{sha1_in_text};
-ghost use Rattle.change_outcome.specs.v2_lines.Lines.{RecordLine, file_access_line, file_hash_line, file_line_if_one_part, folder_access_line, folder_line_if_path, record_line_of};
+ghost use Rattle.change_outcome.specs.v2_core.Accesses.{Access, access_in};
+ghost use Rattle.change_outcome.specs.v2_core.InfoValues.{sha1_in_text};
+ghost use Rattle.change_outcome.specs.v2_core.Lines.{RecordLine, file_access_line, file_hash_line, file_line_if_one_part, folder_access_line, folder_line_if_path, record_line_of};
 
 /// The meaning of each letter for folders and files. The access of a folder or file is its mode,
 /// user and group.

@@ -18,7 +18,7 @@ use Rattle.journal_core.specs.Recovery.{EachCrashLeavesStateOf, StateDependsOn, 
 use Rattle.make_core.specs.make_info.Output.{output_name}
 use Rattle.make_core.specs.package_files.Sources.{AreSortedAndEachBelowFirstFolder, values_of_letter}
 use Rattle.command_core.specs.declared.values.TheConstants.{FILES}
-use Rattle.make_core.specs.make_index.Files.{EachOperandReadFindsNoFileOrFileBytes}
+use Rattle.make_core.specs.Files.{EachOperandReadFindsNoFileOrFileBytes}
 use Rattle.make_core.specs.make_info.Reads.{Reads}
 use Rattle.outcome.specs.Make.{mkndx, mkpkg}
 use Rattle.outcome.specs.Commands.{IsPossibleOutcomeWithoutDemo, IsPossibleOutcomeAfterRecovery, IsOutcomeWithoutDemo, IsOutcomeOverRecoveredFiles, reads_in, outcome_from_arguments_alone, effect_outcome, outcome_of_only_reading_files}

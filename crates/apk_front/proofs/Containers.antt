@@ -8,13 +8,13 @@ use Rattle.base_core.specs.Calls.{IfObservable}
 use Rattle.base_core.specs.Files.{Files, no_names}
 use Rattle.base_core.specs.Tree.{TreeState, files_of}
 use Rattle.make_core.specs.make_info.Information.{information}
-use Rattle.make_core.specs.make_index.Index.{made_index}
-use Rattle.make_core.specs.make_index.Kept.{AgreesUnlessMemoryOrDisk}
+use Rattle.make_core.specs.Index.{made_index}
+use Rattle.make_core.specs.Kept.{AgreesUnlessMemoryOrDisk}
 use Rattle.make_core.specs.make_info.Reads.{Reads}
-use Rattle.make_core.specs.make_package.Answers.{IsMadeBySomeReads, IsMadeFromTree, UnlessDiskOrMemory}
-use Rattle.make_core.specs.make_package.Making.{made_package}
+use Rattle.make_core.specs.Answers.{IsMadeBySomeReads, IsMadeFromTree, UnlessDiskOrMemory}
+use Rattle.make_core.specs.Making.{made_package}
 use Rattle.make_core.specs.make_info.Output.{output_name}
-use Rattle.make_core.specs.make_index.Files.{EachOperandReadFindsNoFileOrFileBytes, reads_of}
+use Rattle.make_core.specs.Files.{EachOperandReadFindsNoFileOrFileBytes, reads_of}
 use Rattle.make_core.specs.package_files.Sources.{AreSortedAndEachBelowFirstFolder, values_of_letter}
 use Rattle.make_core.specs.make_info.declared.fault.MakeFault.{MakeFault}
 use Rattle.command_core.specs.declared.values.TheConstants.{FILES}

@@ -20,7 +20,7 @@ use Rattle.adb_view.specs.declared.tables.Which.{Which}
 use Rattle.adb_view.specs.declared.tables.Which.TheVariants.{Package, Index, Idb, Intent}
 use Rattle.adb_view.specs.Adb.{payload_of}
 use Rattle.std.specs.Option.{option_map, option_or}
-use Rattle.make_core.proofs.make_index.IndexReads.{operand_name}
+use Rattle.make_core.proofs.IndexReads.{operand_name}
 use Rattle.command_core.specs.Named.{operand_file}
 use Rattle.make_core.specs.make_info.Reads.{Reads}
 use Rattle.outcome.specs.Commands.{reads_in}

@@ -2,7 +2,7 @@
 use Rattle.std.proofs.Common.{◌≡◌, ℕ, List, [], ◌∷◌, Option, Some, None, Result, Ok, Err, sym, ap, subst, ◌∙◌, length}
 use Rattle.std.specs.List.{slice_get}
 use Rattle.std.specs.Option.{option_map}
-use Rattle.make_core.proofs.make_index.IndexReads.{operand_name}
+use Rattle.make_core.proofs.IndexReads.{operand_name}
 use Rattle.base_core.specs.Calls.{IfObservable}
 use Rattle.base_core.specs.Files.{Files, no_names}
 use Rattle.base_core.specs.Tree.{TreeState, files_of}

@@ -10,8 +10,8 @@ use Rattle.command_core.specs.declared.values.TheConstants.{FILES, SCRIPT}
 use Rattle.make_core.specs.make_info.Information.{FieldWithValue, information}
 use Rattle.make_core.specs.make_info.Reads.{Reads}
 use Rattle.make_core.specs.make_info.declared.fault.MakeFault.{MakeFault}
-use Rattle.make_core.specs.make_package.Answers.{IsSortedListingOfFirstFolder, IsMadeFromTree}
-use Rattle.make_core.specs.make_package.Making.{made_package, or_info_bad, package_of_parts}
+use Rattle.make_core.specs.Answers.{IsSortedListingOfFirstFolder, IsMadeFromTree}
+use Rattle.make_core.specs.Making.{made_package, or_info_bad, package_of_parts}
 use Rattle.make_core.specs.package_files.Sources.{and_then, source_folders_of_first_option_only, values_of_letter, scripts_from_read}
 use Rattle.outcome.specs.Commands.{reads_in}
 use Rattle.outcome.specs.Make.{AreNamesBelowOptionFolder, files_below}

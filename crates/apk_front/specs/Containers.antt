@@ -11,12 +11,12 @@ use Rattle.base_core.specs.Files.{Files}
 use Rattle.base_core.specs.declared.cause.Cause.{Cause}
 use Rattle.command_core.specs.Command.{CommandLine}
 use Rattle.command_core.specs.declared.values.TheConstants.{FILES}
-use Rattle.make_core.specs.make_index.Files.{EachOperandReadFindsNoFileOrFileBytes}
-use Rattle.make_core.specs.make_index.Index.{made_index}
+use Rattle.make_core.specs.Files.{EachOperandReadFindsNoFileOrFileBytes}
+use Rattle.make_core.specs.Index.{made_index}
 use Rattle.make_core.specs.make_info.Reads.{Reads}
 use Rattle.make_core.specs.make_info.declared.fault.MakeFault.{MakeFault}
 use Rattle.make_core.specs.make_info.declared.fault.MakeFault.TheVariants.{Disk, Memory}
-use Rattle.make_core.specs.make_package.Making.{made_package}
+use Rattle.make_core.specs.Making.{made_package}
 use Rattle.make_core.specs.package_files.Sources.{values_of_letter}
 use Rattle.outcome.specs.Commands.{reads_in}
 use Rattle.outcome.specs.Dump.{payload_head_or_shape_fault}

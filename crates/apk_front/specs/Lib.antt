@@ -5,9 +5,8 @@ pub use Rattle.engine_core.specs.change_outcome as change_outcome
 pub use Rattle.engine_core.specs.package_changes as package_changes
 pub use Rattle.journal_core.specs as journal_core
 pub use Rattle.journal_core.specs.journal_intent as journal_intent
-pub use Rattle.make_core.specs.make_index as make_index
+pub use Rattle.make_core.specs as make_core
 pub use Rattle.make_core.specs.make_info as make_info
-pub use Rattle.make_core.specs.make_package as make_package
 pub use Rattle.outcome.specs as outcome
 pub use Rattle.tell_core.specs.change_inputs as change_inputs
 pub use Rattle.tell_core.specs.path_clashes as path_clashes

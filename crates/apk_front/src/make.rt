@@ -2,7 +2,7 @@
 //! in `docs/commands.md`, "`mkpkg`" and "`mkndx PACKAGE..`", and for the writing in
 //! `docs/crash-safety.md`, "A whole file replaced". The container is made by `make_core`.
 ghost use Rattle.std.specs.Prelude.{◌≡◌, ◌≢◌, ◌⊎◌, ℕ, false, true, List, Ok, Err, IsSome, IfOk, IsErrOf, OnOk};
-ghost use Rattle.make_core.specs.make_package.Answers.{IsMadeBySomeReads};
+ghost use Rattle.make_core.specs.Answers.{IsMadeBySomeReads};
 ghost use Rattle.apk_front.specs.Containers.{IsIndexMade, IsIndexFound, IsIndexOutcome, IsPackageMade, IsPackageOutcome, OnMade, is_disk_or_memory, is_making_ended_by_disk_or_memory, made_file_bytes};
 ghost use Rattle.apk_front.specs.Moments.{CanAddOutputNamesIfAny};
 ghost use Rattle.apk_front.specs.RunContracts.{IsMakingRun, IsVerdictExplainedByCounts};
@@ -15,7 +15,7 @@ ghost use Rattle.base_core.specs.Tree.{files_of};
 ghost use Rattle.command_core.specs.Sound.{IsValidCommand};
 ghost use Rattle.command_core.specs.declared.command.Applet.TheVariants.{Mkndx, Mkpkg};
 ghost use Rattle.command_core.specs.declared.values.TheConstants.{FILES};
-ghost use Rattle.make_core.specs.make_index.Files.{EachOperandReadFindsNoFileOrFileBytes};
+ghost use Rattle.make_core.specs.Files.{EachOperandReadFindsNoFileOrFileBytes};
 ghost use Rattle.make_core.specs.make_info.Output.{output_name};
 ghost use Rattle.make_core.specs.make_info.Reads.{Reads};
 ghost use Rattle.make_core.specs.package_files.Sources.{AreSortedAndEachBelowFirstFolder, values_of_letter};

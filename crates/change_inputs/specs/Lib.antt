@@ -5,7 +5,6 @@ pub use Rattle.package_files.specs.adb_sound as adb_sound
 pub use Rattle.package_files.specs.make_info as make_info
 pub use Rattle.pool_core.specs.candidate_core as candidate_core
 pub use Rattle.v2_core.specs as v2_core
-pub use Rattle.v2_core.specs.v2_lines as v2_lines
 -- modules that the contract of `apk` cites
 pub mod Chains
 pub mod Database

@@ -4,7 +4,6 @@ pub use Rattle.change_inputs.specs.candidate_core as candidate_core
 pub use Rattle.change_inputs.specs.make_info as make_info
 pub use Rattle.change_inputs.specs.package_files as package_files
 pub use Rattle.change_inputs.specs.v2_core as v2_core
-pub use Rattle.change_inputs.specs.v2_lines as v2_lines
 pub use Rattle.db_core.specs as db_core
 pub use Rattle.db_core.specs.adb_fields as adb_fields
 pub use Rattle.db_core.specs.adb_schema as adb_schema

@@ -9,9 +9,8 @@ pub use Rattle.change_outcome.specs.journal_intent as journal_intent
 pub use Rattle.change_outcome.specs.package_changes as package_changes
 pub use Rattle.change_outcome.specs.search_tables as search_tables
 pub use Rattle.change_outcome.specs.v2_core as v2_core
-pub use Rattle.change_outcome.specs.v2_lines as v2_lines
-pub use Rattle.make_package.specs.make_info as make_info
-pub use Rattle.make_package.specs.package_files as package_files
+pub use Rattle.package_files.specs as package_files
+pub use Rattle.package_files.specs.make_info as make_info
 pub use Rattle.own_core.specs as own_core
 pub use Rattle.own_core.specs.change_files as change_files
 pub use Rattle.own_core.specs.file_owners as file_owners

@@ -8,14 +8,14 @@ ghost use Rattle.change_outcome.specs.db_core.Seen.{members_of};
 ghost use Rattle.change_report.specs.Due.{refusal_if_trigger_due, planned_paths};
 ghost use Rattle.report_core.specs.Reports.{folder_path_or_slash_for_root, report_line, trigger_due_for_folder_text};
 ghost use Rattle.std.specs.Prelude.{◌≡◌, ◌<◌, ◌++◌, ℕ, List, [], false, if◌then◌else◌, length, map, IfSome, OnOk, IfOk};
-ghost use Rattle.make_package.specs.package_files.Folders.{folder_of};
+ghost use Rattle.package_files.specs.Folders.{folder_of};
 ghost use Rattle.own_core.specs.WritesSeen.{writes_in};
 
 use crate::watched::{has_trigger_script, name_of, watches_folder};
 use base_core::Names;
 use change_outcome::{Members, PackageView, sorted_distinct_names};
-use make_package::folder_of;
 use own_core::{FilePlan, Writes};
+use package_files::folder_of;
 use report_core::Report;
 use std::alloc::{AllocError, Global};
 use std::marker::PhantomData;

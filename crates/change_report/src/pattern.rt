@@ -2,7 +2,7 @@
 //! `docs/commands.md`, "`add` and `del`", part "Which triggers are due": the sentences on patterns.
 ghost use Rattle.base_core.specs.Name.{path_parts_of};
 ghost use Rattle.change_outcome.specs.Triggers.{do_patterns_match_parts_one_to_one, is_folder_matched_by_pattern};
-ghost use Rattle.make_package.specs.package_files.Folders.{is_slash};
+ghost use Rattle.package_files.specs.Folders.{is_slash};
 ghost use Rattle.std.specs.Prelude.{◌≡◌, count_by};
 
 use change_outcome::matches;

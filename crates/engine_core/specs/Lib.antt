@@ -14,7 +14,6 @@ pub use Rattle.change_report.specs.path_claims as path_claims
 pub use Rattle.change_report.specs.path_clashes as path_clashes
 pub use Rattle.change_report.specs.search_tables as search_tables
 pub use Rattle.change_report.specs.v2_core as v2_core
-pub use Rattle.change_report.specs.v2_lines as v2_lines
 pub use Rattle.journal_staging.specs.adb_fields as adb_fields
 pub use Rattle.journal_staging.specs.adb_schema as adb_schema
 pub use Rattle.journal_staging.specs.journal_commit as journal_commit

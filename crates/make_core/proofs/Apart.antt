@@ -11,15 +11,15 @@ use Rattle.std.proofs.lemmas.List.{append-nil}
 use Rattle.base_core.proofs.Listed.{at_index}
 use Rattle.base_core.proofs.Rising.{not_itself}
 use Rattle.adb_view.specs.Plain.{Plain}
-use Rattle.make_index.specs.adb_fields.Pairs.{NameWithPosition}
-use Rattle.make_index.specs.adb_fields.FirstPair.{IsLeastPairIfAny}
-use Rattle.make_index.specs.adb_fields.FirstPair.{IsPairOfEqualNames}
-use Rattle.make_index.specs.adb_fields.FirstPair.{IsIn}
-use Rattle.make_index.specs.adb_fields.Repeated.{positions_of_file_repeated_in_a_folder, files_in, positions_of_folder_repeated_in_a_package, folders_in, name_of, numbered_from, repeated_fault, least_positions_of_name_twice_in_one_list}
-use Rattle.make_index.specs.adb_fields.FirstPair.{ArePositionsOfNameTwiceInOneList}
+use Rattle.adb_copy.specs.adb_fields.Pairs.{NameWithPosition}
+use Rattle.adb_copy.specs.adb_fields.FirstPair.{IsLeastPairIfAny}
+use Rattle.adb_copy.specs.adb_fields.FirstPair.{IsPairOfEqualNames}
+use Rattle.adb_copy.specs.adb_fields.FirstPair.{IsIn}
+use Rattle.adb_copy.specs.adb_fields.Repeated.{positions_of_file_repeated_in_a_folder, files_in, positions_of_folder_repeated_in_a_package, folders_in, name_of, numbered_from, repeated_fault, least_positions_of_name_twice_in_one_list}
+use Rattle.adb_copy.specs.adb_fields.FirstPair.{ArePositionsOfNameTwiceInOneList}
 use Rattle.adb_view.specs.declared.tables.Which.TheVariants.{Package}
-use Rattle.make_package.specs.package_files.Folders.{sorted_folders_with_names_inserted, sorted_names_without_repeats, with_folder_inserted, with_folder_inserted_by_cmp_with_first}
-use Rattle.make_package.specs.package_files.Package.{Script, SourceFileNameAndBytes, SourceFolder, value_of_file, value_of_folder, value_of_package, kind_of_file}
+use Rattle.package_files.specs.Folders.{sorted_folders_with_names_inserted, sorted_names_without_repeats, with_folder_inserted, with_folder_inserted_by_cmp_with_first}
+use Rattle.package_files.specs.Package.{Script, SourceFileNameAndBytes, SourceFolder, value_of_file, value_of_folder, value_of_package, kind_of_file}
 use Rattle.make_core.proofs.PackageFiles.{files_stand, folder_name_stands, folders_stand, name_stands}
 
 abbrev pub cmp : List ℕ → List ℕ → Ordering

@@ -1,7 +1,7 @@
 -- Rules that do not look at what stands around a value.
 use Rattle.std.proofs.Common.{◌≡◌, ℕ, zero, suc, ◌+◌, ◌*◌, List, [], ◌∷◌, Some, None, refl, ap, sym, subst, ◌∙◌, arith, add-zero}
 use Rattle.adb_view.specs.Plain.{Plain, null, Plains, none, more, Shape, number, text, hash, array, object, Fields, no_fields, field}
-use Rattle.make_index.specs.adb_schema.Texts.{Surroundings, Leaf, text_leaf, leaves, field_leaves, leaves_of_all_values, surroundings_of_fields, first_bad_leaf, is_allowed_text_of_field}
+use Rattle.pkg_core.specs.adb_schema.Texts.{Surroundings, Leaf, text_leaf, leaves, field_leaves, leaves_of_all_values, surroundings_of_fields, first_bad_leaf, is_allowed_text_of_field}
 use Rattle.adb_view.specs.Values.{nth, entries_in, text_in}
 use Rattle.base_core.specs.declared.cause.Cause.TheVariants.{BadText}
 use Rattle.std.specs.Prelude.{Bool, if◌then◌else◌}

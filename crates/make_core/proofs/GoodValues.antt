@@ -4,7 +4,7 @@ use Rattle.base_core.specs.declared.cause.Cause.{Cause}
 use Rattle.base_core.specs.declared.cause.Cause.TheVariants.{BadText}
 use Rattle.adb_view.specs.Plain.{Plain, null, int, blob, arr, obj, Plains, none, more, Shape, number, text, hash, array, object, Fields, no_fields, field, blob_or_null, array_or_null, trimmed_object_or_null, prepend_plain_unless_last_null, without_last_nulls, IsNormal, AreNormal}
 use Rattle.adb_view.specs.Shaped.{Each, HasShape, HaveShapes}
-use Rattle.make_index.specs.adb_schema.Texts.{Surroundings, Leaf, number_leaf, text_leaf, keeps_rule, field_number_of_leaf, leaves, field_leaves, leaves_of_all_values, surroundings_of_fields, first_bad_leaf, is_allowed_number_of_field, is_allowed_text_of_field}
+use Rattle.pkg_core.specs.adb_schema.Texts.{Surroundings, Leaf, number_leaf, text_leaf, keeps_rule, field_number_of_leaf, leaves, field_leaves, leaves_of_all_values, surroundings_of_fields, first_bad_leaf, is_allowed_number_of_field, is_allowed_text_of_field}
 use Rattle.adb_view.specs.Values.{text_in}
 use Rattle.adb_view.proofs.FoundShapes.{arr_value_shape, blob_value_hash, blob_value_text, obj_value_shape}
 use Rattle.adb_view.proofs.Normal.{arr_normal, blob_value_normal, obj_normal}

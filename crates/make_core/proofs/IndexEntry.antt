@@ -5,22 +5,22 @@ use Rattle.sha2.proofs.Facts256.{length-sha256}
 use Rattle.adb_view.specs.Plain.{Plain, int, blob, obj, Plains, Shape, number, hash, object, Fields}
 use Rattle.adb_view.specs.Shaped.{HasShape, HaveShapes}
 use Rattle.adb_view.specs.Schema.{shape_of, shapes_of, table}
-use Rattle.make_index.specs.adb_schema.Texts.{Surroundings, number_leaf, text_leaf, surroundings_of_root, surroundings_of_fields, leaves, field_leaves, first_bad_leaf, is_package_hash_length, is_allowed_text_of_field}
+use Rattle.pkg_core.specs.adb_schema.Texts.{Surroundings, number_leaf, text_leaf, surroundings_of_root, surroundings_of_fields, leaves, field_leaves, first_bad_leaf, is_package_hash_length, is_allowed_text_of_field}
 use Rattle.adb_view.specs.Values.{nth, entries_in, entry_at_index}
-use Rattle.make_index.specs.adb_schema.Soundness.{payload_in}
+use Rattle.pkg_core.specs.adb_schema.Soundness.{payload_in}
 use Rattle.adb_view.specs.declared.tables.Which.{Which}
 use Rattle.adb_view.specs.declared.tables.Which.TheVariants.{Dep, Package, PkgInfo, Index}
 use Rattle.adb_view.specs.declared.tables.Kind.TheVariants.{Obj}
-use Rattle.make_index.specs.pkg_core.Whole.{package_fault, payload_sha256_of_package_file, package_with_contents}
-use Rattle.make_index.specs.Entries.{index_entry_of_package_file}
-use Rattle.make_index.specs.adb_copy.Zeros.{info_without_zeros_with_id_and_file_size, with_value_set_at_index}
+use Rattle.pkg_core.specs.Whole.{package_fault, payload_sha256_of_package_file, package_with_contents}
+use Rattle.make_core.specs.Entries.{index_entry_of_package_file}
+use Rattle.adb_copy.specs.Zeros.{info_without_zeros_with_id_and_file_size, with_value_set_at_index}
 use Rattle.make_core.proofs.Blind.{AreBlind, AreBlindBut, IsBlind, turned_but}
 use Rattle.make_core.proofs.OpenedPackage.{IsOpened, Values, opened}
 use Rattle.make_core.proofs.ValueParts.{part_kept, part_shaped, placed_kept, placed_later, placed_shaped}
 use Rattle.make_core.proofs.GoodValues.{IsGood, good_leaf}
-use Rattle.make_index.proofs.adb_copy.Shapes.{entries_shape}
-use Rattle.make_index.proofs.adb_copy.WithoutZeros.{HasInts, HaveInts, entries_ints, normal_ints, nth_ints, placed_ints, zeros_normal, zeros_shape}
-use Rattle.make_index.proofs.adb_copy.Zeros.{at_same}
+use Rattle.adb_copy.proofs.Shapes.{entries_shape}
+use Rattle.adb_copy.proofs.WithoutZeros.{HasInts, HaveInts, entries_ints, normal_ints, nth_ints, placed_ints, zeros_normal, zeros_shape}
+use Rattle.adb_copy.proofs.Zeros.{at_same}
 use Rattle.make_core.proofs.Zeros.{zeros_leaves}
 
 abbrev infos : Fields

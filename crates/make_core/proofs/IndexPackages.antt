@@ -2,8 +2,8 @@
 use Rattle.std.proofs.Common.{◌≡◌, ℕ, ◌+◌, List, [], ◌∷◌, map, Option, Some, None, Result, Ok, Err, refl, ap, sym, subst, ◌∙◌}
 use Rattle.std.specs.List.Sorted.{IsPermutation, IsSorted}
 use Rattle.base_core.specs.declared.cause.Cause.{Cause}
-use Rattle.make_index.specs.adb_fields.Repeated.{list_of}
-use Rattle.make_index.specs.adb_schema.Soundness.{payload_in, root_value_of_payload}
+use Rattle.adb_copy.specs.adb_fields.Repeated.{list_of}
+use Rattle.pkg_core.specs.adb_schema.Soundness.{payload_in, root_value_of_payload}
 use Rattle.adb_view.specs.Values.{entries_in}
 use Rattle.adb_view.specs.declared.tables.Which.TheVariants.{Index}
 use Rattle.adb_view.proofs.ValueEntries.{entries_arr, nth_obj}
@@ -12,14 +12,14 @@ use Rattle.command_core.specs.Command.{CommandLine}
 use Rattle.command_core.specs.Files.{without_one_leading_dot_slash}
 use Rattle.command_core.specs.declared.operands.Operand.{Operand}
 use Rattle.base_core.specs.Sorted.{sorted_by}
-use Rattle.make_index.specs.Entries.{index_entry_of_package_file}
-use Rattle.make_index.specs.EntryOrder.{index_entry_cmp}
-use Rattle.make_index.specs.Files.{EachOperandReadFindsNoFileOrFileBytes}
-use Rattle.make_index.specs.Index.{entry_before_others_or_fault, first_description_or_empty, entry_unless_fault, found_entries, found_entry, made_index, value_of_index}
-use Rattle.make_index.specs.make_info.Reads.{Reads}
-use Rattle.make_index.specs.make_info.Values.{plains_of_list}
-use Rattle.make_index.specs.make_info.declared.fault.MakeFault.{MakeFault}
-use Rattle.make_index.specs.pkg_core.Whole.{package_fault}
+use Rattle.make_core.specs.Entries.{index_entry_of_package_file}
+use Rattle.make_core.specs.EntryOrder.{index_entry_cmp}
+use Rattle.make_core.specs.Files.{EachOperandReadFindsNoFileOrFileBytes}
+use Rattle.make_core.specs.Index.{entry_before_others_or_fault, first_description_or_empty, entry_unless_fault, found_entries, found_entry, made_index, value_of_index}
+use Rattle.make_info.specs.Reads.{Reads}
+use Rattle.make_info.specs.Values.{plains_of_list}
+use Rattle.make_info.specs.declared.fault.MakeFault.{MakeFault}
+use Rattle.pkg_core.specs.Whole.{package_fault}
 use Rattle.make_core.specs.IndexOrder.{AreSoundPackages, HasSortedEntriesOfOperands, packages_in}
 use Rattle.make_core.specs.ReadBack.{index_value_of_entries}
 use Rattle.make_core.proofs.OpenedPackage.{Values}

@@ -16,18 +16,18 @@ use Rattle.command_core.specs.declared.values.OptionValue.{OptionValue}
 use Rattle.adb_view.specs.Plain.{Plain, null, Plains, none, more, text as text_shape, hash, number as number_shape, array, blob_or_null, trimmed_object_or_null}
 use Rattle.adb_view.specs.Shaped.{Each}
 use Rattle.adb_view.specs.Schema.{shape_of, shapes_of, table}
-use Rattle.make_index.specs.adb_schema.Texts.{Surroundings, is_allowed_number_of_field, surroundings_of_fields, is_allowed_text_of_field}
+use Rattle.pkg_core.specs.adb_schema.Texts.{Surroundings, is_allowed_number_of_field, surroundings_of_fields, is_allowed_text_of_field}
 use Rattle.adb_view.specs.declared.tables.Which.TheVariants.{Dep, PkgInfo}
 use Rattle.adb_view.specs.declared.tables.Kind.TheVariants.{Obj}
-use Rattle.make_index.specs.make_info.declared.field.Field.{Field}
-use Rattle.make_index.specs.make_info.declared.field.Field.TheVariants as Fields
-use Rattle.make_index.specs.make_info.declared.field.Kind.{Kind}
-use Rattle.make_index.specs.make_info.declared.field.Kind.TheVariants as Kinds
-use Rattle.make_index.specs.make_info.Fields.{TextNumberOrDependency, text, number, need, kind_of_field, values_by_kind, text_value_if, dependency_if_untagged}
-use Rattle.make_index.specs.make_info.FieldTexts.{FieldText, field_text_in, values_of_info_options, has_text_for_field_whatever_letter, is_field_text_for_field, is_same_field, is_output_default_and_too_long}
-use Rattle.make_index.specs.make_info.Information.{FieldWithValue, items_of_valid_options, first_offence_place_by_output_length_after, information_fields_with_installed_size, information_value_with_installed_size, information_with_missing_reported_at_place, is_item_for, field_with_value, item_value_or_null, items_of_text, items_of_option, lacks_name_or_version, value_of_list_field, dependency_object, number_in, offends, replaces_priority, plain_value, value_of_single_field, unless_offence, plain_values_of_field, items_followed_by_values_of_field}
-use Rattle.make_index.specs.make_info.Values.{number_or_null}
-use Rattle.make_index.proofs.make_info.OutputFacts.{no_offence}
+use Rattle.make_info.specs.declared.field.Field.{Field}
+use Rattle.make_info.specs.declared.field.Field.TheVariants as Fields
+use Rattle.make_info.specs.declared.field.Kind.{Kind}
+use Rattle.make_info.specs.declared.field.Kind.TheVariants as Kinds
+use Rattle.make_info.specs.Fields.{TextNumberOrDependency, text, number, need, kind_of_field, values_by_kind, text_value_if, dependency_if_untagged}
+use Rattle.make_info.specs.FieldTexts.{FieldText, field_text_in, values_of_info_options, has_text_for_field_whatever_letter, is_field_text_for_field, is_same_field, is_output_default_and_too_long}
+use Rattle.make_info.specs.Information.{FieldWithValue, items_of_valid_options, first_offence_place_by_output_length_after, information_fields_with_installed_size, information_value_with_installed_size, information_with_missing_reported_at_place, is_item_for, field_with_value, item_value_or_null, items_of_text, items_of_option, lacks_name_or_version, value_of_list_field, dependency_object, number_in, offends, replaces_priority, plain_value, value_of_single_field, unless_offence, plain_values_of_field, items_followed_by_values_of_field}
+use Rattle.make_info.specs.Values.{number_or_null}
+use Rattle.make_info.proofs.OutputFacts.{no_offence}
 use Rattle.make_core.proofs.GoodValues.{IsGood, arr_good, hash_good, null_number, number_good, obj_good, text_good}
 use Rattle.make_core.proofs.PackageFiles.{around_folder, size_good}
 use Rattle.make_core.proofs.SaidGood.{AreSaidAs, IsNeed, IsSaidAs, said_good, same_kind}

@@ -7,15 +7,15 @@ use Rattle.std.proofs.lemmas.List.{drop_at, length-append}
 use Rattle.std.proofs.lemmas.List.Sums.{sum_by-cons}
 use Rattle.std.proofs.lemmas.Slice.Eq.{bytes_eq-Decides}
 use Rattle.base_core.specs.Name.{is_name}
-use Rattle.make_index.specs.adb_fields.FirstPair.{IsIn}
-use Rattle.make_index.proofs.adb_fields.Members.{from-flat_map, from-map}
-use Rattle.make_index.specs.adb_fields.Paths.{path_of}
-use Rattle.make_index.specs.adb_schema.Rules.{is_valid_file_name_in_folder, is_folder_name}
-use Rattle.make_package.specs.package_files.Folders.{FolderListing, prefixes_before_slashes, path_relative_to, tree_names_in_package_folder, all_folders_above, folder_of, folder_listings_by_tree_names, folders_above, is_slash, folder_listing_by_tree_names, last_part_of}
-use Rattle.make_package.specs.package_files.Package.{SourceFileNameAndBytes, SourceFolder, kind_of_file, installed_size, size_of_folder, size_of_kind}
-use Rattle.make_package.specs.package_files.Sources.{and_then, results_from_read, source_file_at_place_by_read, source_files_at_place_from_read, source_folder_at_place_by_read, source_folders_at_place_from_read, found_bytes_or_missing}
-use Rattle.make_index.specs.make_info.Reads.{Reads}
-use Rattle.make_index.specs.make_info.declared.fault.MakeFault.{MakeFault}
+use Rattle.adb_copy.specs.adb_fields.FirstPair.{IsIn}
+use Rattle.adb_copy.proofs.adb_fields.Members.{from-flat_map, from-map}
+use Rattle.adb_copy.specs.adb_fields.Paths.{path_of}
+use Rattle.pkg_core.specs.adb_schema.Rules.{is_valid_file_name_in_folder, is_folder_name}
+use Rattle.package_files.specs.Folders.{FolderListing, prefixes_before_slashes, path_relative_to, tree_names_in_package_folder, all_folders_above, folder_of, folder_listings_by_tree_names, folders_above, is_slash, folder_listing_by_tree_names, last_part_of}
+use Rattle.package_files.specs.Package.{SourceFileNameAndBytes, SourceFolder, kind_of_file, installed_size, size_of_folder, size_of_kind}
+use Rattle.package_files.specs.Sources.{and_then, results_from_read, source_file_at_place_by_read, source_files_at_place_from_read, source_folder_at_place_by_read, source_folders_at_place_from_read, found_bytes_or_missing}
+use Rattle.make_info.specs.Reads.{Reads}
+use Rattle.make_info.specs.declared.fault.MakeFault.{MakeFault}
 use Rattle.make_core.proofs.Apart.{AreApartFiles, IsApart, Rises, folder_names_of, in_order_in, in_order_rises, rises_apart, source_names}
 use Rattle.make_core.proofs.NameParts.{folder_good, path_good, same_part, sides}
 use Rattle.make_core.proofs.PackageFiles.{AreGoodFiles, AreGoodFolders}

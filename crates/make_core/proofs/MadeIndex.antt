@@ -1,13 +1,13 @@
 -- An index that is made is sound.
 use Rattle.std.proofs.Common.{◌≡◌, ℕ, List, None, Result, Ok, Err, Vec, IfOk}
 use Rattle.std.specs.declared.alloc.Global.{Global}
-use Rattle.make_index.specs.pkg_core.Whole.{container_fault}
+use Rattle.pkg_core.specs.Whole.{container_fault}
 use Rattle.command_core.specs.Command.{CommandLine}
-use Rattle.make_index.specs.Index.{made_index}
-use Rattle.make_index.specs.Kept.{AgreesUnlessMemoryOrDisk}
-use Rattle.make_index.specs.Files.{EachOperandReadFindsNoFileOrFileBytes}
-use Rattle.make_index.specs.make_info.Reads.{Reads}
-use Rattle.make_index.specs.make_info.declared.fault.MakeFault.{MakeFault}
+use Rattle.make_core.specs.Index.{made_index}
+use Rattle.make_core.specs.Kept.{AgreesUnlessMemoryOrDisk}
+use Rattle.make_core.specs.Files.{EachOperandReadFindsNoFileOrFileBytes}
+use Rattle.make_info.specs.Reads.{Reads}
+use Rattle.make_info.specs.declared.fault.MakeFault.{MakeFault}
 
 abbrev pub SoundIndex : Type 0
 SoundIndex = (command : CommandLine) (read : Reads) (bytes : List ℕ) → EachOperandReadFindsNoFileOrFileBytes read 0 command.operands → made_index command read ≡ Ok bytes → container_fault bytes ≡ None

@@ -4,14 +4,14 @@ use Rattle.std.proofs.Common.{◌≡◌, ℕ, ◌^◌, ◌<◌, List, [], ◌∷
 use Rattle.std.specs.declared.alloc.Global.{Global}
 use Rattle.base_core.specs.Calls.{IfObservable}
 use Rattle.base_core.specs.Tree.{TreeState}
-use Rattle.make_index.specs.pkg_core.Whole.{container_fault}
+use Rattle.pkg_core.specs.Whole.{container_fault}
 use Rattle.command_core.specs.Command.{CommandLine}
-use Rattle.make_index.specs.make_info.Reads.{Reads}
-use Rattle.make_index.specs.make_info.declared.fault.MakeFault.{MakeFault}
-use Rattle.make_index.specs.make_info.declared.fault.MakeFault.TheVariants.{FileMissing, FileBad, InfoBad, TooLarge, Disk, Memory}
-use Rattle.make_package.specs.Answers.{IsMadeBySomeReads, IsMadeFromTree, IsMadeOf, IsMakeResult, UnlessDiskOrMemory}
-use Rattle.make_package.specs.Making.{made_package}
-use Rattle.make_package.specs.package_files.Sources.{AreSortedAndEachBelowFirstFolder, values_of_letter}
+use Rattle.make_info.specs.Reads.{Reads}
+use Rattle.make_info.specs.declared.fault.MakeFault.{MakeFault}
+use Rattle.make_info.specs.declared.fault.MakeFault.TheVariants.{FileMissing, FileBad, InfoBad, TooLarge, Disk, Memory}
+use Rattle.make_core.specs.Answers.{IsMadeBySomeReads, IsMadeFromTree, IsMadeOf, IsMakeResult, UnlessDiskOrMemory}
+use Rattle.make_core.specs.Making.{made_package}
+use Rattle.package_files.specs.Sources.{AreSortedAndEachBelowFirstFolder, values_of_letter}
 
 made_in : (told : List TreeState) (command : CommandLine) (made : Result (List ℕ) MakeFault) → IsMadeOf told command made → IfObservable told (λ v. IsMadeFromTree command v made)
 made_in [] command made m = tt

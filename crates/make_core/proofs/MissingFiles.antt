@@ -1,23 +1,23 @@
 -- A file that is missing is reported at the option that gives it.
 use Rattle.command_core.specs.declared.values.TheConstants.{FILES, SCRIPT}
 use Rattle.std.proofs.Common.{◌≡◌, ◌⊎◌, inl, inr, ℕ, ◌+◌, List, [], ◌∷◌, length, map, Option, Some, None, Result, Ok, Err, refl, ap, subst}
-use Rattle.make_index.specs.adb_fields.FirstPair.{IsIn}
-use Rattle.make_index.proofs.adb_fields.Members.{contains-from_in, from-map}
+use Rattle.adb_copy.specs.adb_fields.FirstPair.{IsIn}
+use Rattle.adb_copy.proofs.adb_fields.Members.{contains-from_in, from-map}
 use Rattle.adb_view.specs.Plain.{Plain}
-use Rattle.make_index.specs.adb_write.Canonical.{ByteAndValueCounts}
+use Rattle.adb_copy.specs.adb_write.Canonical.{ByteAndValueCounts}
 use Rattle.command_core.specs.Command.{CommandLine}
 use Rattle.command_core.specs.Files.{without_one_leading_dot_slash}
 use Rattle.command_core.specs.Values.{script_file, script_type}
 use Rattle.command_core.specs.declared.values.OptionValue.{OptionValue}
-use Rattle.make_index.specs.make_info.Information.{FieldWithValue, information}
-use Rattle.make_index.specs.make_info.Reads.{Reads}
-use Rattle.make_index.specs.make_info.declared.fault.MakeFault.{MakeFault}
-use Rattle.make_index.specs.make_info.declared.fault.MakeFault.TheVariants.{FileMissing}
-use Rattle.make_package.specs.package_files.Folders.{FolderListing, all_folders_above, folder_listings_by_tree_names, last_part_of, folder_listing_by_tree_names, tree_names_in_package_folder, path_relative_to}
-use Rattle.make_package.specs.Making.{container_unless_too_large, made_package, or_info_bad, package_container, package_of_parts}
-use Rattle.make_package.specs.package_files.Package.{Script, SourceFileNameAndBytes, SourceFolder}
-use Rattle.make_package.specs.package_files.Sources.{results_from_read, source_file_at_place_by_read, source_folder_at_place_by_read, source_folders_of_first_option_only, found_bytes_or_missing, and_then, script_at, scripts_from_read, source_folders_at_place_from_read, source_files_at_place_from_read, values_of_letter}
-use Rattle.make_index.specs.pkg_core.Contents.{Contents}
+use Rattle.make_info.specs.Information.{FieldWithValue, information}
+use Rattle.make_info.specs.Reads.{Reads}
+use Rattle.make_info.specs.declared.fault.MakeFault.{MakeFault}
+use Rattle.make_info.specs.declared.fault.MakeFault.TheVariants.{FileMissing}
+use Rattle.package_files.specs.Folders.{FolderListing, all_folders_above, folder_listings_by_tree_names, last_part_of, folder_listing_by_tree_names, tree_names_in_package_folder, path_relative_to}
+use Rattle.make_core.specs.Making.{container_unless_too_large, made_package, or_info_bad, package_container, package_of_parts}
+use Rattle.package_files.specs.Package.{Script, SourceFileNameAndBytes, SourceFolder}
+use Rattle.package_files.specs.Sources.{results_from_read, source_file_at_place_by_read, source_folder_at_place_by_read, source_folders_of_first_option_only, found_bytes_or_missing, and_then, script_at, scripts_from_read, source_folders_at_place_from_read, source_files_at_place_from_read, values_of_letter}
+use Rattle.pkg_core.specs.Contents.{Contents}
 use Rattle.make_core.specs.Missing.{IsAbsent, IsPlaceOfFolderWithMissingFile, IsPlaceOfScriptOptionWithoutFile}
 use Rattle.make_core.proofs.ListedNames.{filter_in, stands_in}
 

@@ -9,9 +9,9 @@ use Rattle.std.proofs.lemmas.List.Sums.{suffix_len_is}
 use Rattle.std.proofs.lemmas.Str.{IsCharBoundary-after_ascii, IsCharBoundary-before_ascii, IsUtf8-drop, IsUtf8-from_is_utf8, IsUtf8-take, is_utf8-from_IsUtf8}
 use Rattle.base_core.specs.Name.{is_name, is_path_part, path_parts_of}
 use Rattle.base_core.proofs.NameParts.{split_slash}
-use Rattle.make_index.specs.adb_fields.Paths.{path_of}
-use Rattle.make_index.specs.adb_schema.Rules.{is_valid_file_name_in_folder, is_folder_name, is_one_part}
-use Rattle.make_package.specs.package_files.Folders.{folder_of, is_slash, last_part_of}
+use Rattle.adb_copy.specs.adb_fields.Paths.{path_of}
+use Rattle.pkg_core.specs.adb_schema.Rules.{is_valid_file_name_in_folder, is_folder_name, is_one_part}
+use Rattle.package_files.specs.Folders.{folder_of, is_slash, last_part_of}
 
 -- ---- what a name is, test by test
 

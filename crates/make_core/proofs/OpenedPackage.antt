@@ -17,11 +17,11 @@ use Rattle.adb_view.specs.Shaped.{HasShape}
 use Rattle.adb_view.specs.Schema.{shape_of}
 use Rattle.adb_view.specs.Values.{value_at}
 use Rattle.adb_view.specs.Walk.{shape_fault}
-use Rattle.make_index.specs.adb_schema.Texts.{text_or_number_fault}
-use Rattle.make_index.specs.adb_schema.Soundness.{blocks_fault, file_fault_by_header_schema_or_fault, first_block_payload, payload_by_header_schema_or_fault, payload_fault, payload_in, root_value_of_payload, schema_fault}
+use Rattle.pkg_core.specs.adb_schema.Texts.{text_or_number_fault}
+use Rattle.pkg_core.specs.adb_schema.Soundness.{blocks_fault, file_fault_by_header_schema_or_fault, first_block_payload, payload_by_header_schema_or_fault, payload_fault, payload_in, root_value_of_payload, schema_fault}
 use Rattle.adb_view.specs.declared.tables.Which.TheVariants.{Package}
 use Rattle.adb_view.specs.declared.tables.Kind.TheVariants.{Obj}
-use Rattle.make_index.specs.pkg_core.Whole.{fault_of_contents_blocks_by_root_table, package_fault, package_with_contents, container_fault_of_table}
+use Rattle.pkg_core.specs.Whole.{fault_of_contents_blocks_by_root_table, package_fault, package_with_contents, container_fault_of_table}
 
 -- what the layers below say of values that are found
 pub record Values : Type 0 where

@@ -4,15 +4,15 @@ use Rattle.std.proofs.lemmas.Slice.Eq.{bytes_eq-Decides}
 use Rattle.sha2.specs.Sha256.{sha256}
 use Rattle.sha2.proofs.Facts256.{length-sha256}
 use Rattle.adb_view.specs.Plain.{Plain}
-use Rattle.make_index.specs.adb_schema.Texts.{is_file_with_contents}
+use Rattle.pkg_core.specs.adb_schema.Texts.{is_file_with_contents}
 use Rattle.adb_view.specs.Values.{entry_at_index, int_in, text_in}
-use Rattle.make_index.specs.pkg_core.Contents.{Contents, ExpectedFile, expected_file_if_with_contents, expected_files_of_package, expected_files_of_folder, expected_files_of_folders, fault_if_digest_is_not_of_bytes}
-use Rattle.make_index.specs.pkg_core.GoodContents.{MatchEachExpectedSizeAndKnownDigest}
-use Rattle.make_package.specs.package_files.Package.{Script, SourceFileNameAndBytes, SourceFolder, contents_of_file, contents_of_files, contents_of_folders, has_contents, kind_of_file}
-use Rattle.make_package.specs.package_files.Package.{value_of_file, value_of_folder, value_of_kind, value_of_package}
-use Rattle.make_package.specs.package_files.declared.file.FileKind.{FileKind}
-use Rattle.make_package.specs.package_files.declared.file.FileKind.TheVariants.{Link, Regular}
-use Rattle.make_package.proofs.ContentSizes.{IsKindOf, entry_is_of}
+use Rattle.pkg_core.specs.Contents.{Contents, ExpectedFile, expected_file_if_with_contents, expected_files_of_package, expected_files_of_folder, expected_files_of_folders, fault_if_digest_is_not_of_bytes}
+use Rattle.pkg_core.specs.GoodContents.{MatchEachExpectedSizeAndKnownDigest}
+use Rattle.package_files.specs.Package.{Script, SourceFileNameAndBytes, SourceFolder, contents_of_file, contents_of_files, contents_of_folders, has_contents, kind_of_file}
+use Rattle.package_files.specs.Package.{value_of_file, value_of_folder, value_of_kind, value_of_package}
+use Rattle.package_files.specs.declared.file.FileKind.{FileKind}
+use Rattle.package_files.specs.declared.file.FileKind.TheVariants.{Link, Regular}
+use Rattle.make_core.proofs.ContentSizes.{IsKindOf, entry_is_of}
 use Rattle.make_core.proofs.PackageFiles.{files_stand, folders_stand, hash_stands, size_stands, target_stands, with_contents}
 
 -- ---- a file

@@ -8,18 +8,18 @@ use Rattle.sha2.specs.Sha256.{sha256}
 use Rattle.sha2.proofs.Facts256.{length-sha256}
 use Rattle.adb_view.specs.Plain.{Plain, null, int, Plains, none, more, number, text, blob_or_null, array_or_null, trimmed_object_or_null}
 use Rattle.adb_view.specs.Shaped.{Each}
-use Rattle.make_index.specs.adb_fields.Repeated.{files_in, folders_in, list_of}
-use Rattle.make_index.specs.adb_schema.Rules.{is_digest_length, is_digest_length_or_none, is_valid_file_name_in_folder, is_folder_name, is_link_target_or_none}
+use Rattle.adb_copy.specs.adb_fields.Repeated.{files_in, folders_in, list_of}
+use Rattle.pkg_core.specs.adb_schema.Rules.{is_digest_length, is_digest_length_or_none, is_valid_file_name_in_folder, is_folder_name, is_link_target_or_none}
 use Rattle.adb_view.specs.Schema.{shape_of, shapes_of, table}
-use Rattle.make_index.specs.adb_schema.Texts.{Surroundings, is_file_hash_length, is_allowed_number_of_field, surroundings_of_fields, surroundings_of_root, is_allowed_text_of_field}
+use Rattle.pkg_core.specs.adb_schema.Texts.{Surroundings, is_file_hash_length, is_allowed_number_of_field, surroundings_of_fields, surroundings_of_root, is_allowed_text_of_field}
 use Rattle.adb_view.specs.Values.{entries_in, entry_at_index, int_in, text_in}
 use Rattle.adb_view.specs.declared.tables.Which.TheVariants.{Acl, File, Dir, Scripts, PkgInfo, Package}
 use Rattle.adb_view.specs.declared.tables.Kind.TheVariants.{Obj}
 use Rattle.command_core.specs.Values.{script_types}
-use Rattle.make_package.specs.package_files.Package.{SourceFileNameAndBytes, SourceFolder, Script, access_value, kind_of_file, value_of_kind, value_of_file, value_of_folder, hash_of_kind, is_link_file, link_text, value_of_package, script_bytes_of_field, value_of_scripts, size_of_kind, target_of_kind}
-use Rattle.make_index.specs.make_info.Values.{number_or_null, plains_of_list, size_or_null_if_zero}
-use Rattle.make_package.specs.package_files.declared.file.FileKind.{FileKind}
-use Rattle.make_package.specs.package_files.declared.file.FileKind.TheVariants.{Link, Regular}
+use Rattle.package_files.specs.Package.{SourceFileNameAndBytes, SourceFolder, Script, access_value, kind_of_file, value_of_kind, value_of_file, value_of_folder, hash_of_kind, is_link_file, link_text, value_of_package, script_bytes_of_field, value_of_scripts, size_of_kind, target_of_kind}
+use Rattle.make_info.specs.Values.{number_or_null, plains_of_list, size_or_null_if_zero}
+use Rattle.package_files.specs.declared.file.FileKind.{FileKind}
+use Rattle.package_files.specs.declared.file.FileKind.TheVariants.{Link, Regular}
 use Rattle.adb_view.proofs.ValueEntries.{entries_arr, nth_obj, text_blob}
 use Rattle.make_core.proofs.GoodValues.{IsGood, arr_good, hash_good, null_array, null_number, number_good, obj_good, text_good}
 use Rattle.make_core.proofs.Zeros.{inside_same}

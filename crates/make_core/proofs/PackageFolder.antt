@@ -10,21 +10,21 @@ use Rattle.std.proofs.lemmas.List.Elements.{All-cons, All-nil}
 use Rattle.std.proofs.lemmas.List.Sorted.{IsPermutation-map}
 use Rattle.base_core.specs.Files.{Files}
 use Rattle.base_core.specs.Listed.{AreSortedAndEachBelowFolder}
-use Rattle.make_index.specs.adb_fields.FirstPair.{IsIn}
-use Rattle.make_index.specs.adb_fields.Paths.{path_of}
-use Rattle.make_index.specs.adb_fields.Repeated.{files_in, folders_in, name_of, paths_of_folder_files}
-use Rattle.make_index.specs.adb_schema.Soundness.{payload_in, root_value_of_payload}
+use Rattle.adb_copy.specs.adb_fields.FirstPair.{IsIn}
+use Rattle.adb_copy.specs.adb_fields.Paths.{path_of}
+use Rattle.adb_copy.specs.adb_fields.Repeated.{files_in, folders_in, name_of, paths_of_folder_files}
+use Rattle.pkg_core.specs.adb_schema.Soundness.{payload_in, root_value_of_payload}
 use Rattle.adb_view.specs.declared.tables.Which.TheVariants.{Package}
 use Rattle.adb_view.specs.Plain.{Plain}
 use Rattle.command_core.specs.Command.{CommandLine}
 use Rattle.command_core.specs.Files.{without_one_leading_dot_slash}
 use Rattle.command_core.specs.declared.values.OptionValue.{OptionValue}
-use Rattle.make_index.specs.make_info.Information.{replaces_priority}
-use Rattle.make_package.specs.package_files.Folders.{FolderListing, all_folders_above, folder_listings_by_tree_names, last_part_of, folder_listing_by_tree_names, tree_names_in_package_folder, path_relative_to}
-use Rattle.make_package.specs.Making.{made_package}
-use Rattle.make_package.specs.package_files.Package.{SourceFileNameAndBytes, SourceFolder, value_of_file, value_of_folder, kind_of_file}
-use Rattle.make_package.specs.package_files.Sources.{AreSortedAndEachBelowFirstFolder, source_file_at_place_by_read, source_folder_at_place_by_read, source_folders_of_first_option_only, found_bytes_or_missing, source_folders_at_place_from_read, source_files_at_place_from_read, texts_of, values_of_letter}
-use Rattle.make_index.specs.pkg_core.Whole.{PackageWithContents}
+use Rattle.make_info.specs.Information.{replaces_priority}
+use Rattle.package_files.specs.Folders.{FolderListing, all_folders_above, folder_listings_by_tree_names, last_part_of, folder_listing_by_tree_names, tree_names_in_package_folder, path_relative_to}
+use Rattle.make_core.specs.Making.{made_package}
+use Rattle.package_files.specs.Package.{SourceFileNameAndBytes, SourceFolder, value_of_file, value_of_folder, kind_of_file}
+use Rattle.package_files.specs.Sources.{AreSortedAndEachBelowFirstFolder, source_file_at_place_by_read, source_folder_at_place_by_read, source_folders_of_first_option_only, found_bytes_or_missing, source_folders_at_place_from_read, source_files_at_place_from_read, texts_of, values_of_letter}
+use Rattle.pkg_core.specs.Whole.{PackageWithContents}
 use Rattle.make_core.specs.FilesBelow.{HasJustNamedFilesBelowFolder, IsFileBelow, path_joined_to_folder}
 use Rattle.make_core.proofs.Apart.{Tells}
 use Rattle.make_core.proofs.InformationGood.{Needs}

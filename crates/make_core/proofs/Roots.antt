@@ -4,13 +4,13 @@ use Rattle.std.specs.Prelude.{is_some}
 use Rattle.std.proofs.lemmas.Bool.{ltb-false, or_parts}
 use Rattle.adb_view.specs.Plain.{IsNormal, Plain}
 use Rattle.adb_view.specs.Schema.{shape_of}
-use Rattle.make_index.specs.adb_schema.Texts.{surroundings_of_root}
-use Rattle.make_index.specs.adb_fields.Repeated.{repeated_fault}
+use Rattle.pkg_core.specs.adb_schema.Texts.{surroundings_of_root}
+use Rattle.adb_copy.specs.adb_fields.Repeated.{repeated_fault}
 use Rattle.adb_view.specs.declared.tables.Which.{Which}
 use Rattle.adb_view.specs.declared.tables.Kind.TheVariants.{Obj}
-use Rattle.make_index.specs.adb_write.Canonical.{ByteAndValueCounts, canonical, payload_unless_overflow, counts_at_first_overflow, exceeds_a_limit, payload_or_counts_at_overflow, MOST_BYTES, MOST_VALUES}
-use Rattle.make_index.specs.adb_write.Size.{payload_size_of, value_count}
-use Rattle.make_package.specs.adb_sound.Root.{IsValidRootValueOfTable}
+use Rattle.adb_copy.specs.adb_write.Canonical.{ByteAndValueCounts, canonical, payload_unless_overflow, counts_at_first_overflow, exceeds_a_limit, payload_or_counts_at_overflow, MOST_BYTES, MOST_VALUES}
+use Rattle.adb_copy.specs.adb_write.Size.{payload_size_of, value_count}
+use Rattle.package_files.specs.adb_sound.Root.{IsValidRootValueOfTable}
 use Rattle.make_core.proofs.GoodValues.{IsGood}
 
 pub record IsWritten (v : Plain) (payload : List ℕ) : Type 0 where

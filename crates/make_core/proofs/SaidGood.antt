@@ -9,13 +9,13 @@ use Rattle.hex.specs.declared.error.FromHexError.{FromHexError}
 use Rattle.version_core.specs.Order.{is_version}
 use Rattle.dep_core.specs.Dependency.{Dependency, is_package_name}
 use Rattle.dep_core.specs.Reading.{dependency_of}
-use Rattle.make_index.specs.make_info.declared.field.Field.{Field}
-use Rattle.make_index.specs.make_info.declared.field.Field.TheVariants as Fields
-use Rattle.make_index.specs.make_info.declared.field.Kind.{Kind}
-use Rattle.make_index.specs.make_info.declared.field.Kind.TheVariants as Kinds
-use Rattle.make_index.specs.make_info.Fields.{TextNumberOrDependency, text, number, need, field_values_of_decoded_hex, field_word, fields, kind_of_field, field_among, untagged_dependency_in, dependency_values_of_parts, decimal_number_without_leading_zeros, nonempty_parts_between_spaces, values_by_kind, text_value_if, text_values, dependency_value_and_others, dependency_if_untagged}
+use Rattle.make_info.specs.declared.field.Field.{Field}
+use Rattle.make_info.specs.declared.field.Field.TheVariants as Fields
+use Rattle.make_info.specs.declared.field.Kind.{Kind}
+use Rattle.make_info.specs.declared.field.Kind.TheVariants as Kinds
+use Rattle.make_info.specs.Fields.{TextNumberOrDependency, text, number, need, field_values_of_decoded_hex, field_word, fields, kind_of_field, field_among, untagged_dependency_in, dependency_values_of_parts, decimal_number_without_leading_zeros, nonempty_parts_between_spaces, values_by_kind, text_value_if, text_values, dependency_value_and_others, dependency_if_untagged}
 use Rattle.command_core.specs.Operands.{is_decimal_without_leading_zeros}
-use Rattle.make_index.specs.make_info.FieldTexts.{is_same_field}
+use Rattle.make_info.specs.FieldTexts.{is_same_field}
 
 -- ---- the kind of a field is that of its word
 

@@ -8,27 +8,27 @@ use Rattle.base_core.specs.declared.cause.Cause.{Cause}
 use Rattle.adb_view.specs.Plain.{Plain, Plains, none, more, array_or_null, blob_or_null, trimmed_object_or_null}
 use Rattle.adb_view.specs.Shaped.{Each}
 use Rattle.adb_view.specs.Schema.{shape_of, shapes_of, table}
-use Rattle.make_index.specs.adb_schema.Texts.{Surroundings, surroundings_of_fields, surroundings_of_root, is_allowed_text_of_field}
-use Rattle.make_index.specs.adb_fields.Repeated.{repeated_fault}
-use Rattle.make_index.specs.adb_schema.Soundness.{payload_in, root_value_of_payload, header_schema_if_root_table}
+use Rattle.pkg_core.specs.adb_schema.Texts.{Surroundings, surroundings_of_fields, surroundings_of_root, is_allowed_text_of_field}
+use Rattle.adb_copy.specs.adb_fields.Repeated.{repeated_fault}
+use Rattle.pkg_core.specs.adb_schema.Soundness.{payload_in, root_value_of_payload, header_schema_if_root_table}
 use Rattle.adb_view.specs.declared.tables.Which.TheVariants.{Package, PkgInfo, Index}
 use Rattle.adb_view.specs.declared.tables.Kind.TheVariants.{Obj}
-use Rattle.make_index.specs.adb_schema.declared.read.TheConstants.{INDEX_WORD}
-use Rattle.make_index.specs.adb_write.Canonical.{ByteAndValueCounts, payload_or_counts_at_overflow, canonical}
-use Rattle.make_index.specs.adb_write.File.{file_of}
-use Rattle.make_index.specs.pkg_core.Whole.{container_fault, package_fault}
+use Rattle.pkg_core.specs.adb_schema.declared.read.TheConstants.{INDEX_WORD}
+use Rattle.adb_copy.specs.adb_write.Canonical.{ByteAndValueCounts, payload_or_counts_at_overflow, canonical}
+use Rattle.adb_copy.specs.adb_write.File.{file_of}
+use Rattle.pkg_core.specs.Whole.{container_fault, package_fault}
 use Rattle.command_core.specs.Files.{without_one_leading_dot_slash}
 use Rattle.command_core.specs.declared.operands.Operand.{Operand}
-use Rattle.make_index.specs.Index.{entry_before_others_or_fault, found_entries, found_entry, index_container, index_of_entries, index_of_entries_or_fault, value_of_index, entry_unless_fault, first_description_or_empty, made_index}
-use Rattle.make_index.specs.make_info.Values.{plains_of_list}
+use Rattle.make_core.specs.Index.{entry_before_others_or_fault, found_entries, found_entry, index_container, index_of_entries, index_of_entries_or_fault, value_of_index, entry_unless_fault, first_description_or_empty, made_index}
+use Rattle.make_info.specs.Values.{plains_of_list}
 use Rattle.command_core.specs.Command.{CommandLine}
-use Rattle.make_index.specs.Entries.{index_entry_of_package_file}
-use Rattle.make_index.specs.EntryOrder.{index_entry_cmp}
+use Rattle.make_core.specs.Entries.{index_entry_of_package_file}
+use Rattle.make_core.specs.EntryOrder.{index_entry_cmp}
 use Rattle.base_core.specs.Sorted.{sorted_by, with_element_inserted}
 use Rattle.base_core.specs.Files.{AreFileBytes}
-use Rattle.make_index.specs.Files.{EachOperandReadFindsNoFileOrFileBytes}
-use Rattle.make_package.specs.adb_sound.Root.{IsValidRootValueOfTable}
-use Rattle.make_index.specs.make_info.declared.fault.MakeFault.{MakeFault}
+use Rattle.make_core.specs.Files.{EachOperandReadFindsNoFileOrFileBytes}
+use Rattle.package_files.specs.adb_sound.Root.{IsValidRootValueOfTable}
+use Rattle.make_info.specs.declared.fault.MakeFault.{MakeFault}
 use Rattle.make_core.specs.ReadBack.{index_value_of_command, index_value_of_entries}
 use Rattle.make_core.proofs.IndexEntry.{entry_good}
 use Rattle.make_core.proofs.OpenedPackage.{Values}

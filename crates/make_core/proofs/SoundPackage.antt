@@ -5,23 +5,23 @@ use Rattle.std.specs.Prelude.{All}
 use Rattle.std.proofs.lemmas.List.Elements.{All-head, All-tail}
 use Rattle.base_core.specs.Listed.{IsValidNameBelowFolder}
 use Rattle.adb_view.specs.Plain.{Plain}
-use Rattle.make_index.specs.adb_schema.declared.read.TheConstants.{PACKAGE_WORD}
+use Rattle.pkg_core.specs.adb_schema.declared.read.TheConstants.{PACKAGE_WORD}
 use Rattle.adb_view.specs.declared.tables.Which.TheVariants.{Package}
-use Rattle.make_index.specs.adb_write.Canonical.{ByteAndValueCounts, canonical, counts_at_first_overflow}
-use Rattle.make_index.specs.pkg_core.Contents.{Contents, expected_files_of_package}
-use Rattle.make_index.specs.pkg_core.GoodContents.{MatchEachExpectedSizeAndKnownDigest}
-use Rattle.make_index.specs.pkg_core.Whole.{container_fault, package_with_contents}
+use Rattle.adb_copy.specs.adb_write.Canonical.{ByteAndValueCounts, canonical, counts_at_first_overflow}
+use Rattle.pkg_core.specs.Contents.{Contents, expected_files_of_package}
+use Rattle.pkg_core.specs.GoodContents.{MatchEachExpectedSizeAndKnownDigest}
+use Rattle.pkg_core.specs.Whole.{container_fault, package_with_contents}
 use Rattle.command_core.specs.Command.{CommandLine}
 use Rattle.command_core.specs.Files.{without_one_leading_dot_slash}
 use Rattle.command_core.specs.declared.values.OptionValue.{OptionValue}
-use Rattle.make_index.specs.make_info.Information.{FieldWithValue, information_value_with_installed_size, information, replaces_priority}
-use Rattle.make_package.specs.adb_sound.Contents.{total_size_of_file_contents}
-use Rattle.make_package.specs.adb_sound.Container.{container_of_value_and_contents, package_with_contents_from_parts}
-use Rattle.make_package.specs.Making.{container_unless_too_large, made_package, or_info_bad, package_container, package_of_parts}
-use Rattle.make_package.specs.package_files.Package.{Script, SourceFolder, contents_of_folders, installed_size, value_of_package}
-use Rattle.make_package.specs.package_files.Sources.{AreSortedAndEachBelowFirstFolder, and_then, source_folders_of_first_option_only, values_of_letter, scripts_from_read, texts_of}
-use Rattle.make_package.specs.adb_sound.Root.{IsValidRootValueOfTable}
-use Rattle.make_index.specs.make_info.Reads.{Reads}
+use Rattle.make_info.specs.Information.{FieldWithValue, information_value_with_installed_size, information, replaces_priority}
+use Rattle.package_files.specs.adb_sound.Contents.{total_size_of_file_contents}
+use Rattle.package_files.specs.adb_sound.Container.{container_of_value_and_contents, package_with_contents_from_parts}
+use Rattle.make_core.specs.Making.{container_unless_too_large, made_package, or_info_bad, package_container, package_of_parts}
+use Rattle.package_files.specs.Package.{Script, SourceFolder, contents_of_folders, installed_size, value_of_package}
+use Rattle.package_files.specs.Sources.{AreSortedAndEachBelowFirstFolder, and_then, source_folders_of_first_option_only, values_of_letter, scripts_from_read, texts_of}
+use Rattle.package_files.specs.adb_sound.Root.{IsValidRootValueOfTable}
+use Rattle.make_info.specs.Reads.{Reads}
 use Rattle.make_core.proofs.Apart.{Tells, package_once, rises_from_pairs}
 use Rattle.make_core.proofs.InformationGood.{IsInformation, Needs, info_good, information_good, priority_good}
 use Rattle.make_core.proofs.ListedNames.{AreListed, AreSources, after_ok, folders_sized, sources_good}

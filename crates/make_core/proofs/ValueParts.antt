@@ -2,10 +2,10 @@
 use Rattle.std.proofs.Common.{◌≡◌, ℕ, zero, suc, ◌+◌, ◌<◌, Option, Some, None, refl, sym, subst, arith, add-zero}
 use Rattle.adb_view.specs.Plain.{Plain, null, Plains, none, more, Shape, Fields, no_fields, field}
 use Rattle.adb_view.specs.Shaped.{HasShape, HaveShapes}
-use Rattle.make_index.specs.adb_schema.Texts.{Surroundings, leaves, field_leaves, first_bad_leaf}
+use Rattle.pkg_core.specs.adb_schema.Texts.{Surroundings, leaves, field_leaves, first_bad_leaf}
 use Rattle.adb_view.specs.Values.{nth}
 use Rattle.adb_view.proofs.FoundShapes.{shape_null, shapes_none}
-use Rattle.make_index.specs.adb_copy.Zeros.{with_value_set_at_index}
+use Rattle.adb_copy.specs.Zeros.{with_value_set_at_index}
 use Rattle.make_core.proofs.GoodValues.{good_append, good_back, good_front}
 
 abbrev pub shape_at : Fields → ℕ → Option Shape

@@ -3,13 +3,13 @@ use Rattle.std.proofs.Common.{◌≡◌, ℕ, ◌+◌, ◌*◌, ◌&&◌, ◌==�
 use Rattle.adb_view.specs.Plain.{Plain, null, int, blob, arr, obj, Plains, none, more, Shape, number, text, hash, array, object, Fields, no_fields, field, trimmed_object_or_null}
 use Rattle.adb_view.specs.Shaped.{Each, HasShape, HaveShapes}
 use Rattle.adb_view.specs.Schema.{table_number}
-use Rattle.make_index.specs.adb_schema.Texts.{Surroundings, number_leaf, text_leaf, leaves, field_leaves, leaves_of_all_values, surroundings_of_fields}
+use Rattle.pkg_core.specs.adb_schema.Texts.{Surroundings, number_leaf, text_leaf, leaves, field_leaves, leaves_of_all_values, surroundings_of_fields}
 use Rattle.adb_view.specs.Values.{nth, entry_at_index, int_in, text_in}
 use Rattle.adb_view.specs.declared.tables.Which.TheVariants.{File, Dir}
-use Rattle.make_index.specs.adb_copy.Zeros.{without_zeros, all_without_zeros}
+use Rattle.adb_copy.specs.Zeros.{without_zeros, all_without_zeros}
 use Rattle.adb_view.proofs.ValueEntries.{entries_arr, nth_obj}
-use Rattle.make_index.proofs.adb_copy.WithoutZeros.{int_zeros, text_zeros}
-use Rattle.make_index.proofs.adb_copy.Zeros.{nth_zeros}
+use Rattle.adb_copy.proofs.WithoutZeros.{int_zeros, text_zeros}
+use Rattle.adb_copy.proofs.Zeros.{nth_zeros}
 use Rattle.make_core.proofs.GoodValues.{trimmed_object_or_null-leaves}
 
 -- what stands around an object's fields, by three of them

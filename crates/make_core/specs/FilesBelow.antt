@@ -5,10 +5,10 @@ use Rattle.std.specs.Prelude.{◌≡◌, ℕ, List, ◌∷◌, ◌++◌, map, So
 use Rattle.std.specs.List.Sorted.{IsPermutation}
 use Rattle.base_core.specs.Files.{Files}
 use Rattle.adb_view.specs.Plain.{Plain}
-use Rattle.make_index.specs.adb_fields.Paths.{path_of}
-use Rattle.make_index.specs.adb_fields.Repeated.{files_in, folders_in, name_of, paths_of_package_files}
-use Rattle.make_package.specs.package_files.Folders.{path_relative_to}
-use Rattle.make_package.specs.package_files.Package.{value_of_file}
+use Rattle.adb_copy.specs.adb_fields.Paths.{path_of}
+use Rattle.adb_copy.specs.adb_fields.Repeated.{files_in, folders_in, name_of, paths_of_package_files}
+use Rattle.package_files.specs.Folders.{path_relative_to}
+use Rattle.package_files.specs.Package.{value_of_file}
 
 -- the name in the tree of a path below the folder `dir`: the folder, a slash (47) and the path
 abbrev pub path_joined_to_folder : List ℕ → List ℕ → List ℕ

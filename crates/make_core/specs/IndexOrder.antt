@@ -4,13 +4,13 @@
 use Rattle.std.specs.Prelude.{◌≡◌, ℕ, ◌+◌, List, [], ◌∷◌, map, Some, None}
 use Rattle.std.specs.List.Sorted.{IsPermutation, IsSorted}
 use Rattle.adb_view.specs.Plain.{Plain}
-use Rattle.make_index.specs.adb_fields.Repeated.{entries_of_field_at_index}
+use Rattle.adb_copy.specs.adb_fields.Repeated.{entries_of_field_at_index}
 use Rattle.command_core.specs.Files.{without_one_leading_dot_slash}
 use Rattle.command_core.specs.declared.operands.Operand.{Operand}
-use Rattle.make_index.specs.Entries.{index_entry_of_package_file}
-use Rattle.make_index.specs.EntryOrder.{index_entry_cmp}
-use Rattle.make_index.specs.make_info.Reads.{Reads}
-use Rattle.make_index.specs.pkg_core.Whole.{package_fault}
+use Rattle.make_core.specs.Entries.{index_entry_of_package_file}
+use Rattle.make_core.specs.EntryOrder.{index_entry_cmp}
+use Rattle.make_info.specs.Reads.{Reads}
+use Rattle.pkg_core.specs.Whole.{package_fault}
 use Rattle.adb_view.specs.FieldIndexes.{INDEX_PACKAGES_INDEX}
 
 -- the entries of an index, one for each package

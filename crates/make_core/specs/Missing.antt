@@ -6,7 +6,7 @@ use Rattle.std.specs.Prelude.{◌≡◌, ℕ, List, ◌∷◌, None, Contains}
 use Rattle.command_core.specs.Files.{without_one_leading_dot_slash}
 use Rattle.command_core.specs.Values.{script_file}
 use Rattle.command_core.specs.declared.values.OptionValue.{OptionValue}
-use Rattle.make_index.specs.make_info.Reads.{Reads}
+use Rattle.make_info.specs.Reads.{Reads}
 
 -- some read finds no file under the name
 abbrev pub IsAbsent : Reads → List ℕ → Type 0

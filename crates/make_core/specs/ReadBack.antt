@@ -4,19 +4,19 @@
 -- `a_made_package_is_read_back` and `a_made_index_is_read_back`.
 use Rattle.command_core.specs.declared.values.TheConstants.{FILES, SCRIPT, TRIGGER}
 use Rattle.std.specs.Prelude.{ℕ, List, length, Result, Ok, Err}
-use Rattle.make_package.specs.adb_sound.Container.{package_with_contents_from_parts}
+use Rattle.package_files.specs.adb_sound.Container.{package_with_contents_from_parts}
 use Rattle.adb_view.specs.Plain.{Plain}
 use Rattle.command_core.specs.Command.{CommandLine}
-use Rattle.make_index.specs.EntryOrder.{index_entry_cmp}
+use Rattle.make_core.specs.EntryOrder.{index_entry_cmp}
 use Rattle.base_core.specs.Sorted.{sorted_by}
-use Rattle.make_index.specs.Index.{first_description_or_empty, found_entries, value_of_index}
-use Rattle.make_index.specs.make_info.Information.{FieldWithValue, information, information_value_with_installed_size, replaces_priority}
-use Rattle.make_index.specs.make_info.Reads.{Reads}
-use Rattle.make_index.specs.make_info.declared.fault.MakeFault.{MakeFault}
-use Rattle.make_package.specs.Making.{or_info_bad}
-use Rattle.make_package.specs.package_files.Package.{Script, SourceFolder, contents_of_folders, installed_size, value_of_package}
-use Rattle.make_package.specs.package_files.Sources.{source_folders_of_first_option_only, and_then, scripts_from_read, texts_of, values_of_letter}
-use Rattle.make_index.specs.pkg_core.Whole.{PackageWithContents}
+use Rattle.make_core.specs.Index.{first_description_or_empty, found_entries, value_of_index}
+use Rattle.make_info.specs.Information.{FieldWithValue, information, information_value_with_installed_size, replaces_priority}
+use Rattle.make_info.specs.Reads.{Reads}
+use Rattle.make_info.specs.declared.fault.MakeFault.{MakeFault}
+use Rattle.make_core.specs.Making.{or_info_bad}
+use Rattle.package_files.specs.Package.{Script, SourceFolder, contents_of_folders, installed_size, value_of_package}
+use Rattle.package_files.specs.Sources.{source_folders_of_first_option_only, and_then, scripts_from_read, texts_of, values_of_letter}
+use Rattle.pkg_core.specs.Whole.{PackageWithContents}
 
 -- the value and the contents of the package of a command, given its parts in the order of their reads.
 -- The parts are the scripts, the information of `-I` (`about`) and the folders

@@ -3,18 +3,19 @@
 //! their order; that the result is sound, in `docs/DECISIONS.md`, "Making".
 ghost use Rattle.base_core.specs.Calls.{IfObservable};
 ghost use Rattle.base_core.specs.Read.{OnlyReads};
-ghost use Rattle.make_index.specs.Files.{EachOperandReadFindsNoFileOrFileBytes, reads_of};
-ghost use Rattle.make_index.specs.Index.{made_index};
-ghost use Rattle.make_index.specs.Kept.{AgreesUnlessMemoryOrDisk};
-ghost use Rattle.make_index.specs.make_info.Reads.{Reads};
-ghost use Rattle.make_package.specs.Answers.{IsMadeBySomeReads, IsMadeFromTree, UnlessDiskOrMemory};
-ghost use Rattle.make_index.specs.pkg_core.Whole.{container_fault};
+ghost use Rattle.make_core.specs.Files.{EachOperandReadFindsNoFileOrFileBytes, reads_of};
+ghost use Rattle.make_core.specs.Index.{made_index};
+ghost use Rattle.make_core.specs.Kept.{AgreesUnlessMemoryOrDisk};
+ghost use Rattle.make_info.specs.Reads.{Reads};
+ghost use Rattle.make_core.specs.Answers.{IsMadeBySomeReads, IsMadeFromTree, UnlessDiskOrMemory};
+ghost use Rattle.pkg_core.specs.Whole.{container_fault};
 ghost use Rattle.std.specs.Prelude.{◌≡◌, Ok, None, IfOk, IfErr};
 
 use crate::laws::{a_made_index_is_sound, a_made_package_is_sound};
+use crate::{indexes, packages};
 use base_core::Tree;
 use command_core::{Applet, Command};
-use make_index::MakeFault;
+use make_info::MakeFault;
 use std::alloc::Global;
 
 /// Makes the package that a command describes (apk(8), `mkpkg`): the container's bytes, which pass
@@ -51,7 +52,7 @@ pub fn mkpkg<T: Tree>(alloc: Global, command: &Command, tree: &mut T) -> Result<
 {
     // A law that the proof needs; it computes nothing.
     a_made_package_is_sound();
-    make_package::make(alloc, command, tree)
+    packages::make(alloc, command, tree)
 }
 
 /// Makes an index (apk(8), `mkndx`) of the packages that the operands name: the container's bytes,
@@ -83,5 +84,5 @@ pub fn mkndx<T: Tree>(alloc: Global, command: &Command, tree: &mut T) -> Result<
 {
     // A law that the proof needs; it computes nothing.
     a_made_index_is_sound();
-    make_index::make(alloc, command, tree)
+    indexes::make(alloc, command, tree)
 }

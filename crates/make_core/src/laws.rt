@@ -2,16 +2,16 @@
 //! (apk-v3(5)), and reading them gives the values that the command describes. The rules are in
 //! `docs/commands.md`, "`mkpkg`" and "`mkndx PACKAGE..`", and in `docs/formats.md`, "Tests of a
 //! container".
-ghost use Rattle.make_index.specs.adb_schema.Soundness.{payload_in, root_value_of_payload};
+ghost use Rattle.pkg_core.specs.adb_schema.Soundness.{payload_in, root_value_of_payload};
 ghost use Rattle.adb_view.specs.declared.tables.Which.TheVariants.{Index, Package};
 ghost use Rattle.command_core.specs.declared.values.TheConstants.{FILES, SCRIPT};
-ghost use Rattle.make_index.specs.Files.{EachOperandReadFindsNoFileOrFileBytes};
-ghost use Rattle.make_index.specs.Index.{made_index};
-ghost use Rattle.make_index.specs.make_info.Reads.{Reads};
-ghost use Rattle.make_package.specs.Making.{made_package};
-ghost use Rattle.make_package.specs.package_files.Sources.{AreSortedAndEachBelowFirstFolder, values_of_letter};
+ghost use Rattle.make_core.specs.Files.{EachOperandReadFindsNoFileOrFileBytes};
+ghost use Rattle.make_core.specs.Index.{made_index};
+ghost use Rattle.make_info.specs.Reads.{Reads};
+ghost use Rattle.make_core.specs.Making.{made_package};
+ghost use Rattle.package_files.specs.Sources.{AreSortedAndEachBelowFirstFolder, values_of_letter};
 ghost use Rattle.make_core.specs.ReadBack.{index_value_of_command, package_with_contents_of_command};
-ghost use Rattle.make_index.specs.pkg_core.Whole.{container_fault, package_with_contents};
+ghost use Rattle.pkg_core.specs.Whole.{container_fault, package_with_contents};
 ghost use Rattle.std.specs.Prelude.{◌≡◌, ◌<◌, ◌^◌, ◌∷◌, ◌⊎◌, ℕ, List, length, None, Ok, Err};
 ghost use Rattle.base_core.specs.Files.{Files};
 ghost use Rattle.base_core.specs.Listed.{AreSortedAndEachBelowFolder};
@@ -21,18 +21,18 @@ ghost use Rattle.command_core.specs.declared.values.OptionValue.{OptionValue};
 ghost use Rattle.make_core.specs.FilesBelow.{HasJustNamedFilesBelowFolder};
 ghost use Rattle.make_core.specs.IndexOrder.{HasSortedEntriesOfOperands};
 ghost use Rattle.make_core.specs.Missing.{IsPlaceOfFolderWithMissingFile, IsPlaceOfScriptOptionWithoutFile};
-ghost use Rattle.make_index.specs.make_info.declared.fault.MakeFault.TheVariants.{FileMissing};
+ghost use Rattle.make_info.specs.declared.fault.MakeFault.TheVariants.{FileMissing};
 
+use crate::indexes::an_index_is_in_order;
+use crate::packages::{each_name_is_in_one_folder, the_installed_size_is_that_of_the_contents};
+use adb_copy::{
+    a_value_overflows_exactly_past_a_limit, the_first_pair_in_one_of_several_lists_is_reported,
+};
 use adb_view::{values_are_normal, values_have_their_shape, values_of_few_visits_have_no_fault};
 use dep_core::{read_texts_are_spelled, values_are_read_back};
-use make_index::{
-    a_value_overflows_exactly_past_a_limit, an_index_is_in_order,
-    the_first_pair_in_one_of_several_lists_is_reported,
-};
-use make_package::{
+use package_files::{
     a_container_of_a_good_value_is_sound, a_package_of_a_good_value_and_its_contents_is_sound,
-    contents_are_in_their_container, each_name_is_in_one_folder,
-    the_installed_size_is_that_of_the_contents, what_a_container_is_made_of_is_read_back,
+    contents_are_in_their_container, what_a_container_is_made_of_is_read_back,
 };
 
 /// An index that `mkndx` makes is sound, whatever packages it is made from: files of bytes, fewer

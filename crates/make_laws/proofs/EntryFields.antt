@@ -10,7 +10,7 @@ use Rattle.adb_view.specs.declared.tables.Field.{Field}
 use Rattle.adb_view.specs.declared.tables.Which.TheVariants.{Package, PkgInfo}
 use Rattle.adb_view.proofs.ValueEntries.{nth_obj}
 use Rattle.adb_view.specs.Plain.{Plain, null, int, blob, arr, obj, Plains, none, more, blob_or_null, object_or_null, without_last_nulls}
-use Rattle.make_core.specs.make_index.Entries.{index_entry_of_package_file}
+use Rattle.make_core.specs.Entries.{index_entry_of_package_file}
 use Rattle.make_core.proofs.ValueParts.{placed_later}
 use Rattle.make_laws.specs.MadePackages.{package_in_container}
 use Rattle.make_laws.specs.NamedFields.{field_named, place_of_name}

@@ -10,7 +10,7 @@ use Rattle.command_core.specs.Command.{CommandLine}
 use Rattle.make_core.specs.make_info.Information.{FieldWithValue, information_value_with_installed_size, information, replaces_priority}
 use Rattle.make_core.specs.make_info.Reads.{Reads}
 use Rattle.make_core.specs.make_info.Values.{number_or_null, plains_of_list}
-use Rattle.make_core.specs.make_package.Making.{made_package, or_info_bad}
+use Rattle.make_core.specs.Making.{made_package, or_info_bad}
 use Rattle.make_core.specs.package_files.Package.{Script, SourceFolder, contents_of_folders, installed_size, package_fields, value_of_folder, value_of_package, value_of_scripts}
 use Rattle.make_core.specs.package_files.Sources.{AreSortedAndEachBelowFirstFolder, source_folders_of_first_option_only, and_then, scripts_from_read, texts_of, values_of_letter}
 use Rattle.make_core.specs.ReadBack.{packed_of_parts, package_with_contents_of_command}

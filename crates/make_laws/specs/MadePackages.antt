@@ -16,7 +16,7 @@ use Rattle.command_core.specs.Command.{CommandLine}
 use Rattle.command_core.specs.declared.values.OptionValue.{OptionValue}
 use Rattle.make_core.specs.FilesBelow.{path_joined_to_folder}
 use Rattle.make_core.specs.make_info.Reads.{Reads}
-use Rattle.make_core.specs.make_package.Making.{made_package}
+use Rattle.make_core.specs.Making.{made_package}
 use Rattle.make_core.specs.package_files.Sources.{AreSortedAndEachBelowFirstFolder, values_of_letter}
 use Rattle.make_laws.specs.NamedFields.{IsAccessOfRoot, entries_of_field_named, field_named}
 

@@ -1,4 +1,4 @@
-//! The contents of a package that was made: laws over the definitions of `make_package`. The rules
+//! The contents of a package that was made: laws over the definitions of `make_core`. The rules
 //! are in `docs/commands.md`, "`mkpkg`", parts "Information", "Scripts" and "Files".
 ghost use Rattle.make_core.specs.adb_fields.FirstPair.{IsIn};
 ghost use Rattle.make_core.specs.adb_fields.Repeated.{folders_in};

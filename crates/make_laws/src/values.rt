@@ -1,6 +1,6 @@
 //! Which values `-I` of `mkpkg` accepts, what `--script` gives, and the values of a package and of
 //! an index, field by field: laws over the definitions of `make_info`, `package_files` and
-//! `make_index`.
+//! `make_core`.
 //! The rules are in `docs/commands.md`, "`mkpkg`" (the table of fields) and "`mkndx PACKAGE..`";
 //! the names of fields in `docs/formats.md`, "Schemas".
 ghost use Rattle.make_core.specs.adb_copy.Zeros.{without_zeros};
@@ -11,8 +11,8 @@ ghost use Rattle.command_core.specs.Values.{script_file, script_type};
 ghost use Rattle.command_core.specs.declared.values.OptionValue.{OptionValue};
 ghost use Rattle.dep_core.specs.Dependency.{Dependency};
 ghost use Rattle.dep_core.specs.Value.{dep_value};
-ghost use Rattle.make_core.specs.make_index.Entries.{index_entry_of_package_file};
-ghost use Rattle.make_core.specs.make_index.Index.{value_of_index};
+ghost use Rattle.make_core.specs.Entries.{index_entry_of_package_file};
+ghost use Rattle.make_core.specs.Index.{value_of_index};
 ghost use Rattle.make_core.specs.make_info.FieldTexts.{field_text_in};
 ghost use Rattle.make_core.specs.make_info.Fields.{TextNumberOrDependency, kind_of_field, values_by_kind, text, number, need};
 ghost use Rattle.make_core.specs.make_info.Information.{offends, plain_value};

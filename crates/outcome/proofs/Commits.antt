@@ -7,11 +7,11 @@ use Rattle.base_core.specs.declared.cause.Cause.{Cause}
 use Rattle.command_core.specs.Command.{CommandLine}
 use Rattle.command_core.specs.declared.command.Applet.{Applet}
 use Rattle.command_core.specs.declared.command.Applet.TheVariants.{Mkndx, Mkpkg}
-use Rattle.make_core.specs.make_index.Index.{made_index}
+use Rattle.make_core.specs.Index.{made_index}
 use Rattle.make_core.specs.make_info.Output.{output_name}
 use Rattle.make_core.specs.make_info.declared.fault.MakeFault.{MakeFault}
 use Rattle.make_core.specs.make_info.declared.fault.MakeFault.TheVariants.{FileMissing, FileBad, InfoBad, TooLarge, Disk, Memory}
-use Rattle.make_core.specs.make_package.Making.{made_package}
+use Rattle.make_core.specs.Making.{made_package}
 use Rattle.engine_core.specs.change_outcome.ChangeOutcome.{ChangeDone}
 use Rattle.engine_core.specs.Changed.{change_of_command}
 use Rattle.report_core.specs.declared.refusal.Refusal.{Refusal}

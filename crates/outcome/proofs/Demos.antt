@@ -13,11 +13,11 @@ use Rattle.command_core.specs.declared.command.Applet.TheVariants.{Help, Mkndx, 
 use Rattle.demo_lines.specs.Lines.{add_words, demo_file, demo_repositories, contents_of_demo_file, mkndx_words, mkpkg_words}
 use Rattle.demo_lines.specs.Report.{demo_line_of_count_and_add_report}
 use Rattle.engine_core.specs.journal_core.Replacing.{scratch_name_of}
-use Rattle.make_core.specs.make_index.Index.{made_index}
+use Rattle.make_core.specs.Index.{made_index}
 use Rattle.make_core.specs.make_info.Output.{output_name}
 use Rattle.make_core.specs.make_info.declared.fault.MakeFault.{MakeFault}
 use Rattle.make_core.specs.make_info.declared.fault.MakeFault.TheVariants.{FileMissing, FileBad, InfoBad, TooLarge, Disk, Memory}
-use Rattle.make_core.specs.make_package.Making.{made_package}
+use Rattle.make_core.specs.Making.{made_package}
 use Rattle.report_core.specs.declared.refusal.Refusal.{Refusal}
 use Rattle.report_core.specs.declared.refusal.Refusal.TheVariants.{Reserved, ResultTooLarge}
 use Rattle.root_names.specs.RootNames.{repositories_name}

@@ -22,12 +22,12 @@ use Rattle.engine_core.specs.Wishes.{unknown_operand_place, unless_unknown_opera
 use Rattle.gen_core.specs.Generated.{generated_file}
 use Rattle.gen_core.specs.declared.generate.GenFault.{GenFault}
 use Rattle.gen_core.specs.declared.generate.GenFault.TheVariants.{Bad as BadLine, TooLarge as TextTooLarge, Memory as NoMemory}
-use Rattle.make_core.specs.make_index.Index.{made_index}
+use Rattle.make_core.specs.Index.{made_index}
 use Rattle.make_core.specs.make_info.Output.{output_name}
 use Rattle.make_core.specs.make_info.Reads.{Reads}
 use Rattle.make_core.specs.make_info.declared.fault.MakeFault.{MakeFault}
 use Rattle.make_core.specs.make_info.declared.fault.MakeFault.TheVariants.{FileMissing, FileBad, InfoBad, TooLarge, Disk, Memory}
-use Rattle.make_core.specs.make_package.Making.{made_package}
+use Rattle.make_core.specs.Making.{made_package}
 use Rattle.engine_core.specs.package_changes.Changes.{Replacement}
 use Rattle.tell_core.specs.path_clashes.Clash.{NamePair}
 use Rattle.tell_core.specs.candidate_core.Rank.{SelectionProblem}

@@ -15,14 +15,14 @@ use Rattle.command_core.specs.declared.values.TheConstants.{FILES, SCRIPT, TRIGG
 use Rattle.engine_core.specs.journal_core.Replacing.{files_after_replacement, scratch_name_of}
 use Rattle.engine_core.specs.journal_core.Staged.{unstaged_files}
 use Rattle.make_core.specs.package_files.Folders.{FolderListing, folder_listings_by_tree_names, last_part_of}
-use Rattle.make_core.specs.make_index.Index.{entry_before_others_or_fault, found_entries, found_entry, index_container, index_of_entries, index_of_entries_or_fault, value_of_index, entry_unless_fault, first_description_or_empty, made_index}
-use Rattle.make_core.specs.make_index.EntryOrder.{index_entry_cmp}
+use Rattle.make_core.specs.Index.{entry_before_others_or_fault, found_entries, found_entry, index_container, index_of_entries, index_of_entries_or_fault, value_of_index, entry_unless_fault, first_description_or_empty, made_index}
+use Rattle.make_core.specs.EntryOrder.{index_entry_cmp}
 use Rattle.base_core.specs.Sorted.{sorted_by}
 use Rattle.make_core.specs.make_info.Information.{FieldWithValue, information_value_with_installed_size, information, replaces_priority}
-use Rattle.make_core.specs.make_package.Making.{container_unless_too_large, made_package, or_info_bad, package_container, package_of_parts}
+use Rattle.make_core.specs.Making.{container_unless_too_large, made_package, or_info_bad, package_container, package_of_parts}
 use Rattle.make_core.specs.make_info.Output.{output_name}
 use Rattle.make_core.specs.package_files.Package.{Script, SourceFileNameAndBytes, SourceFolder, contents_of_folders, installed_size, value_of_package}
-use Rattle.make_core.specs.make_index.Files.{EachOperandReadFindsNoFileOrFileBytes}
+use Rattle.make_core.specs.Files.{EachOperandReadFindsNoFileOrFileBytes}
 use Rattle.make_core.specs.package_files.Sources.{AreSortedAndEachBelowFirstFolder, and_then, results_from_read, source_file_at_place_by_read, source_files_at_place_from_read, source_folder_at_place_by_read, source_folders_of_first_option_only, found_bytes_or_missing, values_of_letter, script_at, scripts_from_read, texts_of}
 use Rattle.make_core.specs.make_info.Reads.{Reads}
 use Rattle.make_core.specs.make_info.declared.fault.MakeFault.{MakeFault}

@@ -15,7 +15,6 @@ pub use Rattle.gen_core.specs.adb_write as adb_write
 pub use Rattle.make_core.specs as make_core
 pub use Rattle.make_core.specs.adb_fields as adb_fields
 pub use Rattle.make_core.specs.make_info as make_info
-pub use Rattle.make_core.specs.make_package as make_package
 pub use Rattle.make_core.specs.package_files as package_files
 pub use Rattle.make_core.specs.pkg_core as pkg_core
 pub use Rattle.tell_core.specs as tell_core

@@ -7,8 +7,8 @@ use Rattle.gen_core.specs.adb_schema.Reserved.{is_reserved}
 use Rattle.base_core.specs.Files.{Files}
 use Rattle.base_core.specs.Listed.{IsSortedListOfAllNamesInMap}
 use Rattle.engine_core.specs.journal_core.Replacing.{files_after_replacement}
-use Rattle.make_core.specs.make_index.Index.{made_index}
-use Rattle.make_core.specs.make_package.Making.{made_package}
+use Rattle.make_core.specs.Index.{made_index}
+use Rattle.make_core.specs.Making.{made_package}
 use Rattle.make_core.specs.make_info.Output.{output_name}
 use Rattle.make_core.specs.make_info.Reads.{Reads}
 use Rattle.make_core.specs.make_info.declared.fault.MakeFault.{MakeFault}

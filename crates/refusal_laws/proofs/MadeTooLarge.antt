@@ -14,7 +14,7 @@ use Rattle.outcome.specs.make_info.Reads.{Reads}
 use Rattle.outcome.specs.make_info.declared.fault.MakeFault.{MakeFault}
 use Rattle.outcome.specs.make_info.declared.fault.MakeFault.TheVariants.{TooLarge}
 use Rattle.outcome.specs.package_files.Folders.{FolderListing, folder_listings_by_tree_names}
-use Rattle.outcome.specs.make_package.Making.{container_unless_too_large, made_package, or_info_bad, package_container, package_of_parts}
+use Rattle.outcome.specs.make_core.Making.{container_unless_too_large, made_package, or_info_bad, package_container, package_of_parts}
 use Rattle.outcome.specs.package_files.Package.{Script, SourceFileNameAndBytes, SourceFolder, contents_of_folders, installed_size, value_of_package}
 use Rattle.outcome.specs.package_files.Sources.{results_from_read, source_file_at_place_by_read, source_folder_at_place_by_read, source_folders_of_first_option_only, found_bytes_or_missing, and_then, script_at, script_with, scripts_from_read, source_file_named_by_last_part, source_files_at_place_from_read, texts_of, values_of_letter}
 use Rattle.outcome.specs.pkg_core.Contents.{Contents}

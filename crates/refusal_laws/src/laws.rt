@@ -14,7 +14,7 @@ ghost use Rattle.outcome.specs.engine_core.Selecting.{pool_of_command};
 ghost use Rattle.outcome.specs.installed_info.declared.telling.ReportAndRefusal.{ReportAndRefusal};
 ghost use Rattle.outcome.specs.make_info.Reads.{Reads};
 ghost use Rattle.outcome.specs.make_info.declared.fault.MakeFault.TheVariants.{TooLarge};
-ghost use Rattle.outcome.specs.make_package.Making.{made_package};
+ghost use Rattle.outcome.specs.make_core.Making.{made_package};
 ghost use Rattle.outcome.specs.Commands.{IsOutcomeOverRecoveredFiles};
 ghost use Rattle.outcome.specs.Effect.{Changes, effect_of};
 ghost use Rattle.outcome.specs.Outcome.{Outcome};

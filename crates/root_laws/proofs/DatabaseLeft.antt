@@ -1,8 +1,8 @@
 -- The database that a change leaves is read.
 use Rattle.std.proofs.Common.{◌≡◌, ◌∙◌, ℕ, Bool, false, List, Some, None, Ok, ap}
-use Rattle.make_index.specs.adb_fields.Repeated.{entries_of_field_at_index, list_of}
-use Rattle.make_index.specs.adb_schema.SoundContainers.{IsSoundContainerExceptContents}
-use Rattle.make_index.specs.adb_schema.Soundness.{container_fault_except_contents, payload_in, root_value_of_payload}
+use Rattle.make_core.specs.adb_fields.Repeated.{entries_of_field_at_index, list_of}
+use Rattle.make_core.specs.adb_schema.SoundContainers.{IsSoundContainerExceptContents}
+use Rattle.make_core.specs.adb_schema.Soundness.{container_fault_except_contents, payload_in, root_value_of_payload}
 use Rattle.engine_core.specs.adb_sound.Root.{IsValidRootValueOfTable}
 use Rattle.adb_view.specs.declared.tables.Which.TheVariants.{Idb}
 use Rattle.adb_view.specs.Plain.{Plain}

@@ -2,8 +2,8 @@
 pub use Rattle.engine_core.proofs.change_files as change_files
 pub use Rattle.engine_core.proofs.change_outcome as change_outcome
 pub use Rattle.engine_core.proofs.file_owners as file_owners
-pub use Rattle.make_index.proofs.adb_copy as adb_copy
-pub use Rattle.make_index.proofs.pkg_core as pkg_core
+pub use Rattle.make_core.proofs.adb_copy as adb_copy
+pub use Rattle.make_core.proofs.pkg_core as pkg_core
 mod NewWorld
 mod Unreserved
 mod TextLines

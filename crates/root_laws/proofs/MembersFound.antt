@@ -5,11 +5,11 @@ use Rattle.std.specs.Option.{option_or}
 use Rattle.std.specs.List.{cons_option, find}
 use Rattle.std.proofs.lemmas.Slice.Eq.{bytes_eq-Decides}
 use Rattle.sha2.proofs.Facts256.{length-sha256}
-use Rattle.make_index.specs.adb_fields.FirstPair.{IsIn}
-use Rattle.make_index.specs.adb_fields.Repeated.{package_name}
-use Rattle.make_index.specs.adb_schema.Rules.{is_digest_length}
-use Rattle.make_index.specs.adb_schema.SoundContainers.{IsSoundContainerExceptContents}
-use Rattle.make_index.specs.adb_schema.Soundness.{container_fault_except_contents, payload_in, root_value_of_payload}
+use Rattle.make_core.specs.adb_fields.FirstPair.{IsIn}
+use Rattle.make_core.specs.adb_fields.Repeated.{package_name}
+use Rattle.make_core.specs.adb_schema.Rules.{is_digest_length}
+use Rattle.make_core.specs.adb_schema.SoundContainers.{IsSoundContainerExceptContents}
+use Rattle.make_core.specs.adb_schema.Soundness.{container_fault_except_contents, payload_in, root_value_of_payload}
 use Rattle.adb_view.specs.declared.tables.Which.TheVariants.{Package}
 use Rattle.adb_view.specs.Plain.{Plain}
 use Rattle.base_core.specs.declared.cause.Cause.{Cause}
@@ -26,11 +26,11 @@ use Rattle.engine_core.specs.db_core.Packages.{is_package_named}
 use Rattle.engine_core.specs.db_core.SoundMembers.{AreMembersOfSoundContainers, IsPackageOfSoundContainer}
 use Rattle.dep_core.specs.Repositories.{Repository}
 use Rattle.engine_core.specs.file_owners.Replaces.{package_version_text}
-use Rattle.make_index.proofs.IndexSound.{payload_all}
-use Rattle.make_index.specs.make_info.Reads.{Reads}
+use Rattle.make_core.proofs.IndexSound.{payload_all}
+use Rattle.make_core.specs.make_info.Reads.{Reads}
 use Rattle.engine_core.specs.package_changes.Changes.{Replacement, change_of_name, is_candidate_named, names_before_and_selected, candidate_version_text}
-use Rattle.make_index.specs.pkg_core.Contents.{fault_of_files_read}
-use Rattle.make_index.specs.pkg_core.Whole.{files_read_from_package, package_fault, payload_sha256_of_package_file}
+use Rattle.make_core.specs.pkg_core.Contents.{fault_of_files_read}
+use Rattle.make_core.specs.pkg_core.Whole.{files_read_from_package, package_fault, payload_sha256_of_package_file}
 use Rattle.engine_core.specs.candidate_core.Candidates.{Candidate, is_same_id_by_nonempty_prefix}
 use Rattle.report_core.specs.Reports.{Change}
 use Rattle.report_core.specs.declared.refusal.Refusal.{Refusal}

@@ -1,6 +1,6 @@
 -- What a command begins with that reads the root which a change has left.
 use Rattle.std.proofs.Common.{◌≡◌, ℕ, ◌+◌, Bool, true, false, List, [], ◌∷◌, Option, Some, None, Result, Ok, Err, sym, subst}
-use Rattle.make_index.specs.adb_schema.Soundness.{container_fault_except_contents, payload_in, root_value_of_payload}
+use Rattle.make_core.specs.adb_schema.Soundness.{container_fault_except_contents, payload_in, root_value_of_payload}
 use Rattle.adb_view.specs.declared.tables.Which.TheVariants.{Index}
 use Rattle.adb_view.specs.Plain.{Plain}
 use Rattle.base_core.specs.declared.cause.Cause.{Cause}
@@ -15,7 +15,7 @@ use Rattle.engine_core.specs.change_outcome.MembersAfter.{found_members}
 use Rattle.command_core.specs.Command.{CommandLine}
 use Rattle.dep_core.specs.Dependency.{Dependency}
 use Rattle.dep_core.specs.Repositories.{Repository, repositories_of}
-use Rattle.make_index.specs.make_info.Reads.{Reads}
+use Rattle.make_core.specs.make_info.Reads.{Reads}
 use Rattle.report_core.specs.declared.refusal.Refusal.{Refusal}
 use Rattle.report_core.specs.declared.refusal.Refusal.TheVariants.{IndexBad, RepositoriesBad}
 use Rattle.root_names.specs.RootNames.{repositories_name, world_name}

@@ -16,7 +16,7 @@ use Rattle.command_core.specs.Command.{CommandLine}
 use Rattle.engine_core.specs.Changed.{InputsAndReplacement, change_of_selected, change_of_command, selected_from_pool_by_choice, selected_from_reads_by_choice, selected_from_inputs_by_choice, simulated_change}
 use Rattle.engine_core.specs.Selecting.{pool_of_inputs_unless_too_many_candidates}
 use Rattle.engine_core.specs.Wishes.{unknown_operand_place, unless_unknown_operand, wishes_of}
-use Rattle.make_index.specs.make_info.Reads.{Reads}
+use Rattle.make_core.specs.make_info.Reads.{Reads}
 use Rattle.engine_core.specs.path_clashes.Clash.{NamePair}
 use Rattle.engine_core.specs.candidate_core.Rank.{SelectionProblem}
 use Rattle.report_core.specs.declared.refusal.Refusal.{Refusal}

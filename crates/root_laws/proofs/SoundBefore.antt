@@ -1,11 +1,11 @@
 -- The packages before a change are of a sound database.
 use Rattle.std.proofs.Common.{◌≡◌, ◌∙◌, ℕ, ◌<◌, Bool, true, false, List, [], Option, Some, None, Result, Ok, Err, refl, sym, ap, subst}
 use Rattle.std.specs.Prelude.{All}
-use Rattle.make_index.specs.adb_fields.FirstPair.{IsIn}
-use Rattle.make_index.specs.adb_fields.Repeated.{entries_of_field_at_index}
-use Rattle.make_index.specs.adb_schema.SoundContainers.{IsSoundContainerExceptContents}
-use Rattle.make_index.proofs.adb_schema.Sound as Values
-use Rattle.make_index.specs.adb_schema.Soundness.{container_fault_except_contents, payload_in, root_value_of_payload}
+use Rattle.make_core.specs.adb_fields.FirstPair.{IsIn}
+use Rattle.make_core.specs.adb_fields.Repeated.{entries_of_field_at_index}
+use Rattle.make_core.specs.adb_schema.SoundContainers.{IsSoundContainerExceptContents}
+use Rattle.make_core.proofs.adb_schema.Sound as Values
+use Rattle.make_core.specs.adb_schema.Soundness.{container_fault_except_contents, payload_in, root_value_of_payload}
 use Rattle.adb_view.specs.declared.tables.Which.TheVariants.{Idb}
 use Rattle.adb_view.specs.Plain.{Plain}
 use Rattle.base_core.specs.declared.cause.Cause.{Cause}
@@ -20,8 +20,8 @@ use Rattle.engine_core.specs.db_core.SoundMembers.{IsPackageOfSoundContainer, Is
 use Rattle.dep_core.specs.Dependency.{Dependency}
 use Rattle.dep_core.specs.Repositories.{Repository}
 use Rattle.dep_core.specs.World.{IsWorldSortedByName}
-use Rattle.make_index.proofs.IndexSound.{payload_all}
-use Rattle.make_index.specs.make_info.Reads.{Reads}
+use Rattle.make_core.proofs.IndexSound.{payload_all}
+use Rattle.make_core.specs.make_info.Reads.{Reads}
 use Rattle.report_core.specs.declared.refusal.Refusal.{Refusal}
 use Rattle.report_core.specs.declared.refusal.Refusal.TheVariants.{DatabaseBad}
 use Rattle.root_names.specs.RootNames.{database_name, repositories_name, text_database_name, world_name}

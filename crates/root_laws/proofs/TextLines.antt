@@ -22,19 +22,19 @@ use Rattle.command_core.specs.Operands.{is_decimal_without_leading_zeros}
 use Rattle.hex.specs.Hex.{decode_of as hex_bytes}
 use Rattle.hex.specs.declared.error.FromHexError.{FromHexError}
 use Rattle.std.specs.Str.Parse.{digits_value}
-use Rattle.make_index.specs.make_info.Fields.{TextNumberOrDependency, need, dependency_value_and_others, decimal_number_without_leading_zeros, dependency_if_untagged, untagged_dependency_in, dependency_values_of_parts, nonempty_parts_between_spaces, text_value_if}
-use Rattle.make_index.specs.make_info.Information.{plain_value}
-use Rattle.make_index.specs.make_info.Values.{number_or_null, plains_of_list}
+use Rattle.make_core.specs.make_info.Fields.{TextNumberOrDependency, need, dependency_value_and_others, decimal_number_without_leading_zeros, dependency_if_untagged, untagged_dependency_in, dependency_values_of_parts, nonempty_parts_between_spaces, text_value_if}
+use Rattle.make_core.specs.make_info.Information.{plain_value}
+use Rattle.make_core.specs.make_info.Values.{number_or_null, plains_of_list}
 use Rattle.engine_core.specs.v2_core.Database.{array_or_null_of_list, trimmed_object_or_null_of_list}
 use Rattle.engine_core.specs.v2_core.Records.{InfoLine, info_line_from_parts}
-use Rattle.engine_core.specs.v2_lines.Accesses.{Access, access_from_parts, access_in, before_colon, after_colon, is_uid_or_gid, is_octal, octal_number}
-use Rattle.engine_core.specs.v2_lines.InfoFields.{field_of_letter, grammar_of}
-use Rattle.engine_core.specs.v2_lines.InfoValues.{commit_values, list_of_one_number_value, list_of_one_text_value, sha1_in_text, values_under_grammar}
-use Rattle.engine_core.specs.v2_lines.Lines.{RecordLine, info_line, folder_line, folder_access_line, file_line, file_access_line, file_hash_line, other_line, file_line_if_one_part, folder_line_if_path, info_line_or_skipped_if_no_field, record_line_or_skipped_if_letter_unknown, record_line_of}
-use Rattle.engine_core.specs.v2_lines.declared.field.Grammar.{Grammar}
-use Rattle.engine_core.specs.v2_lines.declared.field.Grammar.TheVariants as Grammars
-use Rattle.engine_core.specs.v2_lines.declared.field.InfoField.{InfoField}
-use Rattle.make_index.specs.adb_schema.Rules.{is_folder_name, is_one_part}
+use Rattle.engine_core.specs.v2_core.Accesses.{Access, access_from_parts, access_in, before_colon, after_colon, is_uid_or_gid, is_octal, octal_number}
+use Rattle.engine_core.specs.v2_core.InfoFields.{field_of_letter, grammar_of}
+use Rattle.engine_core.specs.v2_core.InfoValues.{commit_values, list_of_one_number_value, list_of_one_text_value, sha1_in_text, values_under_grammar}
+use Rattle.engine_core.specs.v2_core.Lines.{RecordLine, info_line, folder_line, folder_access_line, file_line, file_access_line, file_hash_line, other_line, file_line_if_one_part, folder_line_if_path, info_line_or_skipped_if_no_field, record_line_or_skipped_if_letter_unknown, record_line_of}
+use Rattle.engine_core.specs.v2_core.declared.field.Grammar.{Grammar}
+use Rattle.engine_core.specs.v2_core.declared.field.Grammar.TheVariants as Grammars
+use Rattle.engine_core.specs.v2_core.declared.field.InfoField.{InfoField}
+use Rattle.make_core.specs.adb_schema.Rules.{is_folder_name, is_one_part}
 
 -- ---- values that fit a field
 

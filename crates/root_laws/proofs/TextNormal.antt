@@ -2,7 +2,7 @@
 use Rattle.std.proofs.Common.{◌≡◌, ◌∙◌, ℕ, ◌≤◌, false, List, Option, Some, None, Result, Ok, Err, refl, sym, ap, subst}
 use Rattle.std.specs.Prelude.{is_some, unwrap_or}
 use Rattle.std.proofs.lemmas.Bool.{ltb-false}
-use Rattle.make_index.specs.adb_schema.Soundness.{payload_fault, root_value_of_payload}
+use Rattle.make_core.specs.adb_schema.Soundness.{payload_fault, root_value_of_payload}
 use Rattle.adb_view.specs.Schema.{shape_of}
 use Rattle.adb_view.specs.Values.{value_at}
 use Rattle.adb_view.specs.declared.tables.Kind.TheVariants.{Obj}
@@ -10,8 +10,8 @@ use Rattle.adb_view.specs.declared.tables.Which.TheVariants as Tables
 use Rattle.adb_view.specs.Head.{root_word_of_payload}
 use Rattle.adb_view.specs.Plain.{IsNormal, Plain, Shape, null, plain_of, root_value_with_shape}
 use Rattle.adb_view.specs.Shaped.{HasShape}
-use Rattle.make_index.specs.adb_write.Canonical.{MOST_BYTES, ByteAndValueCounts, canonical, exceeds_a_limit, payload_unless_overflow, counts_at_first_overflow, payload_or_counts_at_overflow}
-use Rattle.make_index.specs.adb_write.Size.{payload_size_of, value_count}
+use Rattle.make_core.specs.adb_write.Canonical.{MOST_BYTES, ByteAndValueCounts, canonical, exceeds_a_limit, payload_unless_overflow, counts_at_first_overflow, payload_or_counts_at_overflow}
+use Rattle.make_core.specs.adb_write.Size.{payload_size_of, value_count}
 use Rattle.base_core.specs.declared.cause.Cause.{Cause}
 use Rattle.base_core.proofs.Booleans.{neither_first}
 use Rattle.engine_core.specs.v2_core.Database.{database_value_of_records}

@@ -10,17 +10,17 @@ use Rattle.adb_view.specs.declared.tables.Which.TheVariants as Tables
 use Rattle.adb_view.specs.Plain.{Plain, Shape, null, int, blob_or_null, number as number_shape, hash as hash_shape, array}
 use Rattle.engine_core.proofs.db_core.RootParts.{EachIn}
 use Rattle.dep_core.specs.World.{lines_of}
-use Rattle.make_index.specs.make_info.Fields.{TextNumberOrDependency}
-use Rattle.make_index.specs.make_info.Information.{plain_value}
+use Rattle.make_core.specs.make_info.Fields.{TextNumberOrDependency}
+use Rattle.make_core.specs.make_info.Information.{plain_value}
 use Rattle.engine_core.specs.v2_core.Database.{array_or_null_of_list, array_of_field_values, listed_access_value, listed_file_value, listed_folder_value, listed_hash_value, record_info_value, record_value, value_of_single_line_field, value_of_first_or_null, value_of_line, database_value_of_records, values_if_line_of_field}
 use Rattle.engine_core.specs.v2_core.Reading.{records_from_record_end, records_from_unfinished_record, records_of, records_followed_by, record_with_text_line}
 use Rattle.engine_core.specs.v2_core.Records.{InfoLine, ListedFile, ListedFolder, Record, empty_record, listed_file_from_parts, file_with_access, file_with_hash, listed_folder_from_parts, folder_with_access, folder_with_file, folder_with_files, folder_with_last_file_changed, has_line_of_field, info_line_from_parts, is_line_of_field, lacks_name_or_version_line, record_if_both_parts, with_info_line, list_with_last_changed, with_path_line, with_record_line}
-use Rattle.engine_core.specs.v2_lines.Accesses.{Access}
-use Rattle.engine_core.specs.v2_lines.InfoFields.{is_list_info_field, grammar_of, info_field_among, info_fields, letter_of}
-use Rattle.engine_core.specs.v2_lines.Lines.{RecordLine, info_line, folder_line, folder_access_line, file_line, file_access_line, file_hash_line, other_line, record_line_of}
-use Rattle.engine_core.specs.v2_lines.declared.field.Grammar.{Grammar}
-use Rattle.engine_core.specs.v2_lines.declared.field.InfoField.{InfoField}
-use Rattle.engine_core.specs.v2_lines.declared.field.InfoField.TheVariants as InfoFields
+use Rattle.engine_core.specs.v2_core.Accesses.{Access}
+use Rattle.engine_core.specs.v2_core.InfoFields.{is_list_info_field, grammar_of, info_field_among, info_fields, letter_of}
+use Rattle.engine_core.specs.v2_core.Lines.{RecordLine, info_line, folder_line, folder_access_line, file_line, file_access_line, file_hash_line, other_line, record_line_of}
+use Rattle.engine_core.specs.v2_core.declared.field.Grammar.{Grammar}
+use Rattle.engine_core.specs.v2_core.declared.field.InfoField.{InfoField}
+use Rattle.engine_core.specs.v2_core.declared.field.InfoField.TheVariants as InfoFields
 use Rattle.root_laws.proofs.TextLines.{IsFit, IsGoodAccess, IsGoodLine, IsGoodRecordLine, IsOfGrammar, array_fit, hash_fit, if_each, int_fit, line_good, map_some, null_fit, object_fit, shape_for, text_fit}
 
 -- ---- what is said so far

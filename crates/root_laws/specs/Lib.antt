@@ -8,10 +8,10 @@ pub use Rattle.engine_core.specs.db_core as db_core
 pub use Rattle.engine_core.specs.file_owners as file_owners
 pub use Rattle.engine_core.specs.package_changes as package_changes
 pub use Rattle.engine_core.specs.path_claims as path_claims
-pub use Rattle.make_index.specs.adb_copy as adb_copy
-pub use Rattle.make_index.specs.adb_schema as adb_schema
-pub use Rattle.make_index.specs.make_info as make_info
-pub use Rattle.make_index.specs.pkg_core as pkg_core
+pub use Rattle.make_core.specs.adb_copy as adb_copy
+pub use Rattle.make_core.specs.adb_schema as adb_schema
+pub use Rattle.make_core.specs.make_info as make_info
+pub use Rattle.make_core.specs.pkg_core as pkg_core
 -- modules that laws of later runs cite
 pub mod RootLeft
 pub mod NextInputs

@@ -5,7 +5,7 @@ use Rattle.engine_core.specs.change_inputs.Inputs.{Inputs}
 use Rattle.engine_core.specs.change_outcome.ChangeOutcome.{ChangeDone}
 use Rattle.engine_core.specs.change_outcome.MembersAfter.{found_members}
 use Rattle.command_core.specs.Command.{CommandLine}
-use Rattle.make_index.specs.make_info.Reads.{Reads}
+use Rattle.make_core.specs.make_info.Reads.{Reads}
 use Rattle.report_core.specs.declared.refusal.Refusal.{Refusal}
 use Rattle.report_core.specs.declared.refusal.Refusal.TheVariants.{IndexBad, IndexMissing, RepositoriesBad, Untrusted}
 use Rattle.root_laws.specs.RootLeft.{LaterCommandsFindMembersAndNewWorld, database_of_members}

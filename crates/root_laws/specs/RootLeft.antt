@@ -1,7 +1,7 @@
 -- The root that a change leaves, as a later command reads it. The rules are in `docs/formats.md`, "The
 -- database after a change" and "World".
 use Rattle.std.specs.Prelude.{◌≡◌, ℕ, ◌<◌, false, List, All, Option, Some, Ok}
-use Rattle.make_index.specs.adb_fields.Repeated.{list_of}
+use Rattle.make_core.specs.adb_fields.Repeated.{list_of}
 use Rattle.base_core.specs.Files.{Files}
 use Rattle.engine_core.specs.change_inputs.Database.{Database, database_of_packages_file_and_is_text}
 use Rattle.engine_core.specs.change_inputs.Inputs.{database_for, database_read_number, world_read_number}
@@ -15,7 +15,7 @@ use Rattle.dep_core.specs.World.{world_text}
 use Rattle.engine_core.specs.Changed.{InputsAndReplacement, selected_from_reads_by_choice}
 use Rattle.engine_core.specs.Wishes.{wishes_of}
 use Rattle.engine_core.specs.file_owners.Owners.{owned_flags_of}
-use Rattle.make_index.specs.make_info.Reads.{Reads}
+use Rattle.make_core.specs.make_info.Reads.{Reads}
 use Rattle.root_names.specs.RootNames.{database_name, world_name}
 
 -- each file that the reads find consists of bytes, that is, numbers below 256

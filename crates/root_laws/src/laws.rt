@@ -7,7 +7,7 @@ ghost use Rattle.engine_core.specs.change_inputs.Inputs.{Inputs, inputs_of};
 ghost use Rattle.engine_core.specs.change_outcome.ChangeOutcome.{ChangeDone};
 ghost use Rattle.command_core.specs.Command.{CommandLine};
 ghost use Rattle.engine_core.specs.Changed.{change_of_command};
-ghost use Rattle.make_index.specs.make_info.Reads.{Reads};
+ghost use Rattle.make_core.specs.make_info.Reads.{Reads};
 ghost use Rattle.engine_core.specs.path_clashes.Clash.{NamePair};
 ghost use Rattle.report_core.specs.declared.refusal.Refusal.{Refusal};
 ghost use Rattle.root_laws.specs.NextInputs.{HasDatabaseAndWorldOfRootLeft, IsRefusalOfRepositoriesOrIndex};
@@ -19,7 +19,7 @@ use engine_core::{
     a_database_of_sound_packages_may_be_the_root, a_written_database_is_read_back,
     no_path_is_owned_by_two_members, packages_of_sound_containers_may_be_members,
 };
-use make_index::{
+use make_core::{
     a_canonical_payload_is_read_back, a_package_is_tested_by_its_values_and_then_its_files,
     a_value_overflows_exactly_past_a_limit, no_repeated_name_is_reported_if_there_is_none,
     no_text_is_bad_where_each_keeps_its_rule,

@@ -17,4 +17,4 @@ pub use laws::{
     a_command_begins_with_what_the_last_change_left, reads_of_named_files_find_bytes,
     what_a_change_leaves_is_read_by_the_next_run,
 };
-pub use make_index::{sound_containers_hold_sound_values, the_first_bad_text_is_reported};
+pub use make_core::{sound_containers_hold_sound_values, the_first_bad_text_is_reported};

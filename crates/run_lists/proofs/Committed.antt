@@ -18,12 +18,12 @@ use Rattle.apk_front.specs.engine_core.Wishes.{wishes_of}
 use Rattle.apk_front.specs.journal_core.Recovery.{intent_name}
 use Rattle.apk_front.specs.journal_core.Replacing.{files_after_replacement, scratch_name_of}
 use Rattle.apk_front.specs.journal_core.Staged.{unstaged_files}
-use Rattle.apk_front.specs.make_index.Index.{made_index}
+use Rattle.apk_front.specs.make_core.Index.{made_index}
 use Rattle.apk_front.specs.make_info.Output.{output_name}
 use Rattle.apk_front.specs.make_info.Reads.{Reads}
 use Rattle.apk_front.specs.make_info.declared.fault.MakeFault.{MakeFault}
 use Rattle.apk_front.specs.make_info.declared.fault.MakeFault.TheVariants.{FileMissing as NoFile, FileBad as BadFile, InfoBad as BadInfo, TooLarge, Disk, Memory}
-use Rattle.apk_front.specs.make_package.Making.{made_package}
+use Rattle.apk_front.specs.make_core.Making.{made_package}
 use Rattle.apk_front.specs.package_changes.Changes.{Replacement}
 use Rattle.apk_front.specs.path_clashes.Clash.{NamePair}
 use Rattle.report_core.specs.declared.refusal.Refusal.{Refusal}

@@ -6,11 +6,11 @@ use Rattle.std.proofs.lemmas.List.Folds.{list_any-append}
 use Rattle.dep_core.specs.Dependency.{is_package_name}
 use Rattle.version_core.specs.Order.{is_version, tokens}
 use Rattle.version_core.specs.Token.{later_component_lexeme_by_digits, next_lexeme, number_lexeme_by_digits}
-use Rattle.v2_lines.specs.make_info.Fields.{TextNumberOrDependency, text, text_value_if}
-use Rattle.v2_lines.specs.InfoFields.{field_of_letter, is_list_info_field}
-use Rattle.v2_lines.specs.Lines.{info_line, record_line_or_skipped_if_letter_unknown, record_line_of}
-use Rattle.v2_lines.specs.declared.field.InfoField.{InfoField}
-use Rattle.v2_lines.specs.declared.field.InfoField.TheVariants as Fields
+use Rattle.make_info.specs.Fields.{TextNumberOrDependency, text, text_value_if}
+use Rattle.v2_core.specs.InfoFields.{field_of_letter, is_list_info_field}
+use Rattle.v2_core.specs.Lines.{info_line, record_line_or_skipped_if_letter_unknown, record_line_of}
+use Rattle.v2_core.specs.declared.field.InfoField.{InfoField}
+use Rattle.v2_core.specs.declared.field.InfoField.TheVariants as Fields
 use Rattle.v2_core.specs.Reading.{records_from_unfinished_record, records_followed_by, record_with_text_line}
 use Rattle.v2_core.specs.Records.{InfoLine, Record, empty_record, has_line_of_field, info_line_from_parts, is_line_of_field, lacks_name_or_version_line, record_from_parts, record_if_both_parts, with_record_line}
 use Rattle.v2_core.proofs.FirstBad.{err_is, same_number}

@@ -3,6 +3,8 @@ pub mod FirstBad
 pub mod LastElement
 pub mod ListValues
 pub mod Lists
+pub mod NeedLists
+pub mod Octal
 pub mod Payloads
 pub mod RecordEnds
 pub mod Spelled

@@ -5,19 +5,19 @@ use Rattle.std.specs.declared.alloc.Global.{Global}
 use Rattle.std.specs.List.{flat_map}
 use Rattle.std.proofs.lemmas.Option.{slice_get-get_or}
 use Rattle.adb_view.specs.Plain.{Plain}
-use Rattle.v2_lines.specs.adb_values.Drafts.{DraftState, draft_with_open_list}
-use Rattle.v2_lines.proofs.adb_values.Lists.{drop_at, list_given}
+use Rattle.make_info.specs.adb_values.Drafts.{DraftState, draft_with_open_list}
+use Rattle.make_info.proofs.adb_values.Lists.{drop_at, list_given}
 use Rattle.dep_core.specs.declared.dep.Dep.{Dep}
-use Rattle.v2_lines.specs.make_info.Fields.{TextNumberOrDependency}
-use Rattle.v2_lines.specs.make_info.Information.{plain_value}
-use Rattle.v2_lines.specs.make_info.Values.{plains_of_list}
-use Rattle.v2_lines.specs.declared.field.InfoField.{InfoField}
-use Rattle.v2_lines.specs.Views.{line_value_view}
-use Rattle.v2_lines.specs.declared.value.Value.{Value}
-use Rattle.v2_lines.specs.declared.value.Value.TheVariants as Values
+use Rattle.make_info.specs.Fields.{TextNumberOrDependency}
+use Rattle.make_info.specs.Information.{plain_value}
+use Rattle.make_info.specs.Values.{plains_of_list}
+use Rattle.v2_core.specs.declared.field.InfoField.{InfoField}
+use Rattle.v2_core.specs.Views.{line_value_view}
+use Rattle.v2_core.specs.declared.value.Value.{Value}
+use Rattle.v2_core.specs.declared.value.Value.TheVariants as Values
 use Rattle.v2_core.specs.Database.{value_of_first_or_null, values_if_line_of_field}
 use Rattle.v2_core.specs.Records.{InfoLine, is_line_of_field}
-use Rattle.v2_lines.proofs.make_info.Mapped.{with_list}
+use Rattle.make_info.proofs.Mapped.{with_list}
 use Rattle.v2_core.proofs.Lists.{with_list-append}
 
 map-both : {A B : Type 0} (f : A → B) (xs ys : List A) → map f (xs ++ ys) ≡ map f xs ++ map f ys

@@ -2,8 +2,8 @@
 use Rattle.std.proofs.Common.{◌≡◌, List, [], ◌∷◌, ◌++◌, map, Option, Some, None, refl, ◌∙◌, ap}
 use Rattle.std.specs.Option.{option_map}
 use Rattle.adb_view.specs.Plain.{Plain}
-use Rattle.v2_lines.specs.adb_values.Drafts.{DraftState, draft_with}
-use Rattle.v2_lines.proofs.make_info.Mapped.{with_list}
+use Rattle.make_info.specs.adb_values.Drafts.{DraftState, draft_with}
+use Rattle.make_info.proofs.Mapped.{with_list}
 use Rattle.v2_core.specs.Records.{list_with_last_changed}
 
 pub map-push : {A B : Type 0} (f : A → B) (xs : List A) (x : A) → map f (xs ++ x ∷ []) ≡ map f xs ++ f x ∷ []

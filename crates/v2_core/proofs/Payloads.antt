@@ -1,17 +1,17 @@
 -- The payload of what was read.
 use Rattle.std.proofs.Common.{◌≡◌, ℕ, List, [], ◌∷◌, map, Result, Ok, Err, sym, ◌∙◌, ap}
 use Rattle.adb_view.specs.Plain.{Plain, none, more, array_or_null, trimmed_object_or_null}
-use Rattle.v2_lines.specs.adb_values.Drafts.{DraftState, draft_with, draft_with_open_list, empty_draft}
-use Rattle.v2_lines.proofs.adb_values.Lists.{Closes}
-use Rattle.v2_lines.specs.adb_write.Canonical.{ByteAndValueCounts, payload_or_counts_at_overflow}
-use Rattle.v2_lines.specs.make_info.Values.{plains_of_list}
+use Rattle.make_info.specs.adb_values.Drafts.{DraftState, draft_with, draft_with_open_list, empty_draft}
+use Rattle.make_info.proofs.adb_values.Lists.{Closes}
+use Rattle.make_info.specs.adb_write.Canonical.{ByteAndValueCounts, payload_or_counts_at_overflow}
+use Rattle.make_info.specs.Values.{plains_of_list}
 use Rattle.v2_core.specs.Database.{array_or_null_of_list, record_value, database_value_of_records}
 use Rattle.v2_core.specs.Payload.{IsV2Fault, payload_unless_too_large, payload_if_sound, untested_payload_of_records}
 use Rattle.v2_core.specs.Records.{Record}
 use Rattle.v2_core.specs.Writing.{IsLineFault, draft_with_database, draft_with_records}
 use Rattle.v2_core.specs.declared.read.V2Fault.{V2Fault}
 use Rattle.v2_core.specs.declared.read.V2Fault.TheVariants.{Bad, TooLarge, Memory}
-use Rattle.v2_lines.proofs.make_info.Mapped.{with_list}
+use Rattle.make_info.proofs.Mapped.{with_list}
 
 -- what a draft of the database ends with is the payload, or the counts at which it overflows
 pub finished : (read : Result (List Record) ℕ) (start d : DraftState) (answer : Result (List ℕ) ByteAndValueCounts) → start ≡ empty_draft → draft_with_database read start ≡ Ok d

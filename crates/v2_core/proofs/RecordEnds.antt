@@ -1,6 +1,6 @@
 -- What is read from the end of a record on.
 use Rattle.std.proofs.Common.{◌≡◌, ℕ, true, false, cond, List, [], ◌∷◌, Result, Ok, Err, refl, sym, ◌∙◌, ap}
-use Rattle.v2_lines.specs.adb_values.Drafts.{DraftState, draft_with}
+use Rattle.make_info.specs.adb_values.Drafts.{DraftState, draft_with}
 use Rattle.v2_core.specs.Database.{record_value}
 use Rattle.v2_core.specs.Reading.{records_from_record_end, records_followed_by}
 use Rattle.v2_core.specs.Records.{Record, lacks_name_or_version_line}

@@ -7,9 +7,9 @@ use Rattle.std.proofs.lemmas.Bool.{and_parts, not-true}
 use Rattle.std.proofs.lemmas.List.Splits.{slice_split_at}
 use Rattle.std.proofs.lemmas.List.Sums.{AllPass-from_list_all}
 use Rattle.dep_core.specs.World.{is_line_end, lines_of}
-use Rattle.v2_lines.specs.Accesses.{Access}
-use Rattle.v2_lines.specs.InfoFields.{is_list_info_field}
-use Rattle.v2_lines.specs.Lines.{RecordLine, info_line, folder_access_line, file_line, file_access_line, file_hash_line, record_line_of}
+use Rattle.v2_core.specs.Accesses.{Access}
+use Rattle.v2_core.specs.InfoFields.{is_list_info_field}
+use Rattle.v2_core.specs.Lines.{RecordLine, info_line, folder_access_line, file_line, file_access_line, file_hash_line, record_line_of}
 use Rattle.v2_core.specs.Reading.{records_from_unfinished_record, records_of, records_followed_by}
 use Rattle.v2_core.specs.Records.{InfoLine, ListedFile, ListedFolder, Record, empty_record, listed_file_from_parts, file_with_access, file_with_hash, listed_folder_from_parts, folder_with_access, folder_with_file, folder_with_last_file_changed, has_line_of_field, lacks_name_or_version_line, record_from_parts, record_if_both_parts, list_with_last_changed, with_record_line}
 use Rattle.v2_core.specs.Spelling.{AreLines, SpellsRecord, SpellsText, access_lines, file_lines, folder_lines, hash_lines, info_lines, is_one_line, lines_text_before, record_lines, have_no_repeated_single_field}

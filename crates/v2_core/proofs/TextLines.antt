@@ -3,7 +3,7 @@ use Rattle.std.proofs.Common.{◌≡◌, ℕ, ◌+◌, ◌-◌, ◌<◌, ◌≤�
 use Rattle.std.specs.Option.{option_map_or}
 use Rattle.std.proofs.lemmas.Bool.Decides.{nat_tests}
 use Rattle.std.proofs.lemmas.List.{at_drop_more, at_drop_all}
-use Rattle.v2_lines.specs.adb_values.Drafts.{DraftState}
+use Rattle.make_info.specs.adb_values.Drafts.{DraftState}
 use Rattle.v2_core.specs.Reading.{records_from_record_end, records_from_unfinished_record, record_with_text_line}
 use Rattle.v2_core.specs.Records.{Record, empty_record}
 use Rattle.v2_core.specs.declared.read.V2Fault.{V2Fault}

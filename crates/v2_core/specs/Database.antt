@@ -4,12 +4,12 @@
 use Rattle.std.specs.Prelude.{ℕ, List, [], ◌∷◌, map, Option, Some, None, if◌then◌else◌}
 use Rattle.std.specs.List.{find, flat_map}
 use Rattle.adb_view.specs.Plain.{Plain, null, int, blob_or_null, array_or_null, trimmed_object_or_null}
-use Rattle.v2_lines.specs.make_info.Fields.{TextNumberOrDependency}
-use Rattle.v2_lines.specs.make_info.Information.{plain_value}
-use Rattle.v2_lines.specs.make_info.Values.{plains_of_list}
-use Rattle.v2_lines.specs.Accesses.{Access}
-use Rattle.v2_lines.specs.declared.field.InfoField.{InfoField}
-use Rattle.v2_lines.specs.declared.field.InfoField.TheVariants as Fields
+use Rattle.make_info.specs.Fields.{TextNumberOrDependency}
+use Rattle.make_info.specs.Information.{plain_value}
+use Rattle.make_info.specs.Values.{plains_of_list}
+use Rattle.v2_core.specs.Accesses.{Access}
+use Rattle.v2_core.specs.declared.field.InfoField.{InfoField}
+use Rattle.v2_core.specs.declared.field.InfoField.TheVariants as Fields
 use Rattle.v2_core.specs.Records.{InfoLine, ListedFile, ListedFolder, Record, is_line_of_field}
 
 -- the array of some values; Null if there are none

@@ -1,7 +1,15 @@
 -- re-exported crates: a crate that depends on this one can use their definitions without depending on them too
-pub use Rattle.v2_lines.specs as v2_lines
+pub use Rattle.adb_schema.specs as adb_schema
+pub use Rattle.make_info.specs as make_info
+pub use Rattle.make_info.specs.adb_values as adb_values
+pub use Rattle.make_info.specs.adb_write as adb_write
 -- The definitions of this crate. Each file names the document with its rule.
--- cited by the contract of `apk`
+-- cited by the contract of `apk`: what a line says
+pub mod InfoFields
+pub mod InfoValues
+pub mod Accesses
+pub mod Lines
+-- cited by the contract of `apk`: what a text says
 pub mod Records
 pub mod Reading
 pub mod Database

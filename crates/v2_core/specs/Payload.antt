@@ -4,8 +4,8 @@
 use Rattle.std.specs.Prelude.{◌≡◌, ℕ, ⊤, List, Option, Some, None, Result, Ok, Err}
 use Rattle.base_core.specs.declared.cause.Cause.{Cause}
 use Rattle.base_core.specs.declared.cause.Cause.TheVariants.{TextLine}
-use Rattle.v2_lines.specs.adb_write.Canonical.{ByteAndValueCounts, payload_or_counts_at_overflow}
-use Rattle.v2_lines.specs.adb_schema.Soundness.{payload_fault}
+use Rattle.make_info.specs.adb_write.Canonical.{ByteAndValueCounts, payload_or_counts_at_overflow}
+use Rattle.adb_schema.specs.Soundness.{payload_fault}
 use Rattle.adb_view.specs.declared.tables.Which.TheVariants.{Idb}
 use Rattle.v2_core.specs.declared.read.V2Fault.{V2Fault}
 use Rattle.v2_core.specs.declared.read.V2Fault.TheVariants.{Bad, TooLarge, Memory}

@@ -4,7 +4,7 @@
 use Rattle.std.specs.Prelude.{ℕ, ◌+◌, ◌==◌, if◌then◌else◌, List, [], ◌∷◌, ◌++◌, length, Option, option_and_then, Result, Ok, Err}
 use Rattle.std.specs.Option.{option_map_or}
 use Rattle.dep_core.specs.World.{lines_of}
-use Rattle.v2_lines.specs.Lines.{record_line_of}
+use Rattle.v2_core.specs.Lines.{record_line_of}
 use Rattle.v2_core.specs.Records.{Record, empty_record, lacks_name_or_version_line, with_record_line}
 
 -- a record with one more line of a text; None if the line is bad

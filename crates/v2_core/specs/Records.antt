@@ -3,12 +3,12 @@
 -- after it.
 use Rattle.std.specs.Prelude.{ℕ, Bool, true, false, not, ◌&&◌, ◌||◌, ◌==◌, if◌then◌else◌, List, [], ◌∷◌, ◌++◌, Option, Some, None, option_map, is_some}
 use Rattle.std.specs.List.{list_any}
-use Rattle.v2_lines.specs.make_info.Fields.{TextNumberOrDependency}
-use Rattle.v2_lines.specs.Accesses.{Access}
-use Rattle.v2_lines.specs.InfoFields.{is_list_info_field, letter_of}
-use Rattle.v2_lines.specs.Lines.{RecordLine, info_line, folder_line, folder_access_line, file_line, file_access_line, file_hash_line, other_line}
-use Rattle.v2_lines.specs.declared.field.InfoField.{InfoField}
-use Rattle.v2_lines.specs.declared.field.InfoField.TheVariants as Fields
+use Rattle.make_info.specs.Fields.{TextNumberOrDependency}
+use Rattle.v2_core.specs.Accesses.{Access}
+use Rattle.v2_core.specs.InfoFields.{is_list_info_field, letter_of}
+use Rattle.v2_core.specs.Lines.{RecordLine, info_line, folder_line, folder_access_line, file_line, file_access_line, file_hash_line, other_line}
+use Rattle.v2_core.specs.declared.field.InfoField.{InfoField}
+use Rattle.v2_core.specs.declared.field.InfoField.TheVariants as Fields
 
 -- one line of a record on a field of the package, and the values in the line
 pub record InfoLine : Type 0 where

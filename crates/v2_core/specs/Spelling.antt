@@ -4,9 +4,9 @@
 use Rattle.std.specs.Prelude.{◌≡◌, ℕ, Bool, true, false, not, ◌&&◌, ◌||◌, ⊤, List, [], ◌∷◌, ◌++◌, map, Option, Some, None}
 use Rattle.std.specs.List.{flat_map, list_all}
 use Rattle.dep_core.specs.World.{is_line_end}
-use Rattle.v2_lines.specs.Accesses.{Access}
-use Rattle.v2_lines.specs.InfoFields.{is_list_info_field}
-use Rattle.v2_lines.specs.Lines.{RecordLine, info_line, folder_line, folder_access_line, file_line, file_access_line, file_hash_line, record_line_of}
+use Rattle.v2_core.specs.Accesses.{Access}
+use Rattle.v2_core.specs.InfoFields.{is_list_info_field}
+use Rattle.v2_core.specs.Lines.{RecordLine, info_line, folder_line, folder_access_line, file_line, file_access_line, file_hash_line, record_line_of}
 use Rattle.v2_core.specs.Records.{InfoLine, ListedFile, ListedFolder, Record, has_line_of_field, lacks_name_or_version_line}
 
 -- the line of the owner and mode of a file or a folder, which `line` makes; none if no line gave them

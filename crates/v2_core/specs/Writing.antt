@@ -2,9 +2,9 @@
 -- It serves the contracts of `read`; the order of what is reported is defined in `docs/formats.md`,
 -- "Text database of version 2".
 use Rattle.std.specs.Prelude.{◌≡◌, ℕ, ⊤, List, map, Result, Ok, Err}
-use Rattle.v2_lines.specs.adb_values.Drafts.{DraftState, draft_with, draft_with_all}
+use Rattle.make_info.specs.adb_values.Drafts.{DraftState, draft_with, draft_with_all}
 use Rattle.base_core.specs.declared.cause.Cause.TheVariants.{TextLine}
-use Rattle.v2_lines.specs.make_info.Values.{plains_of_list}
+use Rattle.make_info.specs.Values.{plains_of_list}
 use Rattle.v2_core.specs.declared.read.V2Fault.{V2Fault}
 use Rattle.v2_core.specs.declared.read.V2Fault.TheVariants.{Bad, TooLarge, Memory}
 use Rattle.v2_core.specs.Database.{database_value_of_records, record_value}

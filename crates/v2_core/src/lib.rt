@@ -3,12 +3,17 @@
 //! line.
 //!
 //! The contracts cite `Payload` (what comes out), `Reading` (the records of a text), `Records` and
-//! `Database` (the value of records) of `specs/`, and what the lines say, which `v2_lines` defines.
+//! `Database` (the value of records) of `specs/`. What a line says is defined in `InfoFields` (the
+//! letters, and the grammar of each one's values), `InfoValues`, `Accesses` and `Lines`.
 //! The rules are in `docs/formats.md`, "Text database of version 2".
 #![tactic(auto)]
 
+mod access;
+mod field;
+mod line;
 mod read;
 mod record;
+mod value;
 mod writing;
 
 pub use read::{

@@ -4,9 +4,9 @@
 
 ghost use Rattle.std.specs.Prelude.{◌≡◌, ◌<◌, ◌-◌, ◌∷◌, IfErr, IfOk, List, None, OnOk, Ok, Result, ℕ, Err};
 ghost use Rattle.base_core.specs.declared.cause.Cause.TheVariants.{TextLine};
-ghost use Rattle.v2_lines.specs.adb_schema.ReadFaults.{IsReadFault};
+ghost use Rattle.adb_schema.specs.ReadFaults.{IsReadFault};
 ghost use Rattle.v2_core.specs.declared.read.V2Fault.TheVariants.{Bad};
-ghost use Rattle.v2_lines.specs.adb_schema.Soundness.{payload_fault};
+ghost use Rattle.adb_schema.specs.Soundness.{payload_fault};
 ghost use Rattle.adb_view.specs.declared.tables.Which.TheVariants as Tables;
 ghost use Rattle.v2_core.specs.Payload.{IsV2Fault, payload_of_text, untested_payload_of_records};
 ghost use Rattle.v2_core.specs.Reading.{records_from_record_end, records_from_unfinished_record, records_of};
@@ -18,11 +18,12 @@ ghost use Rattle.v2_core.specs.Spelling.{SpellsText};
 
 use crate::record::Record;
 use crate::writing::write_package;
+use adb_schema::{Checked, ReadFault, Which, repeated, shape};
 use adb_view::Adb;
 use base_core::Cause;
+use make_info::{Draft, WriteFault};
 use std::alloc::{AllocError, Global};
 use thiserror::Error;
-use v2_lines::{Checked, Draft, ReadFault, Which, WriteFault, repeated, shape};
 
 /// Reads a text database (`lib/apk/db/installed` of apk-tools 2): returns the payload of the
 /// installed database.

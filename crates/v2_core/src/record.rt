@@ -8,13 +8,16 @@ ghost use Rattle.std.specs.Option.{option_map};
 ghost use Rattle.std.specs.Prelude.{◌≡◌, ◌++◌, ◌∷◌, [], IfOk, None, OnOk, Some, if◌then◌else◌, is_some, option_and_then};
 ghost use Rattle.v2_core.specs.Reading.{record_with_text_line};
 ghost use Rattle.v2_core.specs.Records.{empty_record, listed_file_from_parts, file_with_access, file_with_hash, listed_folder_from_parts, folder_with_access, folder_with_file, folder_with_last_file_changed, has_line_of_field, info_line_from_parts, is_line_of_field, lacks_name_or_version_line, with_info_values, list_with_last_changed, with_record_line};
-ghost use Rattle.v2_lines.specs.Accesses.{access_view};
-ghost use Rattle.v2_lines.specs.Lines.{record_line_of};
-ghost use Rattle.v2_lines.specs.Views.{line_view, line_value_view};
+ghost use Rattle.v2_core.specs.Accesses.{access_view};
+ghost use Rattle.v2_core.specs.Lines.{record_line_of};
+ghost use Rattle.v2_core.specs.Views.{line_view, line_value_view};
 
+use crate::access::Access;
+use crate::field::InfoField;
+use crate::line::{Line, read_line};
+use crate::value::Value;
 use std::alloc::{AllocError, Global};
 use std::marker::Model;
-use v2_lines::{Access, InfoField, Line, Value, read_line};
 
 /// One line on a field of the package.
 #[derive(Drop)]
@@ -27,7 +30,7 @@ pub(crate) struct InfoLine<'a> {
 
 impl<'a> Model for InfoLine<'a> {
     ghost use Rattle.v2_core.specs.Records.{InfoLine as InfoLineModel, info_line_from_parts};
-    ghost use Rattle.v2_lines.specs.Views.{line_value_view};
+    ghost use Rattle.v2_core.specs.Views.{line_value_view};
 
     // What contracts see of a line on the package.
     ghost Value = { InfoLineModel };

@@ -2,25 +2,27 @@
 //! database has it (apk-v3(5)). `read.rt` calls `write_package` at the end of each record.
 //! The rules are in `docs/formats.md`, "Text database of version 2"; the order of fields is in
 //! "Schemas", tables 2 to 5 and 7.
-ghost use Rattle.v2_lines.specs.adb_values.Drafts.{draft_with, draft_with_all};
+ghost use Rattle.make_info.specs.adb_values.Drafts.{draft_with, draft_with_all};
 ghost use Rattle.dep_core.specs.Meets.{dependency};
-ghost use Rattle.v2_lines.specs.make_info.Fields.{need};
-ghost use Rattle.v2_lines.specs.make_info.Information.{plain_value};
-ghost use Rattle.v2_lines.specs.make_info.Values.{plains_of_list};
+ghost use Rattle.make_info.specs.Fields.{need};
+ghost use Rattle.make_info.specs.Information.{plain_value};
+ghost use Rattle.make_info.specs.Values.{plains_of_list};
 ghost use Rattle.std.specs.List.{find};
 ghost use Rattle.std.specs.Option.{option_map};
 ghost use Rattle.std.specs.Prelude.{◌≡◌, OnOk, Some, map};
 ghost use Rattle.v2_core.specs.Columns.{value_of_column};
 ghost use Rattle.v2_core.specs.Database.{listed_access_value, array_or_null_of_list, listed_file_value, value_of_first_or_null, listed_folder_value, listed_hash_value, record_info_value, array_of_field_values, value_of_single_line_field, record_value};
 ghost use Rattle.v2_core.specs.Records.{is_line_of_field};
-ghost use Rattle.v2_core.specs.Views.{access_view_if_any, hash_view};
-ghost use Rattle.v2_lines.specs.Accesses.{access_view};
-ghost use Rattle.v2_lines.specs.Views.{line_value_view};
+ghost use Rattle.v2_core.specs.Views.{access_view_if_any, hash_view, line_value_view};
+ghost use Rattle.v2_core.specs.Accesses.{access_view};
 
+use crate::access::Access;
+use crate::field::InfoField;
 use crate::record::{File, Folder, InfoLine, Record};
+use crate::value::Value;
 use dep_core::Dep;
+use make_info::{Draft, write_need};
 use std::alloc::AllocError;
-use v2_lines::{Access, Draft, InfoField, Value, write_need};
 
 /// Which lines of a record give a field of the package's information.
 #[derive(Clone, Copy)]

@@ -1,5 +1,5 @@
 use Rattle.std.proofs.Common.{◌∙◌, ◌∷◌, ◌+◌, List, ℕ, Bor, drop, map, ap, sym, arith}
-use Rattle.make_package.specs.package_files.Folders.{folder_of}
+use Rattle.package_files.specs.Folders.{folder_of}
 use Rattle.change_report.proofs.Loops.{all_told, made_from, made_none, pushed}
 use Rattle.change_report.proofs.due.push_removed_folders.Goals as goal
 

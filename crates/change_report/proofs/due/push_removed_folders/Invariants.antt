@@ -1,6 +1,6 @@
 -- The folders of the removals that are left are still to come.
 use Rattle.std.proofs.Common.{◌≡◌, ◌++◌, drop, map}
-use Rattle.make_package.specs.package_files.Folders.{folder_of}
+use Rattle.package_files.specs.Folders.{folder_of}
 use Rattle.change_report.proofs.due.push_removed_folders.Given as goal
 
 abbrev pub invariant-loop-i : goal.invariant-loop-i

@@ -1,6 +1,6 @@
 use Rattle.std.proofs.Common.{◌∙◌, ◌∷◌, ◌+◌, List, ℕ, Bor, drop, map, ap, sym, arith}
 use Rattle.own_core.specs.change_files.PlanLists.{FileWrite}
-use Rattle.make_package.specs.package_files.Folders.{folder_of}
+use Rattle.package_files.specs.Folders.{folder_of}
 use Rattle.own_core.specs.WritesSeen.{writes_in}
 use Rattle.std.proofs.lemmas.List.{length-map}
 use Rattle.change_report.proofs.Loops.{all_told, get_mapped, made_from, made_none, pushed}

@@ -2,7 +2,7 @@ use Rattle.std.proofs.Common.{◌≡◌, ℕ, List, codes}
 use Rattle.adb_view.proofs.ValueEntries.{nth_obj}
 use Rattle.adb_view.specs.declared.tables.Which.TheVariants.{Index}
 use Rattle.adb_view.specs.Plain.{Plain, none, more, array_or_null, blob_or_null}
-use Rattle.make_core.specs.make_index.Index.{value_of_index}
+use Rattle.make_core.specs.Index.{value_of_index}
 use Rattle.make_core.specs.make_info.Values.{plains_of_list}
 use Rattle.make_laws.specs.NamedFields.{field_named}
 use Rattle.make_laws.proofs.values.an_index_has_its_description_and_packages.Goals as goal

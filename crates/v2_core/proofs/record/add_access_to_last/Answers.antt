@@ -1,7 +1,7 @@
 use Rattle.std.proofs.Common.{refl}
 use Rattle.std.specs.Vec.{vec_len}
 use Rattle.v2_core.specs.Records.{file_with_access}
-use Rattle.v2_lines.specs.Accesses.{access_view}
+use Rattle.v2_core.specs.Accesses.{access_view}
 use Rattle.v2_core.proofs.LastElement.{last_by}
 use Rattle.v2_core.proofs.record.add_access_to_last.Goals as goal
 

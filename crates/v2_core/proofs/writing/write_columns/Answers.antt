@@ -1,6 +1,6 @@
 use Rattle.std.proofs.Common.{arith, refl}
 use Rattle.v2_core.specs.Columns.{value_of_column}
-use Rattle.v2_lines.proofs.make_info.Mapped.{mapped_given, mapped_left}
+use Rattle.make_info.proofs.Mapped.{mapped_given, mapped_left}
 use Rattle.v2_core.proofs.writing.write_columns.Goals as goal
 
 pub loop-column-preserved : goal.loop-column-preserved

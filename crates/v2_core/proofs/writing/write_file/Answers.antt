@@ -1,7 +1,7 @@
 use Rattle.std.proofs.Common.{OnOk, ◌≡◌, refl, subst}
 use Rattle.adb_view.specs.Plain.{null, none, more, blob_or_null, trimmed_object_or_null}
-use Rattle.v2_lines.specs.adb_values.Drafts.{draft_with}
-use Rattle.v2_lines.proofs.adb_values.Lists.{closed}
+use Rattle.make_info.specs.adb_values.Drafts.{draft_with}
+use Rattle.make_info.proofs.adb_values.Lists.{closed}
 use Rattle.v2_core.specs.Database.{listed_access_value, listed_file_value, listed_hash_value}
 use Rattle.v2_core.specs.Views.{access_view_if_any, hash_view}
 use Rattle.v2_core.proofs.writing.write_file.Goals as goal

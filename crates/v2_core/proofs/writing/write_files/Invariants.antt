@@ -1,6 +1,6 @@
 use Rattle.std.proofs.Common.{◌≡◌, drop, map}
 use Rattle.v2_core.specs.Database.{listed_file_value}
-use Rattle.v2_lines.proofs.make_info.Mapped.{with_list}
+use Rattle.make_info.proofs.Mapped.{with_list}
 use Rattle.v2_core.proofs.writing.write_files.Given as goal
 
 -- with those that are left it has all

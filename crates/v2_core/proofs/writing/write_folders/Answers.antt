@@ -1,9 +1,9 @@
 use Rattle.std.proofs.Common.{arith, map}
 use Rattle.adb_view.specs.Plain.{array_or_null}
-use Rattle.v2_lines.proofs.adb_values.Lists.{closed}
-use Rattle.v2_lines.specs.make_info.Values.{plains_of_list}
+use Rattle.make_info.proofs.adb_values.Lists.{closed}
+use Rattle.make_info.specs.Values.{plains_of_list}
 use Rattle.v2_core.specs.Database.{listed_folder_value}
-use Rattle.v2_lines.proofs.make_info.Mapped.{mapped_left, mapped_open}
+use Rattle.make_info.proofs.Mapped.{mapped_left, mapped_open}
 use Rattle.v2_core.proofs.writing.write_folders.Goals as goal
 
 pub loop-folder-preserved : goal.loop-folder-preserved

@@ -1,7 +1,7 @@
 use Rattle.std.proofs.Common.{map, refl}
 use Rattle.adb_view.specs.Plain.{trimmed_object_or_null}
-use Rattle.v2_lines.proofs.adb_values.Lists.{closed_as}
-use Rattle.v2_lines.specs.make_info.Values.{plains_of_list}
+use Rattle.make_info.proofs.adb_values.Lists.{closed_as}
+use Rattle.make_info.specs.Values.{plains_of_list}
 use Rattle.v2_core.specs.Columns.{value_of_column}
 use Rattle.v2_core.specs.Database.{record_info_value}
 use Rattle.v2_core.specs.declared.writing.TheConstants.{COLUMNS}

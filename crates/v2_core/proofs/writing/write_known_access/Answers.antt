@@ -1,7 +1,7 @@
 use Rattle.std.proofs.Common.{refl}
 use Rattle.adb_view.specs.Plain.{none, more, int, blob_or_null, trimmed_object_or_null}
-use Rattle.v2_lines.proofs.adb_values.Lists.{closed}
-use Rattle.v2_lines.specs.Accesses.{access_view}
+use Rattle.make_info.proofs.adb_values.Lists.{closed}
+use Rattle.v2_core.specs.Accesses.{access_view}
 use Rattle.v2_core.proofs.writing.write_known_access.Goals as goal
 
 pub returns : goal.returns

@@ -1,5 +1,5 @@
 use Rattle.std.proofs.Common.{◌≡◌, true, false, ◌∙◌, rules, tests}
-use Rattle.v2_lines.specs.Views.{line_value_view}
+use Rattle.v2_core.specs.Views.{line_value_view}
 use Rattle.v2_core.specs.Records.{InfoLine, info_line_from_parts, is_line_of_field}
 use Rattle.v2_core.proofs.ListValues.{line_of_another, line_of_field}
 use Rattle.v2_core.proofs.writing.write_list.Goals as goal

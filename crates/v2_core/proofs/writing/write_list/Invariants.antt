@@ -1,6 +1,6 @@
 use Rattle.std.proofs.Common.{◌≡◌, drop}
 use Rattle.v2_core.proofs.ListValues.{plains_of_lines}
-use Rattle.v2_lines.proofs.make_info.Mapped.{with_list}
+use Rattle.make_info.proofs.Mapped.{with_list}
 use Rattle.v2_core.proofs.writing.write_list.Given as goal
 
 -- with what the lines that are left say it has all

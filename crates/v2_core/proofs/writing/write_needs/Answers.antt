@@ -1,8 +1,8 @@
 use Rattle.std.proofs.Common.{arith}
 use Rattle.dep_core.specs.Meets.{dependency}
-use Rattle.v2_lines.specs.make_info.Fields.{need}
-use Rattle.v2_lines.specs.make_info.Information.{plain_value}
-use Rattle.v2_lines.proofs.make_info.Mapped.{mapped_given, mapped_left}
+use Rattle.make_info.specs.Fields.{need}
+use Rattle.make_info.specs.Information.{plain_value}
+use Rattle.make_info.proofs.Mapped.{mapped_given, mapped_left}
 use Rattle.v2_core.proofs.writing.write_needs.Goals as goal
 
 pub loop-need-preserved : goal.loop-need-preserved

@@ -1,8 +1,8 @@
 use Rattle.std.proofs.Common.{◌≡◌, drop, map}
 use Rattle.dep_core.specs.Meets.{dependency}
-use Rattle.v2_lines.specs.make_info.Fields.{need}
-use Rattle.v2_lines.specs.make_info.Information.{plain_value}
-use Rattle.v2_lines.proofs.make_info.Mapped.{with_list}
+use Rattle.make_info.specs.Fields.{need}
+use Rattle.make_info.specs.Information.{plain_value}
+use Rattle.make_info.proofs.Mapped.{with_list}
 use Rattle.v2_core.proofs.writing.write_needs.Given as goal
 
 -- with those that are left it has all

@@ -1,8 +1,8 @@
 use Rattle.std.proofs.Common.{OnOk, ◌≡◌, ap, map, refl, subst, ◌∙◌}
 use Rattle.adb_view.specs.Plain.{null, none, more, trimmed_object_or_null}
-use Rattle.v2_lines.specs.adb_values.Drafts.{draft_with}
-use Rattle.v2_lines.proofs.adb_values.Lists.{closed}
-use Rattle.v2_lines.specs.declared.field.InfoField.TheVariants as Fields
+use Rattle.make_info.specs.adb_values.Drafts.{draft_with}
+use Rattle.make_info.proofs.adb_values.Lists.{closed}
+use Rattle.v2_core.specs.declared.field.InfoField.TheVariants as Fields
 use Rattle.v2_core.specs.Database.{array_or_null_of_list, listed_folder_value, record_info_value, record_value, value_of_single_line_field}
 use Rattle.v2_core.proofs.writing.write_package.Goals as goal
 

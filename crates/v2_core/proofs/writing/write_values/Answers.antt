@@ -1,10 +1,10 @@
 use Rattle.std.proofs.Common.{◌≡◌, ◌∷◌, [], OnOk, ap, map, subst, sym, ◌∙◌}
 use Rattle.dep_core.specs.Meets.{dependency}
-use Rattle.v2_lines.specs.make_info.Fields.{need}
-use Rattle.v2_lines.specs.make_info.Information.{plain_value}
-use Rattle.v2_lines.specs.Views.{line_value_view}
+use Rattle.make_info.specs.Fields.{need}
+use Rattle.make_info.specs.Information.{plain_value}
+use Rattle.v2_core.specs.Views.{line_value_view}
 use Rattle.v2_core.specs.Database.{value_of_first_or_null}
-use Rattle.v2_lines.proofs.make_info.Mapped.{with_list}
+use Rattle.make_info.proofs.Mapped.{with_list}
 use Rattle.v2_core.proofs.Lists.{map-map}
 use Rattle.v2_core.proofs.ListValues.{one_value}
 use Rattle.v2_core.proofs.writing.write_values.Goals as goal

@@ -1,7 +1,7 @@
 use Rattle.std.proofs.Common.{◌∙◌, ap}
 use Rattle.v2_core.specs.Records.{file_with_access, listed_folder_from_parts, folder_with_files, folder_with_last_file_changed, list_with_last_changed}
 use Rattle.v2_core.specs.Views.{access_view_if_any}
-use Rattle.v2_lines.specs.Accesses.{access_view}
+use Rattle.v2_core.specs.Accesses.{access_view}
 use Rattle.v2_core.proofs.LastElement.{made_of}
 use Rattle.v2_core.proofs.record.Folder.add_file_access.Goals as goal
 
