@@ -14,7 +14,6 @@ pub use Rattle.change_outcome.specs.v2_lines as v2_lines
 pub use Rattle.make_package.specs.make_info as make_info
 pub use Rattle.make_package.specs.package_files as package_files
 pub use Rattle.own_core.specs as own_core
-pub use Rattle.own_core.specs.change_files as change_files
 pub use Rattle.own_core.specs.file_owners as file_owners
 pub use Rattle.own_core.specs.path_claims as path_claims
 pub use Rattle.own_core.specs.path_clashes as path_clashes
