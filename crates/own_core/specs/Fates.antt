@@ -1,6 +1,6 @@
 -- What is done with the files of added packages, claim by claim.
 -- The rule is in `docs/commands.md`, "What a change does with files", what is said there of
--- configuration files; *fate_with_file_found* of `own_core` defines it.
+-- configuration files; *fate_with_file_found* of `Fate` defines it.
 use Rattle.std.specs.Prelude.{ℕ, Bool, true, false, not, ◌&&◌, nat_le, List, [], ◌∷◌, length, Option, Some, None, cond}
 use Rattle.adb_view.specs.Plain.{Plain}
 use Rattle.path_claim_lists.specs.path_claims.Claims.{PathClaim}
@@ -13,7 +13,7 @@ use Rattle.own_core.specs.ClaimEntries.{claim_entry}
 use Rattle.own_core.specs.declared.fate.AddedFileFate.{AddedFileFate}
 use Rattle.own_core.specs.declared.fate.AddedFileFate.TheVariants.{GivesWay, GoesAside, GoesIn}
 
--- the fate of an added file, as contracts see it: an `AddedFileFate` of the program as one of `own_core`
+-- the fate of an added file, as contracts see it: an `AddedFileFate` of the program as one of `Fate`
 abbrev pub fate_seen : AddedFileFate → Fates.AddedFileFate
 fate_seen GoesIn = goes_in
 fate_seen GivesWay = gives_way

@@ -1,7 +1,7 @@
 -- What `plan` ensures of the plan of a change, and of the fault by which it refuses a change.
--- The rules are in `docs/commands.md`, "What a change does with files", and are defined in
--- `own_core`, `path_clashes` and `file_owners`; this file says which of them a plan or a refusal
--- ensures, and over which files.
+-- The rules are in `docs/commands.md`, "What a change does with files". `FilesAfter`, `NamesAfter`
+-- and `PlanLists` define them, with the crates `path_clashes` and `file_owners`. This file says which
+-- of them a plan or a refusal ensures, and over which files.
 use Rattle.std.specs.Prelude.{◌≡◌, ℕ, Bool, true, false, List, map, Option, Some, None, All, Contains, option_map, slice_get}
 use Rattle.file_guard.specs.adb_schema.Reserved.{is_reserved}
 use Rattle.adb_view.specs.FieldIndexes.{PACKAGE_PATHS_INDEX}

@@ -1,6 +1,6 @@
 -- The claims of the packages before a change and after it, as values of the program.
 -- No document has a rule for this: it serves the contracts of this crate; both sides denote a
--- *FileChange* of `own_core`.
+-- *FileChange*.
 use Rattle.std.specs.Prelude.{◌≡◌, List, map}
 use Rattle.base_core.specs.Sorted.{sorted_by}
 use Rattle.file_owners.specs.db_core.Members.{members_of_kept}

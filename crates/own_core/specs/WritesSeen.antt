@@ -12,7 +12,7 @@ use Rattle.own_core.specs.PlanLists.{FileWrite}
 use Rattle.own_core.specs.declared.writes.Write.{Write}
 use Rattle.own_core.specs.declared.writes.Writes.{Writes}
 
--- a `Write` of the program as a *FileWrite* of `own_core`
+-- a `Write` of the program as a *FileWrite* of `PlanLists`
 abbrev pub write_seen : Write → FileWrite
 write_seen w = record { name = w.name; member = w.member; folder = w.path; file = w.file }
 
