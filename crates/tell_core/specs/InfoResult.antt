@@ -1,5 +1,5 @@
--- The result of `info`, by what reads find. The rules are in `docs/commands.md`, "`info`"; the text is
--- made by `tell_core`.
+-- The result of `info`, by what reads find. The rules are in `docs/commands.md`, "`info`"; the report is
+-- defined in `Info`.
 use Rattle.std.specs.Prelude.{Result}
 use Rattle.change_inputs.specs.Chains.{and_then}
 use Rattle.change_inputs.specs.Inputs.{database_for}
