@@ -8,7 +8,7 @@
 mod lines;
 mod texts;
 
-pub use crate::demo::lines::{
+pub use lines::{
     add_words, demo_count, demo_line_of_count_and_add_report, mkndx_words, mkpkg_words,
 };
-pub use crate::demo::texts::{contents_of_demo_file, demo_file, demo_repositories};
+pub use texts::{contents_of_demo_file, demo_file, demo_repositories};
