@@ -1,4 +1,4 @@
-//! Tests of `journal_core`, `journal_recovery` and `file_replacement`: which files a change of
+//! Tests of `journal_core`, `journal_recovery` and `journal_commit`: which files a change of
 //! several files leaves if it is cut off or a call fails, and what a recovery makes of these files;
 //! which journal entries (intents) are refused; and a file that is replaced again and again while
 //! the names are never synced. All rows (questions with their expected answers) are in the file
