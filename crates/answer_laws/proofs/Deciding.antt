@@ -8,13 +8,13 @@ use Rattle.std.specs.declared.cmp.Ordering.{Ordering}
 use Rattle.std.specs.declared.cmp.Ordering.TheVariants.{Less, Equal, Greater}
 use Rattle.std.proofs.lemmas.Cmp.{tied_itself}
 use Rattle.std.proofs.lemmas.Slice.Eq.{bytes_eq-Decides}
-use Rattle.installed_info.proofs.Listers.{listed, is_listed}
+use Rattle.tell_core.proofs.Listers.{listed, is_listed}
 use Rattle.version_core.proofs.OrderLaws.{version_cmp-total}
 use Rattle.version_core.specs.Order.{is_version, version_cmp}
 use Rattle.adb_view.specs.Plain.{Plain}
-use Rattle.installed_info.specs.candidate_core.Candidates.{Candidate, is_same_id_by_nonempty_prefix, version_of_text}
+use Rattle.tell_core.specs.candidate_core.Candidates.{Candidate, is_same_id_by_nonempty_prefix, version_of_text}
 use Rattle.change_outcome.specs.db_core.Packages.{installed_id}
-use Rattle.installed_info.specs.file_owners.Replaces.{package_version_text}
+use Rattle.tell_core.specs.file_owners.Replaces.{package_version_text}
 use Rattle.change_outcome.specs.package_changes.Changes.{Replacement, change_between, change_of_name, is_candidate_named, candidate_version_text, change_by_is_same_and_is_again, version_change, version_text_cmp}
 use Rattle.report_core.specs.Reports.{Change, Downgrade, Reinstall, Replace, Upgrade}
 use Rattle.base_core.specs.Lists.{IsIn}

@@ -15,7 +15,7 @@ use Rattle.change_outcome.specs.v2_core.declared.field.InfoField.{InfoField}
 use Rattle.change_outcome.specs.v2_core.declared.field.InfoField.TheVariants as Letters
 use Rattle.change_outcome.specs.v2_core.Database.{record_value}
 use Rattle.change_outcome.specs.v2_core.Records.{Record}
-use Rattle.installed_info.specs.adb_schema.Rules.{is_folder_name, is_one_part}
+use Rattle.tell_core.specs.adb_schema.Rules.{is_folder_name, is_one_part}
 use Rattle.adb_view.specs.Plain.{Plains}
 use Rattle.adb_view.specs.declared.tables.Which.TheVariants.{Package, PkgInfo}
 use Rattle.make_laws.specs.NamedFields.{field_named}

@@ -6,7 +6,7 @@ use Rattle.std.proofs.lemmas.Grind.{flat_map-append}
 use Rattle.base_core.proofs.Rising as rising
 use Rattle.base_core.specs.Listed.{AreSortedDistinctTexts}
 use Rattle.base_core.specs.Lists.{IsIn}
-use Rattle.change_outcome.proofs.change_files.InOrder.{filter_rises, order_rises}
+use Rattle.change_outcome.proofs.own_core.InOrder.{filter_rises, order_rises}
 use Rattle.change_outcome.specs.Triggers.{line_saying_trigger_is_due, due_trigger_lines_for_folders, folders_of_paths, has_due_trigger, is_trigger_due, trigger_lines, unless_trigger_due}
 use Rattle.change_outcome.specs.db_core.Members.{Member, member_name}
 use Rattle.change_outcome.specs.package_files.Folders.{folder_of}

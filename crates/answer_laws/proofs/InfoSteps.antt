@@ -13,9 +13,9 @@ use Rattle.base_core.specs.Lists.{IsIn}
 use Rattle.base_core.specs.Sorted.{sorted_by}
 use Rattle.command_core.specs.declared.command.Flags.{Flags}
 use Rattle.command_core.specs.declared.operands.Operand.{Operand}
-use Rattle.installed_info.specs.Form.{info_form_of_flags}
-use Rattle.installed_info.specs.Info.{info_refusal, sorted_package_name_lines, operand_info, operands_info, package_info_for_operand_text}
-use Rattle.installed_info.specs.Packages.{package_meant_by_operand_text, package_named}
+use Rattle.tell_core.specs.InfoForm.{info_form_of_flags}
+use Rattle.tell_core.specs.Info.{info_refusal, sorted_package_name_lines, operand_info, operands_info, package_info_for_operand_text}
+use Rattle.tell_core.specs.InfoPackages.{package_meant_by_operand_text, package_named}
 use Rattle.report_core.specs.Reports.{report_line, report_lines}
 use Rattle.report_core.specs.declared.refusal.Refusal.TheVariants.{NotInstalled}
 use Rattle.answer_laws.specs.InfoAnswers.{HasSortedPackageNameLines, IsPlaceOfFirstOperandNotFound}

@@ -16,7 +16,7 @@ use Rattle.change_outcome.specs.v2_core.Database.{values_if_line_of_field}
 use Rattle.change_outcome.specs.v2_core.Records.{InfoLine, info_line_from_parts}
 use Rattle.answer_laws.specs.TextLetters.{LineValueGivesFieldValues, LineGivesFieldValues}
 use Rattle.std.proofs.lemmas.Bool.{eq-eqb}
-use Rattle.installed_info.specs.adb_schema.Rules.{is_folder_name, is_one_part}
+use Rattle.tell_core.specs.adb_schema.Rules.{is_folder_name, is_one_part}
 use Rattle.answer_laws.proofs.LetterValues.{by_letter, letter_is, says}
 
 -- ---- which lines are of the information

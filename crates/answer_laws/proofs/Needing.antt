@@ -13,9 +13,9 @@ use Rattle.base_core.specs.Listed.{AreSortedDistinctTexts}
 use Rattle.base_core.specs.Lists.{IsIn}
 use Rattle.base_core.proofs.Rising as rising
 use Rattle.base_core.proofs.Booleans.{either_true}
-use Rattle.installed_info.specs.candidate_core.Candidates.{Candidate, is_met_by_provides_entry, meets_by_own_name, meets_dependency}
-use Rattle.change_outcome.proofs.change_files.InOrder.{filter_rises, from_filter, from_order, in_filter, in_order, order_rises}
-use Rattle.change_outcome.specs.change_files.PlanLists.{sorted_distinct_names}
+use Rattle.tell_core.specs.candidate_core.Candidates.{Candidate, is_met_by_provides_entry, meets_by_own_name, meets_dependency}
+use Rattle.change_outcome.proofs.own_core.InOrder.{filter_rises, from_filter, from_order, in_filter, in_order, order_rises}
+use Rattle.change_outcome.specs.own_core.PlanLists.{sorted_distinct_names}
 use Rattle.change_outcome.specs.db_core.Packages.{is_package_named}
 use Rattle.dep_core.specs.Dependency.{Dependency}
 use Rattle.dep_core.specs.Meets.{meets}

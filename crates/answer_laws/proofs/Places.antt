@@ -2,19 +2,19 @@
 use Rattle.std.proofs.Common.{◌≡◌, ◌∙◌, ℕ, ◌+◌, Bool, true, false, List, [], ◌∷◌, ◌++◌, Option, Some, None, Result, Ok, Err, refl, ap, sym, arith}
 use Rattle.std.specs.Prelude.{◌-◌, ◌==◌, ◌||◌, if◌then◌else◌, codes, slice_get}
 use Rattle.change_outcome.specs.adb_fields.Repeated.{entries_of_field_at_index}
-use Rattle.installed_info.specs.adb_schema.Soundness.{payload_in, root_value_of_payload}
+use Rattle.tell_core.specs.adb_schema.Soundness.{payload_in, root_value_of_payload}
 use Rattle.adb_view.specs.FieldIndexes.{IDB_PACKAGES_INDEX}
 use Rattle.adb_view.specs.declared.tables.Which.TheVariants.{Idb}
 use Rattle.base_core.specs.Name.{is_name}
 use Rattle.base_core.specs.declared.cause.Cause.{Cause}
-use Rattle.installed_info.specs.candidate_core.Candidates.{Candidate}
+use Rattle.tell_core.specs.candidate_core.Candidates.{Candidate}
 use Rattle.change_outcome.specs.change_inputs.Chains.{unless_cause}
 use Rattle.change_outcome.specs.change_inputs.Database.{Database, database_of_packages_file_and_is_text, payload_database, root_database}
 use Rattle.change_outcome.specs.PackageFiles.{package_file_path_of_candidate, path_of_name_version_beside_index}
 use Rattle.change_outcome.specs.root_names.PackagePath.{path_up_to_last_slash, has_slash, path_if_valid_name, package_path}
 use Rattle.dep_core.specs.Repositories.{Repository}
 use Rattle.change_outcome.specs.package_changes.Changes.{candidate_version_text}
-use Rattle.installed_info.specs.adb_schema.Soundness.{container_fault_except_contents}
+use Rattle.tell_core.specs.adb_schema.Soundness.{container_fault_except_contents}
 use Rattle.report_core.specs.declared.refusal.Refusal.TheVariants.{DatabaseBad}
 use Rattle.change_outcome.specs.v2_core.Payload.{payload_of_text}
 use Rattle.change_outcome.specs.v2_core.declared.read.V2Fault.{V2Fault}

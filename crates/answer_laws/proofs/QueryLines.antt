@@ -10,8 +10,8 @@ use Rattle.std.proofs.lemmas.Bool.{and_parts, cases_Bool, lt-ltb, or_cases}
 use Rattle.std.proofs.lemmas.Bool.Decides.{Decides-eqb}
 use Rattle.std.proofs.lemmas.Slice.Eq.{bytes_eq-Decides}
 use Rattle.change_outcome.proofs.search_tables.pool_core.SamePackage.{same_version as same_text}
-use Rattle.installed_info.specs.candidate_core.Candidates.{Candidate, is_same_version}
-use Rattle.installed_info.specs.candidate_core.Options.{IsIn}
+use Rattle.tell_core.specs.candidate_core.Candidates.{Candidate, is_same_version}
+use Rattle.tell_core.specs.candidate_core.Options.{IsIn}
 use Rattle.command_core.specs.declared.operands.Operand.{Operand}
 use Rattle.dep_core.specs.Repositories.{Repository}
 use Rattle.query_core.specs.Asked.{AreStrictlyInOrderBy}

@@ -8,7 +8,7 @@ use Rattle.std.specs.declared.cmp.Ordering.TheVariants.{Less}
 use Rattle.std.proofs.lemmas.Bool.{eq-eqb, lt-ltb, not-true, and_from, and_parts, not_from_false}
 use Rattle.std.proofs.lemmas.Slice.Eq.{bytes_eq-Decides}
 use Rattle.change_outcome.specs.adb_fields.Repeated.{entries_of_field_at_index, package_name}
-use Rattle.installed_info.specs.adb_schema.Dependencies.{dependency_in}
+use Rattle.tell_core.specs.adb_schema.Dependencies.{dependency_in}
 use Rattle.adb_view.specs.FieldIndexes.{INFO_REPLACES_INDEX, PACKAGE_INFO_INDEX}
 use Rattle.adb_view.specs.Plain.{Plain}
 use Rattle.adb_view.specs.Values.{entry_at_index}
@@ -16,7 +16,7 @@ use Rattle.base_core.specs.ByteOrder.{bytes_cmp, precedes}
 use Rattle.base_core.proofs.Booleans.{either_true}
 use Rattle.dep_core.specs.Dependency.{Dependency}
 use Rattle.dep_core.specs.Meets.{constraint_accepts, meets}
-use Rattle.installed_info.specs.file_owners.Replaces.{does_replaces_entry_name_package, is_preferred_by_priority_or_later_name, is_package_met_by_replaces_entry, does_first_list_second_in_replaces, replacing_priority, takes_over, package_version_text}
+use Rattle.tell_core.specs.file_owners.Replaces.{does_replaces_entry_name_package, is_preferred_by_priority_or_later_name, is_package_met_by_replaces_entry, does_first_list_second_in_replaces, replacing_priority, takes_over, package_version_text}
 use Rattle.version_core.specs.Order.{is_version}
 use Rattle.answer_laws.specs.ReplacesEntries.{HasReplacesEntryForOther}
 use Rattle.answer_laws.proofs.Tests.{any_passes, passes_any}

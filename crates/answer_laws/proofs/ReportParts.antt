@@ -13,10 +13,10 @@ use Rattle.base_core.proofs.Sorting.{sorted_same, sorted_up}
 use Rattle.base_core.specs.ByteOrder.{bytes_cmp}
 use Rattle.base_core.specs.Files.{Files}
 use Rattle.base_core.specs.Sorted.{sorted_by, with_element_inserted}
-use Rattle.installed_info.specs.candidate_core.Candidates.{Candidate}
-use Rattle.change_outcome.specs.change_files.Fate.{apk_new_ending}
-use Rattle.change_outcome.specs.change_files.FileChange.{FileChange}
-use Rattle.change_outcome.specs.change_files.PlanLists.{paths_with_apk_new_file, kept_left_over_paths_of}
+use Rattle.tell_core.specs.candidate_core.Candidates.{Candidate}
+use Rattle.change_outcome.specs.own_core.Fate.{apk_new_ending}
+use Rattle.change_outcome.specs.own_core.FileChange.{FileChange}
+use Rattle.change_outcome.specs.own_core.PlanLists.{paths_with_apk_new_file, kept_left_over_paths_of}
 use Rattle.change_outcome.specs.ChangeOutcome.{ChangeWishes, change_report, member_installed_size, member_sum_line, touched_paths}
 use Rattle.change_outcome.specs.ConfigurationLines.{PathWithReportLine, apk_new_file_line, lines_of_apk_new_and_kept_paths, kept_config_line, path_with_line_by, path_with_line_cmp_by_path}
 use Rattle.change_outcome.specs.Triggers.{trigger_lines}

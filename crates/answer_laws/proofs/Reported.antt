@@ -10,10 +10,10 @@ use Rattle.base_core.proofs.Rising.{Rises, order, pairs_from_rises}
 use Rattle.base_core.specs.Listed.{AreSortedDistinctTexts}
 use Rattle.base_core.proofs.Rising as rising
 use Rattle.base_core.specs.Lists.{IsIn}
-use Rattle.installed_info.specs.candidate_core.Candidates.{Candidate}
-use Rattle.change_outcome.proofs.change_files.InOrder.{in_order, order_rises, in_left, in_right}
+use Rattle.tell_core.specs.candidate_core.Candidates.{Candidate}
+use Rattle.change_outcome.proofs.own_core.InOrder.{in_order, order_rises, in_left, in_right}
 use Rattle.change_outcome.specs.db_core.Packages.{is_package_named}
-use Rattle.installed_info.specs.file_owners.Replaces.{package_version_text}
+use Rattle.tell_core.specs.file_owners.Replaces.{package_version_text}
 use Rattle.change_outcome.specs.package_changes.Changes.{Replacement, change_between, change_of_name, changes_of, is_candidate_this_package, is_candidate_named, names_before_and_selected, candidate_version_text, change_by_is_same_and_is_again, version_change, version_text_cmp}
 use Rattle.report_core.specs.Reports.{Change, Install, Purge, Reinstall}
 use Rattle.answer_laws.specs.WhichChange.{HasInstallChange, HasPurgeChange, IsSelected, WasInstalled, changed_name}

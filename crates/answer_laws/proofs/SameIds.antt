@@ -5,7 +5,7 @@ use Rattle.std.specs.List.{starts_with}
 use Rattle.std.proofs.lemmas.Bool.{and_from, and_parts, or_cases, or_left, or_right}
 use Rattle.std.proofs.lemmas.Bool.Decides.{Decides-eqb}
 use Rattle.std.proofs.lemmas.Slice.Eq.{starts_is}
-use Rattle.installed_info.specs.candidate_core.Candidates.{is_same_id_by_nonempty_prefix}
+use Rattle.tell_core.specs.candidate_core.Candidates.{is_same_id_by_nonempty_prefix}
 use Rattle.answer_laws.specs.SameIds.{AreNonemptyAndOneBeginsTheOther}
 
 -- ---- a list that begins with another

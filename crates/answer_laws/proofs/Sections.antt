@@ -8,10 +8,10 @@ use Rattle.adb_view.specs.Values.{text_in}
 use Rattle.command_core.specs.declared.command.Flags.{Flags}
 use Rattle.change_outcome.specs.db_core.Packages.{lists_path}
 use Rattle.dep_core.specs.LeadingSlash.{without_leading_slash}
-use Rattle.installed_info.specs.file_owners.Replaces.{package_version_text}
-use Rattle.installed_info.specs.Form.{info_form_of_flags}
-use Rattle.installed_info.specs.Info.{package_info_for_operand_text}
-use Rattle.installed_info.proofs.Listers.{listed, is_listed}
+use Rattle.tell_core.specs.file_owners.Replaces.{package_version_text}
+use Rattle.tell_core.specs.InfoForm.{info_form_of_flags}
+use Rattle.tell_core.specs.Info.{package_info_for_operand_text}
+use Rattle.tell_core.proofs.Listers.{listed, is_listed}
 use Rattle.report_core.specs.Reports.{owner_text, report_line, report_lines, section}
 use Rattle.answer_laws.specs.InfoAnswers.{depends_texts_of_package, info_field, info_heading, file_paths_in_listed_order, section_text_with_heading}
 use Rattle.base_core.specs.Lists.{IsIn}

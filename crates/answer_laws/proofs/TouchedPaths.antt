@@ -4,10 +4,10 @@ use Rattle.base_core.proofs.Rising as rising
 use Rattle.base_core.specs.Files.{Files}
 use Rattle.base_core.specs.Lists.{IsIn}
 use Rattle.base_core.proofs.Listed.{in_both}
-use Rattle.change_outcome.specs.change_files.FileChange.{FileChange}
-use Rattle.change_outcome.specs.change_files.FilesAfter.{is_removed, is_listing_written_under_name}
-use Rattle.change_outcome.specs.change_files.PlanLists.{FileWrite, file_writes_of, removals_of}
-use Rattle.change_outcome.proofs.change_files.InOrder.{in_left, in_right}
+use Rattle.change_outcome.specs.own_core.FileChange.{FileChange}
+use Rattle.change_outcome.specs.own_core.FilesAfter.{is_removed, is_listing_written_under_name}
+use Rattle.change_outcome.specs.own_core.PlanLists.{FileWrite, file_writes_of, removals_of}
+use Rattle.change_outcome.proofs.own_core.InOrder.{in_left, in_right}
 use Rattle.change_outcome.specs.ChangeOutcome.{touched_paths}
 use Rattle.answer_laws.proofs.Members.{listed, risen}
 

@@ -3,12 +3,12 @@ use Rattle.std.proofs.Common.{◌≡◌, ◌↔◌, ◌∙◌, ℕ, Bool, true, 
 use Rattle.std.specs.Prelude.{if◌then◌else◌, not, ◌&&◌, ◌||◌, is_some}
 use Rattle.std.specs.List.{find, list_any}
 use Rattle.std.specs.Str.{bytes_eq}
-use Rattle.installed_info.proofs.Listers.{listed, is_listed}
+use Rattle.tell_core.proofs.Listers.{listed, is_listed}
 use Rattle.adb_view.specs.Plain.{Plain}
 use Rattle.base_core.specs.Lists.{IsIn}
-use Rattle.installed_info.specs.candidate_core.Candidates.{Candidate, is_same_id_by_nonempty_prefix}
+use Rattle.tell_core.specs.candidate_core.Candidates.{Candidate, is_same_id_by_nonempty_prefix}
 use Rattle.change_outcome.specs.db_core.Packages.{installed_id}
-use Rattle.installed_info.specs.file_owners.Replaces.{package_version_text}
+use Rattle.tell_core.specs.file_owners.Replaces.{package_version_text}
 use Rattle.change_outcome.specs.package_changes.Changes.{Replacement, change_between, change_of_name, is_candidate_named, candidate_version_text, change_by_is_same_and_is_again}
 use Rattle.report_core.specs.Reports.{Change, Reinstall}
 use Rattle.answer_laws.specs.WhichChange.{IsInstalledPackageOfNoRepositorySelected}

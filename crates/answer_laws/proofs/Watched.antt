@@ -9,7 +9,7 @@ use Rattle.base_core.proofs.Rising as rising
 use Rattle.base_core.specs.Listed.{AreSortedDistinctTexts}
 use Rattle.base_core.specs.Lists.{IsIn}
 use Rattle.base_core.specs.Name.{path_parts_of}
-use Rattle.change_outcome.proofs.change_files.InOrder.{from_order, in_order, order_rises}
+use Rattle.change_outcome.proofs.own_core.InOrder.{from_order, in_order, order_rises}
 use Rattle.change_outcome.specs.PackageFiles.{has_script_with_number}
 use Rattle.change_outcome.specs.Triggers.{do_patterns_match_parts_one_to_one, folders_of_paths, is_trigger_due, is_folder_matched_by_pattern, watches_folder, trigger_patterns_of_package}
 use Rattle.dep_core.specs.LeadingSlash.{without_leading_slash}

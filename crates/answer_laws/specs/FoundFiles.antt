@@ -1,7 +1,7 @@
 -- Where the files of packages are. The rules are in `docs/commands.md`, "`add` and `del`", part "What is read".
 -- Serves the laws of `src/found.rt`.
 use Rattle.std.specs.Prelude.{◌≡◌, ◌+◌, ℕ, false, List, Some, slice_get}
-use Rattle.installed_info.specs.candidate_core.Candidates.{Candidate}
+use Rattle.tell_core.specs.candidate_core.Candidates.{Candidate}
 use Rattle.dep_core.specs.Repositories.{Repository}
 use Rattle.change_outcome.specs.package_changes.Changes.{candidate_version_text}
 use Rattle.change_outcome.specs.root_names.PackagePath.{has_slash, package_file_name}

@@ -11,11 +11,11 @@ use Rattle.base_core.specs.ByteOrder.{bytes_cmp}
 use Rattle.base_core.specs.Lists.{IsIn}
 use Rattle.command_core.specs.declared.command.Flags.{Flags}
 use Rattle.command_core.specs.declared.operands.Operand.{Operand}
-use Rattle.installed_info.specs.candidate_core.Candidates.{dependencies_in_list_value}
+use Rattle.tell_core.specs.candidate_core.Candidates.{dependencies_in_list_value}
 use Rattle.dep_core.specs.DependencyText.{dep_text}
-use Rattle.installed_info.specs.file_owners.Replaces.{package_version_text}
-use Rattle.installed_info.specs.Form.{info_form_of_flags}
-use Rattle.installed_info.specs.Packages.{package_meant_by_operand_text}
+use Rattle.tell_core.specs.file_owners.Replaces.{package_version_text}
+use Rattle.tell_core.specs.InfoForm.{info_form_of_flags}
+use Rattle.tell_core.specs.InfoPackages.{package_meant_by_operand_text}
 use Rattle.make_laws.specs.NamedFields.{field_named}
 use Rattle.report_core.specs.Reports.{name_dash_version, report_lines}
 

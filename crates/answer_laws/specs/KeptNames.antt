@@ -7,7 +7,7 @@ use Rattle.change_outcome.specs.adb_fields.Repeated.{package_name}
 use Rattle.adb_view.specs.Plain.{Plain}
 use Rattle.base_core.specs.Listed.{AreSortedDistinctTexts}
 use Rattle.base_core.specs.Lists.{IsIn}
-use Rattle.installed_info.specs.candidate_core.Candidates.{Candidate}
+use Rattle.tell_core.specs.candidate_core.Candidates.{Candidate}
 use Rattle.dep_core.specs.Dependency.{Dependency}
 use Rattle.dep_core.specs.Meets.{meets}
 use Rattle.change_outcome.specs.package_changes.Changes.{is_candidate_named}

@@ -4,8 +4,8 @@ use Rattle.std.specs.Prelude.{ℕ, ◌≡◌, ◌⊎◌, ◌↔◌, suc, Bool, t
 use Rattle.std.specs.List.{flat_map}
 use Rattle.std.specs.Option.{option_map_or}
 use Rattle.std.specs.Ordering.{nat_cmp}
-use Rattle.installed_info.specs.candidate_core.Candidates.{Candidate}
-use Rattle.installed_info.specs.candidate_core.Options.{IsIn}
+use Rattle.tell_core.specs.candidate_core.Candidates.{Candidate}
+use Rattle.tell_core.specs.candidate_core.Options.{IsIn}
 use Rattle.command_core.specs.declared.operands.Operand.{Operand}
 use Rattle.dep_core.specs.Repositories.{Repository}
 use Rattle.query_core.specs.Asked.{AreStrictlyInOrderBy, IsNameMatchedBySomePattern, IsOwnOrProvidedName, HasPartMatchedBySomePattern}

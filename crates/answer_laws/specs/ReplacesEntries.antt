@@ -2,14 +2,14 @@
 -- several packages list". Serves the laws of `src/replaces.rt`.
 use Rattle.std.specs.Prelude.{◌≡◌, true, false, Some}
 use Rattle.change_outcome.specs.adb_fields.Repeated.{entries_of_field_at_index, package_name}
-use Rattle.installed_info.specs.adb_schema.Dependencies.{dependency_in}
+use Rattle.tell_core.specs.adb_schema.Dependencies.{dependency_in}
 use Rattle.adb_view.specs.FieldIndexes.{INFO_REPLACES_INDEX, PACKAGE_INFO_INDEX}
 use Rattle.adb_view.specs.Plain.{Plain}
 use Rattle.adb_view.specs.Values.{entry_at_index}
 use Rattle.base_core.specs.Lists.{IsIn}
 use Rattle.dep_core.specs.Dependency.{Dependency}
 use Rattle.dep_core.specs.Meets.{constraint_accepts}
-use Rattle.installed_info.specs.file_owners.Replaces.{package_version_text}
+use Rattle.tell_core.specs.file_owners.Replaces.{package_version_text}
 use Rattle.version_core.specs.Order.{is_version}
 
 -- an entry of the field `replaces` of `pkg`, which is no conflict, has the own name of `other` and accepts the own

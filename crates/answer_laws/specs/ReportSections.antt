@@ -8,9 +8,9 @@ use Rattle.adb_view.specs.Values.{int_in}
 use Rattle.adb_view.specs.declared.tables.Which.TheVariants.{Package, PkgInfo}
 use Rattle.base_core.specs.ByteOrder.{bytes_cmp}
 use Rattle.base_core.specs.Files.{Files}
-use Rattle.installed_info.specs.candidate_core.Candidates.{Candidate}
-use Rattle.change_outcome.specs.change_files.FileChange.{FileChange}
-use Rattle.change_outcome.specs.change_files.PlanLists.{paths_with_apk_new_file, kept_left_over_paths_of}
+use Rattle.tell_core.specs.candidate_core.Candidates.{Candidate}
+use Rattle.change_outcome.specs.own_core.FileChange.{FileChange}
+use Rattle.change_outcome.specs.own_core.PlanLists.{paths_with_apk_new_file, kept_left_over_paths_of}
 use Rattle.change_outcome.specs.ChangeOutcome.{ChangeWishes, touched_paths}
 use Rattle.change_outcome.specs.db_core.Members.{Member}
 use Rattle.make_laws.specs.NamedFields.{field_named}

@@ -6,9 +6,9 @@ use Rattle.std.specs.List.{find}
 use Rattle.change_outcome.specs.adb_fields.Repeated.{package_name}
 use Rattle.adb_view.specs.Plain.{Plain}
 use Rattle.base_core.specs.Lists.{IsIn}
-use Rattle.installed_info.specs.candidate_core.Candidates.{Candidate, is_same_id_by_nonempty_prefix}
+use Rattle.tell_core.specs.candidate_core.Candidates.{Candidate, is_same_id_by_nonempty_prefix}
 use Rattle.change_outcome.specs.db_core.Packages.{installed_id, is_package_named}
-use Rattle.installed_info.specs.file_owners.Replaces.{package_version_text}
+use Rattle.tell_core.specs.file_owners.Replaces.{package_version_text}
 use Rattle.change_outcome.specs.package_changes.Changes.{Replacement, change_of_name, is_candidate_named, candidate_version_text}
 use Rattle.report_core.specs.Reports.{Change, Downgrade, Install, Purge, Reinstall, Replace, Upgrade, numbered_change, report_lines}
 use Rattle.version_core.specs.Order.{is_version}

@@ -5,8 +5,8 @@ ghost use Rattle.std.specs.Prelude.{◌≡◌, ◌≢◌, ◌↔◌, ℕ, List, 
 ghost use Rattle.adb_view.specs.Plain.{Plain};
 ghost use Rattle.answer_laws.specs.EntryFields.{GiveSameSizeDigestAndTarget, HasDigestIfLengthIsKnown, MakesBytesAsTargetAfterSymlinkMark, digest_field_of_entry, size_field_of_entry, target_field_of_entry};
 ghost use Rattle.audit_core.specs.file_guard.AsListed.{are_sizes_hashes_targets_equal, is_as_listed};
-ghost use Rattle.change_outcome.specs.change_files.Fate.{is_protected_path};
-ghost use Rattle.change_outcome.specs.change_files.FilesAfter.{is_present_and_modified_from_entry};
+ghost use Rattle.change_outcome.specs.own_core.Fate.{is_protected_path};
+ghost use Rattle.change_outcome.specs.own_core.FilesAfter.{is_present_and_modified_from_entry};
 
 /// Two entries agree exactly if they give the same size, the same digest and the same target.
 pub fn two_entries_agree_exactly_if_size_digest_and_target_are_equal()

@@ -4,7 +4,7 @@
 ghost use Rattle.std.specs.Prelude.{◌≡◌, ◌++◌, ℕ, List, Option, Bool, Some, None, Ok, Err, [], true, false, codes};
 ghost use Rattle.answer_laws.specs.FoundFiles.{HasNoSlash, IsCandidateOfIndexAtPath, candidate_file_name};
 ghost use Rattle.base_core.specs.Name.{is_name};
-ghost use Rattle.installed_info.specs.candidate_core.Candidates.{Candidate};
+ghost use Rattle.tell_core.specs.candidate_core.Candidates.{Candidate};
 ghost use Rattle.change_outcome.specs.change_inputs.Database.{Database, root_database};
 ghost use Rattle.change_outcome.specs.PackageFiles.{package_file_path_of_candidate};
 ghost use Rattle.dep_core.specs.Repositories.{Repository};

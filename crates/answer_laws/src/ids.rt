@@ -3,7 +3,7 @@
 
 ghost use Rattle.std.specs.Prelude.{◌≡◌, ◌↔◌, ℕ, List, true};
 ghost use Rattle.answer_laws.specs.SameIds.{AreNonemptyAndOneBeginsTheOther};
-ghost use Rattle.installed_info.specs.candidate_core.Candidates.{is_same_id_by_nonempty_prefix};
+ghost use Rattle.tell_core.specs.candidate_core.Candidates.{is_same_id_by_nonempty_prefix};
 
 /// Two ids count as the same exactly if neither is empty and one is a prefix of the other. The
 /// reason is that an index may store only the first bytes of an id.

@@ -12,10 +12,10 @@ ghost use Rattle.command_core.specs.declared.command.Flags.{Flags};
 ghost use Rattle.command_core.specs.declared.operands.Operand.{Operand};
 ghost use Rattle.change_outcome.specs.db_core.Packages.{lists_path};
 ghost use Rattle.dep_core.specs.LeadingSlash.{without_leading_slash};
-ghost use Rattle.installed_info.specs.file_owners.Replaces.{package_version_text};
-ghost use Rattle.installed_info.specs.Form.{info_form_of_flags};
-ghost use Rattle.installed_info.specs.Info.{info_refusal, sorted_package_name_lines, operands_info, package_info_for_operand_text};
-ghost use Rattle.installed_info.specs.Packages.{package_meant_by_operand_text, package_named};
+ghost use Rattle.tell_core.specs.file_owners.Replaces.{package_version_text};
+ghost use Rattle.tell_core.specs.InfoForm.{info_form_of_flags};
+ghost use Rattle.tell_core.specs.Info.{info_refusal, sorted_package_name_lines, operands_info, package_info_for_operand_text};
+ghost use Rattle.tell_core.specs.InfoPackages.{package_meant_by_operand_text, package_named};
 ghost use Rattle.report_core.specs.Reports.{owner_text, report_line, report_lines};
 ghost use Rattle.report_core.specs.declared.refusal.Refusal.TheVariants.{NotInstalled};
 

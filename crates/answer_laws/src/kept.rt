@@ -6,7 +6,7 @@ ghost use Rattle.adb_view.specs.Plain.{Plain};
 ghost use Rattle.answer_laws.specs.KeptNames.{IsEachNameSelectedAtMostOnce, HasStillNeededLines, IsNeededBySelectedName};
 ghost use Rattle.base_core.specs.Listed.{AreSortedDistinctTexts};
 ghost use Rattle.base_core.specs.Lists.{IsIn};
-ghost use Rattle.installed_info.specs.candidate_core.Candidates.{Candidate};
+ghost use Rattle.tell_core.specs.candidate_core.Candidates.{Candidate};
 ghost use Rattle.change_outcome.specs.package_changes.Report.{names_needing_candidate, lines_on_names_that_stay};
 
 /// The names after "required by" are exactly those of the other selected packages that need the

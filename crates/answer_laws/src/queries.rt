@@ -6,7 +6,7 @@ ghost use Rattle.std.specs.List.{flat_map};
 ghost use Rattle.answer_laws.specs.QueryLines.{HasLinesOfSortedAskedCandidates, HasPolicyLinesOfOneVersionOrOfUnversioned, IsInListReportByInstalledFlag, IsSearchHitInRepositoryBySomePattern};
 ghost use Rattle.command_core.specs.declared.operands.Operand.{Operand};
 ghost use Rattle.dep_core.specs.Repositories.{Repository};
-ghost use Rattle.installed_info.specs.candidate_core.Candidates.{Candidate};
+ghost use Rattle.tell_core.specs.candidate_core.Candidates.{Candidate};
 ghost use Rattle.query_core.specs.List.{list_line_of_candidate, list_report};
 ghost use Rattle.query_core.specs.Order.{printed_version};
 ghost use Rattle.query_core.specs.Policy.{policy_report, version_policy, sorted_distinct_versions_of_name};

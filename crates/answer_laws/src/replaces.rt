@@ -7,7 +7,7 @@ ghost use Rattle.change_outcome.specs.adb_fields.Repeated.{package_name};
 ghost use Rattle.adb_view.specs.Plain.{Plain};
 ghost use Rattle.answer_laws.specs.ReplacesEntries.{HasReplacesEntryForOther};
 ghost use Rattle.base_core.specs.ByteOrder.{bytes_cmp};
-ghost use Rattle.installed_info.specs.file_owners.Replaces.{does_first_list_second_in_replaces, replacing_priority, takes_over, package_version_text};
+ghost use Rattle.tell_core.specs.file_owners.Replaces.{does_first_list_second_in_replaces, replacing_priority, takes_over, package_version_text};
 
 /// An entry of the field `replaces` of a package x names a package y exactly by the own name and
 /// version of y. What y provides does not count.

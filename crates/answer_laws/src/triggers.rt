@@ -7,8 +7,8 @@ ghost use Rattle.answer_laws.specs.DueTriggers.{HasFileDirectlyInFolder, HasDueT
 ghost use Rattle.base_core.specs.Files.{Files};
 ghost use Rattle.base_core.specs.Listed.{AreSortedDistinctTexts};
 ghost use Rattle.base_core.specs.Lists.{IsIn};
-ghost use Rattle.change_outcome.specs.change_files.FileChange.{FileChange};
-ghost use Rattle.change_outcome.specs.change_files.FilesAfter.{is_removed, is_listing_written_under_name};
+ghost use Rattle.change_outcome.specs.own_core.FileChange.{FileChange};
+ghost use Rattle.change_outcome.specs.own_core.FilesAfter.{is_removed, is_listing_written_under_name};
 ghost use Rattle.change_outcome.specs.ChangeOutcome.{touched_paths};
 ghost use Rattle.change_outcome.specs.Triggers.{folders_of_paths, is_trigger_due, is_folder_matched_by_pattern, trigger_lines, unless_trigger_due};
 ghost use Rattle.change_outcome.specs.db_core.Members.{Member};

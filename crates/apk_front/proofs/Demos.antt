@@ -10,10 +10,10 @@ use Rattle.command_core.specs.Command.{CommandLine}
 use Rattle.command_core.specs.declared.command.Applet.{Applet}
 use Rattle.command_core.specs.declared.command.Applet.TheVariants.{Demo}
 use Rattle.command_core.specs.declared.operands.Operand.{Operand}
-use Rattle.outcome.specs.demo_lines.Count.{demo_count}
-use Rattle.outcome.specs.demo_lines.Lines.{add_words, demo_repositories, mkndx_words, mkpkg_words}
-use Rattle.outcome.specs.demo_lines.Report.{demo_line_of_count_and_add_report}
-use Rattle.outcome.proofs.demo_lines.Lengths.{plus_one}
+use Rattle.outcome.specs.DemoCount.{demo_count}
+use Rattle.outcome.specs.DemoLines.{add_words, demo_repositories, mkndx_words, mkpkg_words}
+use Rattle.outcome.specs.DemoReport.{demo_line_of_count_and_add_report}
+use Rattle.outcome.proofs.DemoLengths.{plus_one}
 use Rattle.outcome.specs.Commands.{IsPossibleOutcomeWithoutDemo, IsOutcomeWithoutDemo, reads_in}
 use Rattle.outcome.specs.Demo.{IsDemoOutcomeAfterIndexingByPackageCount, IsDemoOutcomeAfterInstallingByPackageCount, IsDemoOutcomeAfterPackagingByPackageCount, IsDemoOutcomeByPackageCount, IsOutcomeOfNextRunAloneOrEarlierRefusal, IsOutcomeOfNextRunAloneOrBeforeIfRefused, outcome_before_demo_with_repositories_file, with_file_packed_in_demo_package}
 use Rattle.outcome.specs.Effect.{does_recover, ignores_files, effect_of, output_name_for_effect}

@@ -1,5 +1,5 @@
 -- re-exported crates: a crate that depends on this one can use their definitions without depending on them too
-pub use Rattle.file_replacement.proofs as file_replacement
+pub use Rattle.journal_commit.proofs as journal_commit
 pub use Rattle.journal_core.proofs as journal_core
 pub use Rattle.journal_core.proofs.journal_intent as journal_intent
 pub use Rattle.outcome.proofs as outcome

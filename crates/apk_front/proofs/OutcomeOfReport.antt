@@ -15,7 +15,7 @@ use Rattle.command_core.specs.Command.{CommandLine}
 use Rattle.command_core.specs.declared.command.Applet.{Applet}
 use Rattle.command_core.specs.declared.command.Applet.TheVariants.{Audit, Info, List as ListApplet, Manifest, Mkpkg, Policy, Search}
 use Rattle.tell_core.specs.ReportForCommand.{report_for_command}
-use Rattle.tell_core.specs.installed_info.declared.telling.ReportAndRefusal.{ReportAndRefusal}
+use Rattle.tell_core.specs.declared.info.reporting.ReportAndRefusal.{ReportAndRefusal}
 use Rattle.make_core.specs.make_info.Reads.{Reads}
 use Rattle.make_core.specs.package_files.Runs.{HoldsOfSomeReadsOfTree}
 use Rattle.report_core.specs.declared.refusal.Refusal.{Refusal}

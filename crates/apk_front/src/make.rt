@@ -27,7 +27,7 @@ use crate::answer::Verdict;
 use adb_dump::is_reserved;
 use base_core::{Text, Tree, TreeFault};
 use command_core::Command;
-use file_replacement::replace;
+use journal_commit::replace;
 use make_core::{MakeFault, an_index_has_an_output, an_output_is_short, output_name};
 use report_core::Refusal;
 use std::alloc::{AllocError, Global};

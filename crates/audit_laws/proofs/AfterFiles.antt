@@ -6,13 +6,13 @@ use Rattle.audit_core.specs.Differences.{DiffersFromEntry}
 use Rattle.audit_core.specs.declared.comparing.Difference.{Difference}
 use Rattle.audit_core.specs.declared.comparing.Difference.TheVariants.{Changed, Missing}
 use Rattle.base_core.specs.Files.{Files}
-use Rattle.root_laws.specs.change_files.Fate.{is_protected_path}
-use Rattle.root_laws.specs.change_files.FileChange.{FileChange, added_owner_listing, is_listed_after_change, old_file_entry, owner_listing}
-use Rattle.root_laws.specs.change_files.FilesAfter.{DatabaseAndWorldAfter, files_after_change, listing_written_as_apk_new_beside, path_of_apk_new_name}
-use Rattle.root_laws.specs.change_files.Touched.{IsModifiedConfigFile, is_name_of_written_apk_new_file, is_old_or_new_database_or_world_name}
-use Rattle.root_laws.proofs.change_files.Coming.{takes_path}
-use Rattle.root_laws.proofs.change_files.OwnedFiles.{beside_is, claimed_by_owner, coming_is, nobody_beside}
-use Rattle.root_laws.proofs.change_files.Untouched.{stays_as_it_is, takes_its_path, users_file_is_spared}
+use Rattle.root_laws.specs.own_core.Fate.{is_protected_path}
+use Rattle.root_laws.specs.own_core.FileChange.{FileChange, added_owner_listing, is_listed_after_change, old_file_entry, owner_listing}
+use Rattle.root_laws.specs.own_core.FilesAfter.{DatabaseAndWorldAfter, files_after_change, listing_written_as_apk_new_beside, path_of_apk_new_name}
+use Rattle.root_laws.specs.own_core.Touched.{IsModifiedConfigFile, is_name_of_written_apk_new_file, is_old_or_new_database_or_world_name}
+use Rattle.root_laws.proofs.own_core.ComingFiles.{takes_path}
+use Rattle.root_laws.proofs.own_core.OwnedFiles.{beside_is, claimed_by_owner, coming_is, nobody_beside}
+use Rattle.root_laws.proofs.own_core.Untouched.{stays_as_it_is, takes_its_path, users_file_is_spared}
 use Rattle.audit_core.specs.db_core.Members.{Listing, is_added}
 use Rattle.audit_core.specs.file_guard.AsListed.{is_as_listed}
 use Rattle.audit_laws.specs.AfterChange.{HasModifiedConfigFile}

@@ -25,9 +25,9 @@ use Rattle.audit_core.specs.declared.comparing.Difference.{Difference}
 use Rattle.audit_core.specs.declared.comparing.Difference.TheVariants.{Changed, Missing}
 use Rattle.audit_core.proofs.Listings.{listing_record, records_are_listings}
 use Rattle.audit_core.proofs.PathsOnce.{database_once, record_paths}
-use Rattle.root_laws.specs.change_files.FileChange.{FileChange, owner_listing}
-use Rattle.root_laws.proofs.change_files.Lists.{IsOneOf, passing_kept}
-use Rattle.root_laws.proofs.change_files.OwnedFiles.{owner_is}
+use Rattle.root_laws.specs.own_core.FileChange.{FileChange, owner_listing}
+use Rattle.root_laws.proofs.own_core.Lists.{IsOneOf, passing_kept}
+use Rattle.root_laws.proofs.own_core.OwnedFiles.{owner_is}
 use Rattle.audit_core.specs.db_core.Members.{Listing, Member, listings_of_path, listings_of_members, members_of_kept}
 use Rattle.audit_core.specs.db_core.OwnedListings.{owned_listings, owned_paths}
 use Rattle.root_laws.specs.db_core.NewDatabase.{packages_in_new_database}

@@ -16,12 +16,12 @@ use Rattle.audit_core.specs.Audit.{FileDifference}
 use Rattle.audit_core.specs.Differences.{IsDifferenceIn, DiffersFromEntry, file_differences}
 use Rattle.base_core.specs.Files.{Files}
 use Rattle.base_core.specs.declared.cause.Cause.{Cause}
-use Rattle.root_laws.specs.change_files.FileChange.{FileChange, added_owner_listing, if_member_added, owner_listing}
-use Rattle.root_laws.specs.change_files.FilesAfter.{DatabaseAndWorldAfter, files_after_change, listing_bytes}
-use Rattle.root_laws.specs.change_files.Touched.{is_old_or_new_database_or_world_name}
-use Rattle.root_laws.proofs.change_files.Lists.{IsOneOf, contains_from_one}
-use Rattle.root_laws.proofs.change_files.OwnedFiles.{coming_is}
-use Rattle.root_laws.proofs.change_files.RecordNames.{database_after}
+use Rattle.root_laws.specs.own_core.FileChange.{FileChange, added_owner_listing, if_member_added, owner_listing}
+use Rattle.root_laws.specs.own_core.FilesAfter.{DatabaseAndWorldAfter, files_after_change, listing_bytes}
+use Rattle.root_laws.specs.own_core.Touched.{is_old_or_new_database_or_world_name}
+use Rattle.root_laws.proofs.own_core.Lists.{IsOneOf, contains_from_one}
+use Rattle.root_laws.proofs.own_core.OwnedFiles.{coming_is}
+use Rattle.root_laws.proofs.own_core.RecordNames.{database_after}
 use Rattle.root_laws.specs.change_inputs.Chains.{and_then, unless_cause}
 use Rattle.root_laws.specs.change_inputs.Database.{Database, container_database, database_of_packages_file_and_is_text, root_database}
 use Rattle.root_laws.specs.change_outcome.ChangeOutcome.{ChangeDone, ChangeWishes, change_or_refusal, packages_before_and_after_with_purge, database_and_world_after_change}

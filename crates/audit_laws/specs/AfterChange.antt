@@ -7,9 +7,9 @@ use Rattle.audit_core.specs.Audit.{FileDifference}
 use Rattle.audit_core.specs.Differences.{DiffersFromEntry}
 use Rattle.audit_core.specs.declared.comparing.Difference.TheVariants.{Changed}
 use Rattle.base_core.specs.Files.{Files}
-use Rattle.root_laws.specs.change_files.FileChange.{FileChange, owner_listing}
-use Rattle.root_laws.specs.change_files.FilesAfter.{listing_bytes}
-use Rattle.root_laws.specs.change_files.Touched.{IsModifiedConfigFile}
+use Rattle.root_laws.specs.own_core.FileChange.{FileChange, owner_listing}
+use Rattle.root_laws.specs.own_core.FilesAfter.{listing_bytes}
+use Rattle.root_laws.specs.own_core.Touched.{IsModifiedConfigFile}
 use Rattle.root_laws.specs.change_outcome.ChangeOutcome.{ChangeDone, packages_before_and_after_with_purge}
 use Rattle.root_laws.specs.change_outcome.MembersAfter.{found_package_contents, found_members}
 use Rattle.command_core.specs.Command.{CommandLine}

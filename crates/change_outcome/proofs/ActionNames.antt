@@ -8,14 +8,14 @@ use Rattle.db_core.specs.adb_schema.Reserved.{is_intent_or_stage_name, is_reserv
 use Rattle.base_core.specs.Files.{Files}
 use Rattle.base_core.proofs.Rising.{IsIn, contains_from_in, in_from_contains}
 use Rattle.base_core.proofs.Listed.{in_both}
-use Rattle.package_changes.specs.change_files.FileChange.{FileChange}
-use Rattle.package_changes.specs.change_files.FilesAfter.{DatabaseAndWorldAfter, database_name, is_removed, is_listing_written_under_name, text_database_name, world_name, listing_written_under_name}
-use Rattle.package_changes.specs.change_files.PlanLists.{removals_of, file_writes_of}
-use Rattle.package_changes.proofs.change_files.InOrder.{from_order, in_left, in_order, in_right, order_rises}
-use Rattle.package_changes.proofs.change_files.LeftOver.{removed_unreserved}
-use Rattle.package_changes.proofs.change_files.Lists.{any_name}
-use Rattle.package_changes.proofs.change_files.PlanNames.{removals_hold, written_or_removed, writes_hold, some_listing}
-use Rattle.package_changes.proofs.change_files.Reserved.{written_unreserved}
+use Rattle.package_changes.specs.own_core.FileChange.{FileChange}
+use Rattle.package_changes.specs.own_core.FilesAfter.{DatabaseAndWorldAfter, database_name, is_removed, is_listing_written_under_name, text_database_name, world_name, listing_written_under_name}
+use Rattle.package_changes.specs.own_core.PlanLists.{removals_of, file_writes_of}
+use Rattle.package_changes.proofs.own_core.InOrder.{from_order, in_left, in_order, in_right, order_rises}
+use Rattle.package_changes.proofs.own_core.LeftOver.{removed_unreserved}
+use Rattle.package_changes.proofs.own_core.Lists.{any_name}
+use Rattle.package_changes.proofs.own_core.PlanNames.{removals_hold, written_or_removed, writes_hold, some_listing}
+use Rattle.package_changes.proofs.own_core.Reserved.{written_unreserved}
 use Rattle.change_inputs.specs.Inputs.{Inputs}
 use Rattle.change_outcome.specs.ChangeOutcome.{intent_of_change, is_absent_or_different, name_if_needed, names_of_written_database_and_world}
 use Rattle.journal_core.specs.journal_intent.FreeNames.{HasFreeNamesAndUnrepeatedWrites, IsNoneOf, IsOneOf}

@@ -10,13 +10,13 @@ use Rattle.base_core.specs.Files.{Files}
 use Rattle.base_core.proofs.Rising.{IsIn}
 use Rattle.base_core.proofs.Listed.{in_both}
 use Rattle.base_core.proofs.AtName.{name_cases}
-use Rattle.package_changes.specs.change_files.FileChange.{FileChange}
-use Rattle.package_changes.specs.change_files.FilesAfter.{DatabaseAndWorldAfter, bytes_after_write_or_removal, files_after_change, database_name, is_removed, is_listing_written_under_name, text_database_name, new_world_bytes_unless_empty_and_absent, world_name, listing_written_under_name}
-use Rattle.package_changes.specs.change_files.Touched.{is_old_or_new_database_or_world_name}
-use Rattle.package_changes.proofs.change_files.InOrder.{in_left, in_right}
-use Rattle.package_changes.proofs.change_files.RecordNames.{database_after, no_text_after, world_after}
-use Rattle.package_changes.proofs.change_files.Reserved.{records_reserved}
-use Rattle.package_changes.proofs.change_files.Untouched.{changed_so, is_gone, takes_its_path, not_some}
+use Rattle.package_changes.specs.own_core.FileChange.{FileChange}
+use Rattle.package_changes.specs.own_core.FilesAfter.{DatabaseAndWorldAfter, bytes_after_write_or_removal, files_after_change, database_name, is_removed, is_listing_written_under_name, text_database_name, new_world_bytes_unless_empty_and_absent, world_name, listing_written_under_name}
+use Rattle.package_changes.specs.own_core.Touched.{is_old_or_new_database_or_world_name}
+use Rattle.package_changes.proofs.own_core.InOrder.{in_left, in_right}
+use Rattle.package_changes.proofs.own_core.RecordNames.{database_after, no_text_after, world_after}
+use Rattle.package_changes.proofs.own_core.Reserved.{records_reserved}
+use Rattle.package_changes.proofs.own_core.Untouched.{changed_so, is_gone, takes_its_path, not_some}
 use Rattle.change_inputs.specs.Inputs.{Inputs}
 use Rattle.change_inputs.specs.World.{found_text_or_empty}
 use Rattle.change_outcome.specs.ChangeOutcome.{intent_of_change, has_actions, is_absent_or_different, name_if_needed, database_and_world_after_change, names_of_written_database_and_world}

@@ -9,10 +9,10 @@ use Rattle.base_core.specs.Name.{IsName, is_name}
 use Rattle.base_core.proofs.Rising.{IsIn, Rises, in_at, order, not_itself}
 use Rattle.base_core.proofs.AtName.{other_name}
 use Rattle.base_core.proofs.Listed.{in_both}
-use Rattle.package_changes.specs.change_files.FileChange.{FileChange}
-use Rattle.package_changes.specs.change_files.FilesAfter.{DatabaseAndWorldAfter}
-use Rattle.package_changes.proofs.change_files.InOrder.{order_rises}
-use Rattle.package_changes.proofs.change_files.Lists.{any_name}
+use Rattle.package_changes.specs.own_core.FileChange.{FileChange}
+use Rattle.package_changes.specs.own_core.FilesAfter.{DatabaseAndWorldAfter}
+use Rattle.package_changes.proofs.own_core.InOrder.{order_rises}
+use Rattle.package_changes.proofs.own_core.Lists.{any_name}
 use Rattle.change_inputs.specs.Inputs.{Inputs}
 use Rattle.change_outcome.specs.ChangeOutcome.{intent_of_change}
 use Rattle.journal_core.specs.journal_intent.Intent.{AreDistinctNamesAllowedInIntent, Intent}

@@ -6,12 +6,12 @@ use Rattle.std.specs.List.{list_any}
 use Rattle.std.proofs.lemmas.Bool.{and_parts, eq-eqb, eqb-true, or_cases}
 use Rattle.base_core.specs.Files.{Files, IsFolderOf, HasOnlyNamesAmong}
 use Rattle.base_core.proofs.Rising.{IsIn}
-use Rattle.package_changes.specs.change_files.Fate.{apk_new_name}
-use Rattle.package_changes.specs.change_files.FileChange.{FileChange}
-use Rattle.package_changes.specs.change_files.FilesAfter.{database_name, listing_written_as_apk_new_beside, path_of_apk_new_name, world_name}
-use Rattle.package_changes.specs.change_files.NamesAfter.{added_paths, counts_as_written, name_change}
-use Rattle.package_changes.proofs.change_files.InOrder.{in_left, in_map, in_right}
-use Rattle.package_changes.proofs.change_files.OwnedFiles.{aside_found, beside_is, in_coming_paths}
+use Rattle.package_changes.specs.own_core.Fate.{apk_new_name}
+use Rattle.package_changes.specs.own_core.FileChange.{FileChange}
+use Rattle.package_changes.specs.own_core.FilesAfter.{database_name, listing_written_as_apk_new_beside, path_of_apk_new_name, world_name}
+use Rattle.package_changes.specs.own_core.NamesAfter.{added_paths, counts_as_written, name_change}
+use Rattle.package_changes.proofs.own_core.InOrder.{in_left, in_map, in_right}
+use Rattle.package_changes.proofs.own_core.OwnedFiles.{aside_found, beside_is, in_coming_paths}
 use Rattle.db_core.specs.db_core.Members.{Listing}
 use Rattle.package_changes.specs.path_clashes.Clash.{IsClash, NameChange, NamePair, is_present_after_change, is_pair_before_by_first_then_second_name}
 use Rattle.package_changes.specs.path_clashes.FirstClash.{IsFirstClashOrNone}

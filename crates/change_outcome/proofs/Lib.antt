@@ -7,7 +7,7 @@ pub use Rattle.db_core.proofs.adb_fields as adb_fields
 pub use Rattle.journal_core.proofs as journal_core
 pub use Rattle.journal_core.proofs.journal_intent as journal_intent
 pub use Rattle.package_changes.proofs as package_changes
-pub use Rattle.package_changes.proofs.change_files as change_files
+pub use Rattle.package_changes.proofs.own_core as own_core
 pub use Rattle.package_changes.proofs.search_tables as search_tables
 pub use Rattle.package_changes.proofs.solve_core as solve_core
 pub mod ActionNames

@@ -9,8 +9,8 @@ use Rattle.adb_view.specs.Plain.{Plain}
 use Rattle.base_core.specs.Listed.{AreSortedDistinctTexts}
 use Rattle.base_core.specs.declared.cause.Cause.{Cause}
 use Rattle.base_core.proofs.Rising.{IsIn, Rises, order, pairs_from_rises}
-use Rattle.package_changes.proofs.change_files.InOrder.{order_rises}
-use Rattle.package_changes.specs.change_files.PlanLists.{sorted_distinct_names}
+use Rattle.package_changes.proofs.own_core.InOrder.{order_rises}
+use Rattle.package_changes.specs.own_core.PlanLists.{sorted_distinct_names}
 use Rattle.change_inputs.specs.Chains.{and_then}
 use Rattle.change_inputs.specs.Inputs.{first_index_read_number}
 use Rattle.change_outcome.specs.MembersAfter.{MemberFound, added_package_by_path, added_member_found, members_after, found_members, member_of_name_after, member_of_name_by_change, no_member_unless_removal_needs_script, members_of_names_after, kept_member_found}

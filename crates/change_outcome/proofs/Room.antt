@@ -9,15 +9,15 @@ use Rattle.std.proofs.lemmas.Slice.Eq.{bytes_eq-Decides}
 use Rattle.db_core.specs.adb_schema.Reserved.{is_at_or_below, is_reserved}
 use Rattle.base_core.specs.Files.{Files, IsFolderOf}
 use Rattle.base_core.proofs.Rising.{IsIn}
-use Rattle.package_changes.specs.change_files.FileChange.{FileChange}
-use Rattle.package_changes.specs.change_files.FilesAfter.{DatabaseAndWorldAfter, bytes_after_write_or_removal, files_after_change, database_name, is_removed, listing_written_as_apk_new_beside, path_of_apk_new_name, text_database_name, world_name, listing_written_under_name, listing_written_in_place}
+use Rattle.package_changes.specs.own_core.FileChange.{FileChange}
+use Rattle.package_changes.specs.own_core.FilesAfter.{DatabaseAndWorldAfter, bytes_after_write_or_removal, files_after_change, database_name, is_removed, listing_written_as_apk_new_beside, path_of_apk_new_name, text_database_name, world_name, listing_written_under_name, listing_written_in_place}
 use Rattle.std.specs.Option.{option_or}
-use Rattle.package_changes.specs.change_files.NamesAfter.{added_paths, counts_as_written, name_change}
-use Rattle.package_changes.specs.change_files.PlanLists.{first_reserved_added_path_in_byte_order}
-use Rattle.package_changes.specs.change_files.Touched.{is_old_or_new_database_or_world_name}
-use Rattle.package_changes.proofs.change_files.AfterNames.{names_after}
-use Rattle.package_changes.proofs.change_files.Reserved.{unreserved_path, written_unreserved}
-use Rattle.package_changes.proofs.change_files.Untouched.{changed_so}
+use Rattle.package_changes.specs.own_core.NamesAfter.{added_paths, counts_as_written, name_change}
+use Rattle.package_changes.specs.own_core.PlanLists.{first_reserved_added_path_in_byte_order}
+use Rattle.package_changes.specs.own_core.Touched.{is_old_or_new_database_or_world_name}
+use Rattle.package_changes.proofs.own_core.AfterNames.{names_after}
+use Rattle.package_changes.proofs.own_core.Reserved.{unreserved_path, written_unreserved}
+use Rattle.package_changes.proofs.own_core.Untouched.{changed_so}
 use Rattle.db_core.specs.db_core.Members.{Listing}
 use Rattle.journal_core.specs.Staged.{AreIntentAndStagedPathsFree, HasEmptyStageAndFreeJournalPaths, HasNoStagedNames, IsPresentOrOfJournal}
 use Rattle.journal_core.specs.journal_intent.FreeNames.{IsIntentNameOrNumberedStageName}

@@ -6,10 +6,10 @@ use Rattle.adb_view.specs.FieldIndexes.{INFO_INSTALLED_SIZE_INDEX, PACKAGE_INFO_
 use Rattle.adb_view.specs.Values.{entry_at_index, int_in}
 use Rattle.db_core.specs.adb_write.Canonical.{ByteAndValueCounts, counts_at_first_overflow}
 use Rattle.base_core.specs.Files.{Files}
-use Rattle.package_changes.specs.change_files.FileChange.{FileChange}
-use Rattle.package_changes.specs.change_files.FilesAfter.{DatabaseAndWorldAfter, files_after_change, listing_bytes}
-use Rattle.package_changes.specs.change_files.NamesAfter.{name_change}
-use Rattle.package_changes.specs.change_files.PlanLists.{paths_with_apk_new_file, file_writes_of, first_reserved_added_path_in_byte_order, kept_left_over_paths_of, sorted_distinct_names, removals_of}
+use Rattle.package_changes.specs.own_core.FileChange.{FileChange}
+use Rattle.package_changes.specs.own_core.FilesAfter.{DatabaseAndWorldAfter, files_after_change, listing_bytes}
+use Rattle.package_changes.specs.own_core.NamesAfter.{name_change}
+use Rattle.package_changes.specs.own_core.PlanLists.{paths_with_apk_new_file, file_writes_of, first_reserved_added_path_in_byte_order, kept_left_over_paths_of, sorted_distinct_names, removals_of}
 use Rattle.change_inputs.specs.Chains.{and_then}
 use Rattle.change_inputs.specs.Inputs.{Inputs}
 use Rattle.db_core.specs.db_core.Members.{Member, member_name}

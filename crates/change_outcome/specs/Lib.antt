@@ -12,8 +12,8 @@ pub use Rattle.db_core.specs.adb_write as adb_write
 pub use Rattle.journal_core.specs as journal_core
 pub use Rattle.journal_core.specs.journal_intent as journal_intent
 pub use Rattle.package_changes.specs as package_changes
-pub use Rattle.package_changes.specs.change_files as change_files
 pub use Rattle.package_changes.specs.file_owners as file_owners
+pub use Rattle.package_changes.specs.own_core as own_core
 pub use Rattle.package_changes.specs.search_tables as search_tables
 pub use Rattle.root_names.specs as root_names
 pub use Rattle.star_patterns.specs as star_patterns

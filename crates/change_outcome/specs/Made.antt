@@ -3,7 +3,7 @@
 use Rattle.std.specs.Prelude.{◌≡◌, ℕ, List, Option, None, Ok}
 use Rattle.db_core.specs.adb_write.Canonical.{counts_at_first_overflow}
 use Rattle.base_core.specs.Files.{Files}
-use Rattle.package_changes.specs.change_files.PlanLists.{first_reserved_added_path_in_byte_order}
+use Rattle.package_changes.specs.own_core.PlanLists.{first_reserved_added_path_in_byte_order}
 use Rattle.change_inputs.specs.Inputs.{Inputs}
 use Rattle.change_outcome.specs.ChangeOutcome.{ChangeDone, ChangeWishes, intent_of_change, change_done, members_after_change, packages_before_and_after_with_purge, database_and_world_after_change}
 use Rattle.change_outcome.specs.MembersAfter.{MemberFound, found_members}

@@ -4,8 +4,8 @@
 use Rattle.std.specs.Prelude.{◌≡◌, All, false, None}
 use Rattle.db_core.specs.adb_schema.Reserved.{is_reserved}
 use Rattle.base_core.specs.Files.{Files}
-use Rattle.package_changes.specs.change_files.FileChange.{FileChange, old_listings}
-use Rattle.package_changes.specs.change_files.PlanLists.{first_reserved_added_path_in_byte_order}
+use Rattle.package_changes.specs.own_core.FileChange.{FileChange, old_listings}
+use Rattle.package_changes.specs.own_core.PlanLists.{first_reserved_added_path_in_byte_order}
 use Rattle.change_inputs.specs.Inputs.{Root}
 use Rattle.change_inputs.specs.World.{found_text_or_empty}
 use Rattle.root_names.specs.RootNames.{database_name, world_name}

@@ -7,7 +7,7 @@ use Rattle.db_core.specs.adb_fields.Repeated.{entries_of_field_at_index, package
 use Rattle.adb_view.specs.FieldIndexes.{PACKAGE_TRIGGERS_INDEX}
 use Rattle.adb_view.specs.Values.{text_in}
 use Rattle.adb_view.specs.Plain.{Plain}
-use Rattle.package_changes.specs.change_files.PlanLists.{sorted_distinct_names}
+use Rattle.package_changes.specs.own_core.PlanLists.{sorted_distinct_names}
 use Rattle.db_core.specs.db_core.Members.{Member, member_name}
 use Rattle.dep_core.specs.LeadingSlash.{without_leading_slash}
 use Rattle.change_inputs.specs.package_files.Folders.{folder_of}

@@ -5,8 +5,8 @@
 ghost use Rattle.std.specs.Prelude.{◌≡◌, ◌<◌, ◌++◌, ℕ, false, List, All, None, Ok, Option, length, map};
 ghost use Rattle.base_core.specs.Files.{Files, HasOnlyNamesAmong};
 ghost use Rattle.base_core.specs.Name.{IsName};
-ghost use Rattle.package_changes.specs.change_files.FileChange.{FileChange};
-ghost use Rattle.package_changes.specs.change_files.FilesAfter.{DatabaseAndWorldAfter, files_after_change};
+ghost use Rattle.package_changes.specs.own_core.FileChange.{FileChange};
+ghost use Rattle.package_changes.specs.own_core.FilesAfter.{DatabaseAndWorldAfter, files_after_change};
 ghost use Rattle.change_inputs.specs.Inputs.{Inputs, inputs_of};
 ghost use Rattle.change_outcome.specs.ChangeOutcome.{ChangeDone, ChangeWishes, IsFirstClashOfChange, intent_of_change, bytes_or_empty_under, change_or_refusal, has_actions, database_and_world_after_change};
 ghost use Rattle.command_core.specs.Command.{CommandLine};

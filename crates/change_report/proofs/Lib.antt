@@ -10,7 +10,6 @@ pub use Rattle.change_outcome.proofs.search_tables as search_tables
 pub use Rattle.change_outcome.proofs.solve_core as solve_core
 pub use Rattle.package_files.proofs.make_info as make_info
 pub use Rattle.own_core.proofs as own_core
-pub use Rattle.own_core.proofs.change_files as change_files
 pub use Rattle.own_core.proofs.file_owners as file_owners
 mod PathOrder
 mod PatternParts

@@ -12,7 +12,6 @@ pub use Rattle.change_outcome.specs.v2_core as v2_core
 pub use Rattle.package_files.specs as package_files
 pub use Rattle.package_files.specs.make_info as make_info
 pub use Rattle.own_core.specs as own_core
-pub use Rattle.own_core.specs.change_files as change_files
 pub use Rattle.own_core.specs.file_owners as file_owners
 pub use Rattle.own_core.specs.path_claims as path_claims
 pub use Rattle.own_core.specs.path_clashes as path_clashes

@@ -2,7 +2,7 @@
 -- crate says.
 use Rattle.std.specs.Prelude.{◌≡◌, ℕ, List, map}
 use Rattle.base_core.specs.Files.{Files}
-use Rattle.own_core.specs.change_files.FileChange.{FileChange}
+use Rattle.own_core.specs.FileChange.{FileChange}
 use Rattle.change_outcome.specs.ChangeOutcome.{ChangeWishes}
 use Rattle.change_outcome.specs.db_core.Seen.{members_of}
 use Rattle.own_core.specs.Planned.{ArePlanLists}

@@ -3,7 +3,7 @@
 //! "What is reported".
 
 ghost use Rattle.base_core.specs.Files.{Files};
-ghost use Rattle.own_core.specs.change_files.FileChange.{FileChange};
+ghost use Rattle.own_core.specs.FileChange.{FileChange};
 ghost use Rattle.change_outcome.specs.ChangeOutcome.{ChangeWishes, change_report, member_installed_size, member_sum_line};
 ghost use Rattle.change_outcome.specs.Triggers.{trigger_lines};
 ghost use Rattle.change_report.specs.Reported.{IsReportedOf, replacement_reported};

@@ -14,9 +14,9 @@ use Rattle.base_core.specs.Calls.{IfObservable}
 use Rattle.base_core.specs.Faults.{Counts}
 use Rattle.base_core.specs.Files.{Files}
 use Rattle.base_core.specs.Tree.{TreeState, files_of}
-use Rattle.change_report.specs.change_files.FileChange.{FileChange}
-use Rattle.change_report.specs.change_files.FilesAfter.{DatabaseAndWorldAfter, listing_bytes}
-use Rattle.change_report.specs.change_files.PlanLists.{FileWrite, file_writes_of, first_reserved_added_path_in_byte_order, sorted_distinct_names}
+use Rattle.change_report.specs.own_core.FileChange.{FileChange}
+use Rattle.change_report.specs.own_core.FilesAfter.{DatabaseAndWorldAfter, listing_bytes}
+use Rattle.change_report.specs.own_core.PlanLists.{FileWrite, file_writes_of, first_reserved_added_path_in_byte_order, sorted_distinct_names}
 use Rattle.change_report.specs.change_inputs.Answers.{Agrees}
 use Rattle.change_report.specs.change_inputs.Chains.{and_then}
 use Rattle.change_report.specs.change_inputs.Inputs.{Inputs}
@@ -36,7 +36,7 @@ use Rattle.change_report.specs.change_outcome.MembersAfter.{MemberFound, found_p
 use Rattle.change_report.specs.journal_core.Recovery.{files_after_actions, intent_name}
 use Rattle.change_report.specs.journal_core.Staged.{AreIntentAndStagedPathsFree, HasEmptyStageAndFreeJournalPaths, HasNoStagedNames, Staging, action_count, new_stage_of_removals_and_writes, files_with_staged}
 use Rattle.change_report.specs.journal_intent.IntentValue.{intent_of_lists, value_of_intent}
-use Rattle.change_report.specs.change_files.NamesAfter.{name_change}
+use Rattle.change_report.specs.own_core.NamesAfter.{name_change}
 use Rattle.change_report.specs.db_core.Members.{Member, is_added, member_name}
 use Rattle.change_report.specs.db_core.Seen.{members_of}
 use Rattle.change_report.specs.db_core.NewDatabase.{database_of}

@@ -11,9 +11,9 @@ use Rattle.base_core.specs.Faults.{Counts}
 use Rattle.base_core.specs.Files.{Files, HasOnlyNamesAmong, no_names}
 use Rattle.base_core.specs.Tree.{IsWellFormed, TreeState, bytes_of_file_number, files_of}
 use Rattle.change_report.specs.Due.{planned_paths}
-use Rattle.change_report.specs.change_files.FileChange.{FileChange, old_listings}
-use Rattle.change_report.specs.change_files.NamesAfter.{name_change}
-use Rattle.change_report.specs.change_files.PlanLists.{first_reserved_added_path_in_byte_order}
+use Rattle.change_report.specs.own_core.FileChange.{FileChange, old_listings}
+use Rattle.change_report.specs.own_core.NamesAfter.{name_change}
+use Rattle.change_report.specs.own_core.PlanLists.{first_reserved_added_path_in_byte_order}
 use Rattle.change_report.specs.change_inputs.Answers.{IsDiskOrMemoryFailure}
 use Rattle.change_report.specs.change_inputs.Chains.{and_then}
 use Rattle.change_report.specs.change_inputs.Inputs.{Inputs}

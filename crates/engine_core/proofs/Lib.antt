@@ -1,6 +1,5 @@
 -- re-exported crates: a crate that depends on this one can use their definitions without depending on them too
 pub use Rattle.change_report.proofs.candidate_core as candidate_core
-pub use Rattle.change_report.proofs.change_files as change_files
 pub use Rattle.change_report.proofs.change_inputs as change_inputs
 pub use Rattle.change_report.proofs.change_outcome as change_outcome
 pub use Rattle.change_report.proofs.db_core as db_core

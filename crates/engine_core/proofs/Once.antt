@@ -8,7 +8,7 @@ use Rattle.std.specs.Str.{bytes_eq}
 use Rattle.std.proofs.lemmas.Slice.Eq.{bytes_eq-Decides}
 use Rattle.std.proofs.lemmas.Bool.{or_from}
 use Rattle.change_report.proofs.file_owners.NamedPlaces.{turned}
-use Rattle.change_report.specs.change_files.PlanLists.{sorted_distinct_names, prepend_unless_equal_to_first, names_with_adjacent_repeats_merged}
+use Rattle.change_report.specs.own_core.PlanLists.{sorted_distinct_names, prepend_unless_equal_to_first, names_with_adjacent_repeats_merged}
 use Rattle.change_report.specs.journal_intent.FreeNames.{HaveNoRepeats, IsNoneOf, IsOneOf}
 use Rattle.base_core.specs.ByteOrder.{bytes_cmp}
 use Rattle.base_core.specs.Sorted.{sorted_by, with_element_inserted}

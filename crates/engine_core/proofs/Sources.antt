@@ -8,16 +8,16 @@ use Rattle.base_core.specs.Tree.{TreeState, files_of}
 use Rattle.journal_staging.specs.adb_schema.Reserved.{is_reserved}
 use Rattle.adb_view.specs.Plain.{Plain}
 use Rattle.change_outcome.specs.Arrivals.{IsTestedPackageWithContentsOfMember}
-use Rattle.change_report.specs.change_files.FileChange.{FileChange}
-use Rattle.change_report.specs.change_files.FilesAfter.{DatabaseAndWorldAfter, files_after_change, database_name, is_listing_written_under_name, listing_bytes, new_world_bytes_unless_empty_and_absent, world_name, listing_written_under_name}
-use Rattle.change_report.specs.change_files.PlanLists.{FileWrite, file_writes_of, file_write_under_name}
-use Rattle.change_report.specs.change_files.Touched.{is_old_or_new_database_or_world_name}
-use Rattle.change_report.proofs.change_files.Lists.{IsOneOf}
-use Rattle.change_report.proofs.change_files.OwnedFiles.{coming_is, written_is}
-use Rattle.change_report.proofs.change_files.PlanNames.{writes_are}
-use Rattle.change_report.proofs.change_files.RecordNames.{database_after}
-use Rattle.change_report.proofs.change_files.Reserved.{records_reserved}
-use Rattle.change_report.proofs.change_files.Untouched.{takes_its_path}
+use Rattle.change_report.specs.own_core.FileChange.{FileChange}
+use Rattle.change_report.specs.own_core.FilesAfter.{DatabaseAndWorldAfter, files_after_change, database_name, is_listing_written_under_name, listing_bytes, new_world_bytes_unless_empty_and_absent, world_name, listing_written_under_name}
+use Rattle.change_report.specs.own_core.PlanLists.{FileWrite, file_writes_of, file_write_under_name}
+use Rattle.change_report.specs.own_core.Touched.{is_old_or_new_database_or_world_name}
+use Rattle.change_report.proofs.own_core.Lists.{IsOneOf}
+use Rattle.change_report.proofs.own_core.OwnedFiles.{coming_is, written_is}
+use Rattle.change_report.proofs.own_core.PlanNames.{writes_are}
+use Rattle.change_report.proofs.own_core.RecordNames.{database_after}
+use Rattle.change_report.proofs.own_core.Reserved.{records_reserved}
+use Rattle.change_report.proofs.own_core.Untouched.{takes_its_path}
 use Rattle.std.proofs.lemmas.Bool.{false_from_ne_true}
 use Rattle.change_report.specs.change_inputs.Inputs.{Inputs}
 use Rattle.change_report.specs.change_outcome.Premises.{OldAndAddedPackagesListNoReservedPath, AreDatabaseAndWorldReadFromFiles}

@@ -11,7 +11,7 @@ use Rattle.command_core.specs.declared.command.Applet.TheVariants.{Add, Del, Fix
 use Rattle.command_core.specs.declared.operands.Operand.{Operand}
 use Rattle.dep_core.specs.Dependency.{Dependency, dependency_from_parts}
 use Rattle.change_report.specs.package_changes.Changes.{change_of_name, changes_of}
-use Rattle.change_report.specs.change_files.PlanLists.{sorted_distinct_names}
+use Rattle.change_report.specs.own_core.PlanLists.{sorted_distinct_names}
 use Rattle.change_report.specs.candidate_core.Candidates.{Candidate, candidate_from_parts, named}
 use Rattle.change_report.specs.candidate_core.Rank.{is_better, rank_cmp, selection_problem_from_parts}
 use Rattle.report_core.specs.Reports.{Change, Reinstall, Upgrade as Upgrading}

@@ -3,7 +3,7 @@ use Rattle.std.proofs.Common.{◌≡◌, ◌∙◌, inl, inr, ◌+◌, ◌≤◌
 use Rattle.std.specs.Prelude.{is_some, slice_get}
 use Rattle.std.specs.Ordering.{on}
 use Rattle.std.proofs.lemmas.List.{length-map}
-use Rattle.change_report.specs.change_files.PlanLists.{FileWrite, sorted_distinct_names}
+use Rattle.change_report.specs.own_core.PlanLists.{FileWrite, sorted_distinct_names}
 use Rattle.change_report.specs.change_outcome.ChangeOutcome.{name_if_needed}
 use Rattle.change_report.specs.db_core.Members.{Member}
 use Rattle.change_report.specs.journal_intent.FreeNames.{HaveNoRepeats}

@@ -9,8 +9,8 @@ use Rattle.base_core.specs.Calls.{IfObservable}
 use Rattle.base_core.specs.Files.{Files}
 use Rattle.base_core.specs.Tree.{TreeState, files_of}
 use Rattle.change_report.specs.Due.{planned_paths}
-use Rattle.change_report.specs.change_files.FileChange.{old_listings}
-use Rattle.change_report.specs.change_files.NamesAfter.{name_change}
+use Rattle.change_report.specs.own_core.FileChange.{old_listings}
+use Rattle.change_report.specs.own_core.NamesAfter.{name_change}
 use Rattle.change_report.specs.path_clashes.Clash.{HasNoClash}
 use Rattle.change_report.specs.change_inputs.Inputs.{Inputs}
 use Rattle.change_report.specs.change_outcome.Premises.{AreDatabaseAndWorldReadFromFiles}

@@ -5,7 +5,7 @@ use Rattle.std.specs.Prelude.{◌≡◌, ◌++◌, ℕ, Bool, true, false, List,
 use Rattle.change_outcome.specs.adb_write.Canonical.{counts_at_first_overflow}
 use Rattle.base_core.specs.Files.{Files}
 use Rattle.base_core.specs.Tree.{TreeState}
-use Rattle.change_report.specs.change_files.PlanLists.{sorted_distinct_names}
+use Rattle.change_report.specs.own_core.PlanLists.{sorted_distinct_names}
 use Rattle.change_report.specs.change_inputs.Answers.{Agrees}
 use Rattle.change_report.specs.change_inputs.declared.root.Refused.{Refused}
 use Rattle.change_report.specs.change_outcome.ChangeOutcome.{intent_of_change, change_report, has_actions, packages_before_and_after_with_purge, name_if_needed, database_and_world_after_change, unless_overflow}

@@ -5,7 +5,7 @@ use Rattle.std.specs.Borrow.{Bor}
 use Rattle.change_outcome.specs.Arrivals.{arrivals_seen, added_package_in_member_read}
 use Rattle.change_outcome.specs.declared.arrivals.Arrivals.{Arrivals}
 use Rattle.adb_view.specs.Plain.{Plain}
-use Rattle.change_report.specs.change_files.PlanLists.{FileWrite}
+use Rattle.change_report.specs.own_core.PlanLists.{FileWrite}
 use Rattle.change_report.specs.change_outcome.ChangeOutcome.{name_if_needed}
 use Rattle.change_report.specs.db_core.Members.{Member, is_added}
 use Rattle.journal_staging.specs.file_guard.AsListed.{file_target, has_target}

@@ -1,6 +1,6 @@
 //! What a change removes. The rules are in `docs/commands.md`, "What a change does with files", and
 //! for the text database in "A root of version 2".
-ghost use Rattle.change_report.specs.change_files.PlanLists.{sorted_distinct_names};
+ghost use Rattle.change_report.specs.own_core.PlanLists.{sorted_distinct_names};
 ghost use Rattle.change_report.specs.change_outcome.ChangeOutcome.{name_if_needed};
 ghost use Rattle.change_report.specs.journal_intent.FreeNames.{HaveNoRepeats};
 ghost use Rattle.base_core.specs.ByteOrder.{bytes_cmp};

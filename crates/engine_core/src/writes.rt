@@ -1,7 +1,7 @@
 //! What a change writes: the staged writes of its plan, of the database and of world, used by
 //! `rendering.rt`. The rules are in `docs/commands.md`, "What a change does with files" and "`add`
 //! and `del`", part "What is written".
-ghost use Rattle.change_report.specs.change_files.PlanLists.{sorted_distinct_names};
+ghost use Rattle.change_report.specs.own_core.PlanLists.{sorted_distinct_names};
 ghost use Rattle.change_report.specs.db_core.Seen.{members_of};
 ghost use Rattle.engine_core.specs.Writing.{HasPackageOfEachAdded, IsFileWrite, IsSourceOfWrite, IsWriteOfChange, package_at, database_and_world_names, record_writes, name_of_write};
 ghost use Rattle.change_report.specs.journal_intent.FreeNames.{HaveNoRepeats};

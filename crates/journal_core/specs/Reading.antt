@@ -1,6 +1,6 @@
 -- The files as read while a whole file is replaced.
 -- The rule is in `docs/crash-safety.md`, "A whole file replaced", the point on the files as read. It
--- serves the contract of `replace` of `file_replacement`.
+-- serves the contract of `replace` of `journal_commit`.
 use Rattle.std.specs.Prelude.{◌≡◌, ◌≢◌, ◌⊎◌, ℕ, List}
 use Rattle.base_core.specs.Files.{Files}
 use Rattle.base_core.specs.Tree.{TreeState, files_of}

@@ -1,6 +1,6 @@
 //! Changes of a tree that a crash cannot cut in two: several files are changed by a stage. It also
 //! defines what files stand for, that is, what recovery yields; `journal_recovery` and
-//! `file_replacement` build on that.
+//! `journal_commit` build on that.
 //!
 //! The contracts cite `Recovery` (the state that files stand for, and what a crash leaves of it),
 //! `Replacing` and `Reading` (replacing a whole file), `Staged` (a stage, its moments, and what a

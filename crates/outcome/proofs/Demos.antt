@@ -10,8 +10,8 @@ use Rattle.base_core.specs.declared.cause.Cause.{Cause}
 use Rattle.command_core.specs.Command.{CommandLine}
 use Rattle.command_core.specs.declared.command.Applet.{Applet}
 use Rattle.command_core.specs.declared.command.Applet.TheVariants.{Help, Mkndx, Mkpkg, ProgramVersion}
-use Rattle.demo_lines.specs.Lines.{add_words, demo_file, demo_repositories, contents_of_demo_file, mkndx_words, mkpkg_words}
-use Rattle.demo_lines.specs.Report.{demo_line_of_count_and_add_report}
+use Rattle.outcome.specs.DemoLines.{add_words, demo_file, demo_repositories, contents_of_demo_file, mkndx_words, mkpkg_words}
+use Rattle.outcome.specs.DemoReport.{demo_line_of_count_and_add_report}
 use Rattle.engine_core.specs.journal_core.Replacing.{scratch_name_of}
 use Rattle.make_core.specs.Index.{made_index}
 use Rattle.make_core.specs.make_info.Output.{output_name}

@@ -7,7 +7,7 @@ use Rattle.base_core.specs.declared.cause.Cause.{Cause}
 use Rattle.tell_core.specs.change_inputs.Chains.{and_then}
 use Rattle.tell_core.specs.change_inputs.Inputs.{Inputs, inputs_of}
 use Rattle.engine_core.specs.change_outcome.Made.{IsChangeMade}
-use Rattle.engine_core.specs.change_files.PlanLists.{paths_with_apk_new_file, kept_left_over_paths_of}
+use Rattle.engine_core.specs.own_core.PlanLists.{paths_with_apk_new_file, kept_left_over_paths_of}
 use Rattle.engine_core.specs.change_outcome.ChangeOutcome.{ChangeDone, ChangeWishes, change_or_refusal, packages_before_and_after_with_purge, member_sum_line, touched_paths}
 use Rattle.engine_core.specs.change_outcome.ConfigurationLines.{lines_of_apk_new_and_kept_paths}
 use Rattle.engine_core.specs.change_outcome.Triggers.{trigger_lines}

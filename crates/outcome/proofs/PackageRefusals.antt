@@ -6,7 +6,7 @@ use Rattle.make_core.specs.adb_fields.Repeated.{package_name}
 use Rattle.gen_core.specs.adb_write.Canonical.{ByteAndValueCounts, counts_at_first_overflow}
 use Rattle.base_core.specs.Files.{Files}
 use Rattle.base_core.specs.declared.cause.Cause.{Cause}
-use Rattle.engine_core.specs.change_files.PlanLists.{first_reserved_added_path_in_byte_order}
+use Rattle.engine_core.specs.own_core.PlanLists.{first_reserved_added_path_in_byte_order}
 use Rattle.tell_core.specs.change_inputs.Chains.{and_then}
 use Rattle.tell_core.specs.change_inputs.Inputs.{Inputs}
 use Rattle.engine_core.specs.change_outcome.ChangeOutcome.{ChangeDone, ChangeWishes, intent_of_change, change_done, members_after_change, change_or_refusal, change_with_members, packages_before_and_after_with_purge, database_and_world_after_change, touched_paths, unless_clash, unless_contested, or_result_too_large, unless_overflow, unless_reserved_path, change_done_unless_over_writer_limits}

@@ -10,9 +10,9 @@ use Rattle.command_core.specs.Command.{CommandLine}
 use Rattle.command_core.specs.declared.command.Applet.{Applet}
 use Rattle.command_core.specs.declared.command.Applet.TheVariants.{Audit, Info, List as ListApplet, Manifest, Policy, Search}
 use Rattle.command_core.specs.declared.operands.Operand.{Operand}
-use Rattle.tell_core.specs.installed_info.Info.{info_of}
-use Rattle.tell_core.specs.installed_info.Refusals.{IsNotInstalledRefusalOfOperand}
-use Rattle.tell_core.specs.installed_info.declared.telling.ReportAndRefusal.{ReportAndRefusal}
+use Rattle.tell_core.specs.Info.{info_of}
+use Rattle.tell_core.specs.InfoRefusals.{IsNotInstalledRefusalOfOperand}
+use Rattle.tell_core.specs.declared.info.reporting.ReportAndRefusal.{ReportAndRefusal}
 use Rattle.make_core.specs.make_info.Reads.{Reads}
 use Rattle.report_core.specs.declared.refusal.Refusal.{Refusal}
 use Rattle.tell_core.specs.AuditResult.{audit_of, manifest_report_or_refusal}

@@ -5,7 +5,7 @@ use Rattle.base_core.specs.Files.{Files, HasOnlyNamesAmong}
 use Rattle.command_core.specs.Command.{CommandLine}
 use Rattle.command_core.specs.declared.command.Applet.{Applet}
 use Rattle.command_core.specs.declared.command.Applet.TheVariants.{Demo}
-use Rattle.demo_lines.specs.Count.{demo_count}
+use Rattle.outcome.specs.DemoCount.{demo_count}
 use Rattle.outcome.proofs.Demos.{HaveOneOutcome, HaveOutcome, demo_everywhere, demo_exists, demo_leaves, demo_one}
 use Rattle.outcome.specs.Commands.{IsOutcomeWithoutDemo}
 use Rattle.outcome.specs.Demo.{IsDemoOutcomeByPackageCount}

@@ -2,8 +2,8 @@
 use Rattle.std.proofs.Common.{◌≡◌, ℕ, false, true, List, [], ◌∷◌, Some, None, refl}
 use Rattle.std.specs.Prelude.{codes}
 use Rattle.adb_view.specs.Plain.{Plain, blob, more, none, obj}
-use Rattle.engine_core.specs.change_files.PlanLists.{sorted_distinct_names}
-use Rattle.demo_lines.specs.Lines.{contents_of_demo_file}
+use Rattle.engine_core.specs.own_core.PlanLists.{sorted_distinct_names}
+use Rattle.outcome.specs.DemoLines.{contents_of_demo_file}
 use Rattle.dep_core.specs.Dependency.{Dependency, dependency_from_parts}
 use Rattle.engine_core.specs.package_changes.Report.{lines_on_names_that_stay}
 use Rattle.tell_core.specs.candidate_core.Candidates.{Candidate, candidate_from_parts}

@@ -5,8 +5,8 @@ use Rattle.root_names.specs.RootNames.{repositories_name}
 use Rattle.report_core.specs.declared.refusal.Refusal.{Refusal}
 use Rattle.words_core.specs.Grammar.{command_of}
 use Rattle.outcome.specs.Commands.{IsOutcomeWithoutDemo}
-use Rattle.demo_lines.specs.Lines.{add_words, demo_file, demo_repositories, contents_of_demo_file, mkndx_words, mkpkg_words}
-use Rattle.demo_lines.specs.Report.{demo_line_of_count_and_add_report}
+use Rattle.outcome.specs.DemoLines.{add_words, demo_file, demo_repositories, contents_of_demo_file, mkndx_words, mkpkg_words}
+use Rattle.outcome.specs.DemoReport.{demo_line_of_count_and_add_report}
 use Rattle.outcome.specs.Outcome.{Outcome, just_report, just_report_unless_refusal}
 
 -- ---- one run after another

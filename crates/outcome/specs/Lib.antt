@@ -1,11 +1,10 @@
 -- re-exported crates: a crate that depends on this one can use their definitions without depending on them too
-pub use Rattle.demo_lines.specs as demo_lines
 pub use Rattle.engine_core.specs as engine_core
-pub use Rattle.engine_core.specs.change_files as change_files
 pub use Rattle.engine_core.specs.change_outcome as change_outcome
 pub use Rattle.engine_core.specs.db_core as db_core
 pub use Rattle.engine_core.specs.journal_core as journal_core
 pub use Rattle.engine_core.specs.journal_intent as journal_intent
+pub use Rattle.engine_core.specs.own_core as own_core
 pub use Rattle.engine_core.specs.package_changes as package_changes
 pub use Rattle.engine_core.specs.search_tables as search_tables
 pub use Rattle.gen_core.specs as gen_core
@@ -23,7 +22,6 @@ pub use Rattle.tell_core.specs.audit_core as audit_core
 pub use Rattle.tell_core.specs.candidate_core as candidate_core
 pub use Rattle.tell_core.specs.change_inputs as change_inputs
 pub use Rattle.tell_core.specs.file_owners as file_owners
-pub use Rattle.tell_core.specs.installed_info as installed_info
 pub use Rattle.tell_core.specs.path_claims as path_claims
 pub use Rattle.tell_core.specs.path_clashes as path_clashes
 pub use Rattle.tell_core.specs.query_core as query_core
@@ -44,6 +42,9 @@ pub mod OutcomeOfReport
 pub mod Changing
 pub mod Given
 pub mod Demo
+pub mod DemoCount
+pub mod DemoLines
+pub mod DemoReport
 -- modules that only inner contracts and proofs use
 pub mod ChangeEnd
 pub mod Recovers

@@ -2,7 +2,7 @@
 -- under each command's name; their reports and refusals are defined in `tell_core`.
 use Rattle.std.specs.Prelude.{Result, Ok, Err}
 use Rattle.base_core.specs.Files.{Files}
-use Rattle.tell_core.specs.installed_info.declared.telling.ReportAndRefusal.{ReportAndRefusal}
+use Rattle.tell_core.specs.declared.info.reporting.ReportAndRefusal.{ReportAndRefusal}
 use Rattle.report_core.specs.declared.refusal.Refusal.{Refusal}
 use Rattle.outcome.specs.Outcome.{Outcome, just_refusal, outcome_without_commit}
 

@@ -5,7 +5,7 @@ use Rattle.base_core.specs.Files.{Files, no_names}
 use Rattle.command_core.specs.Command.{CommandLine}
 use Rattle.command_core.specs.declared.command.Applet.{Applet}
 use Rattle.command_core.specs.declared.command.Applet.TheVariants.{Demo}
-use Rattle.demo_lines.specs.Count.{demo_count}
+use Rattle.outcome.specs.DemoCount.{demo_count}
 use Rattle.report_core.specs.declared.refusal.Refusal.TheVariants.{Usage}
 use Rattle.outcome.specs.Commands.{IsPossibleOutcomeWithoutDemo, IsOutcomeUnlessBadIntent}
 use Rattle.outcome.specs.Demo.{IsDemoOutcomeByPackageCount}

@@ -1,22 +1,26 @@
 //! The outcome of every command: its answer, output and files, defined by its arguments and by the
 //! files of the tree. The contract of `apk` (`apk_front`) cites these definitions.
 //!
-//! This is a crate of definitions. The modules of `specs/` are:
+//! This is mainly a crate of definitions. The modules of `specs/` are:
 //! - `Outcome`: the parts of a command's outcome;
 //! - `Words`: the outcome of a command line;
 //! - `Commands`: the outcome of each command except `demo`;
 //! - `Effect`: what a command reads and changes;
 //! - `Version`, `Verify`, `Dump`, `Generate`, `Make`, `OutcomeOfReport`, `Changing`: the outcome of
 //!   each command or group of commands;
-//! - `Demo`: the command lines that `demo` runs;
+//! - `Demo`: the outcome of `demo`, with `DemoCount`, `DemoLines` and `DemoReport`: the number of
+//!   packages that `demo` makes, the command lines that it runs, and its report;
 //! - `Given`: the parts of an outcome that relations specify, and no function computes;
 //! - `ChangeEnd`, `Recovers`, `Sound`: cited by laws: how a change ends, which commands recover,
 //!   and when a file is a sound container.
 //!
-//! The functions are laws: they compute nothing, and their contracts say what follows from the
-//! definitions, for all arguments and files. The rules are in `docs/commands.md`, in the sections
+//! The functions of this file are laws: they compute nothing, and their contracts say what follows
+//! from the definitions, for all arguments and files. The functions of `demo` compute what `demo`
+//! needs. The rules are in `docs/commands.md`, in the sections
 //! that the heads of the files of `specs/` name.
 #![tactic(auto)]
+
+mod demo;
 
 ghost use Rattle.std.specs.Prelude.{◌≡◌, ◌⊎◌, ℕ, true, false, List, None, Some, Result, Ok, Err, IsSome, IsTrue, is_some, not};
 ghost use Rattle.base_core.specs.Files.{Files, HasOnlyNamesAmong};
@@ -28,7 +32,7 @@ ghost use Rattle.command_core.specs.Command.{CommandLine};
 ghost use Rattle.command_core.specs.declared.command.Applet.{Applet};
 ghost use Rattle.engine_core.specs.journal_core.Recovery.{intent_name};
 ghost use Rattle.engine_core.specs.journal_core.Staged.{AreJournalPathsFreeAfterReplayIfAny, HasEmptyStageAndFreeJournalPaths, unstaged_files};
-ghost use Rattle.tell_core.specs.installed_info.declared.telling.ReportAndRefusal.{ReportAndRefusal};
+ghost use Rattle.tell_core.specs.declared.info.reporting.ReportAndRefusal.{ReportAndRefusal};
 ghost use Rattle.make_core.specs.make_info.Reads.{Reads};
 ghost use Rattle.outcome.specs.ChangeEnd.{IsChangeEnd, IsChangeEndAfterRecoveryOrIntentRefusal, is_input_refusal};
 ghost use Rattle.outcome.specs.Commands.{IsOutcomeWithoutDemo, IsOutcomeOverRecoveredFiles, reads_in};
@@ -249,7 +253,7 @@ pub fn what_is_made_is_sound()
 }
 
 // Functions and laws of crates on which this one depends, for crates that depend on this one.
-pub use demo_lines::{
+pub use demo::{
     add_words, contents_of_demo_file, demo_count, demo_file, demo_line_of_count_and_add_report,
     demo_repositories, mkndx_words, mkpkg_words,
 };

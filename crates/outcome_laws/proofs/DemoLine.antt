@@ -13,9 +13,9 @@ use Rattle.std.proofs.lemmas.Nat.{div_below, le-div}
 use Rattle.base_core.specs.Lists.{IsIn}
 use Rattle.command_core.specs.declared.operands.Operand.{Operand}
 use Rattle.dep_core.specs.World.{is_line_end}
-use Rattle.outcome.specs.demo_lines.Count.{demo_count}
-use Rattle.outcome.specs.demo_lines.Lines.{demo_package_name, name_if_unneeded_by_first_n_at, names_unneeded_by_first_n_up_to}
-use Rattle.outcome.specs.demo_lines.Report.{demo_line_of_count_and_add_report, last_line}
+use Rattle.outcome.specs.DemoCount.{demo_count}
+use Rattle.outcome.specs.DemoLines.{demo_package_name, name_if_unneeded_by_first_n_at, names_unneeded_by_first_n_up_to}
+use Rattle.outcome.specs.DemoReport.{demo_line_of_count_and_add_report, last_line}
 use Rattle.outcome_laws.specs.DemoLines.{AreWholeLines, IsUnneededAmongFirstDemoPackages, HasNoLineEnd}
 use Rattle.report_core.specs.Reports.{report_line}
 

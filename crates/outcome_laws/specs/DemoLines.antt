@@ -3,7 +3,7 @@
 use Rattle.std.specs.Prelude.{ℕ, ◌≡◌, ◌⊎◌, ◌≤◌, ◌/◌, false, List, [], ◌++◌, codes}
 use Rattle.std.specs.List.{list_any}
 use Rattle.dep_core.specs.World.{is_line_end}
-use Rattle.outcome.specs.demo_lines.Lines.{demo_package_name}
+use Rattle.outcome.specs.DemoLines.{demo_package_name}
 
 -- a text has no line end
 abbrev pub HasNoLineEnd : List ℕ → Type 0

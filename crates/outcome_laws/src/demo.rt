@@ -5,9 +5,9 @@ ghost use Rattle.std.specs.Prelude.{ℕ, ◌≡◌, ◌↔◌, ◌<◌, ◌^◌,
 ghost use Rattle.std.specs.Fmt.{decimal};
 ghost use Rattle.base_core.specs.Lists.{IsIn};
 ghost use Rattle.command_core.specs.declared.operands.Operand.{Operand};
-ghost use Rattle.outcome.specs.demo_lines.Count.{demo_count};
-ghost use Rattle.outcome.specs.demo_lines.Lines.{names_unneeded_by_first_n_up_to};
-ghost use Rattle.outcome.specs.demo_lines.Report.{demo_line_of_count_and_add_report};
+ghost use Rattle.outcome.specs.DemoCount.{demo_count};
+ghost use Rattle.outcome.specs.DemoLines.{names_unneeded_by_first_n_up_to};
+ghost use Rattle.outcome.specs.DemoReport.{demo_line_of_count_and_add_report};
 ghost use Rattle.outcome_laws.specs.DemoLines.{AreWholeLines, IsUnneededAmongFirstDemoPackages, HasNoLineEnd};
 ghost use Rattle.report_core.specs.Reports.{report_line};
 

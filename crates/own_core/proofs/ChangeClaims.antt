@@ -9,17 +9,17 @@ use Rattle.std.proofs.lemmas.Bool.{le-leb}
 use Rattle.base_core.specs.Listed.{AreSortedDistinctTexts}
 use Rattle.base_core.specs.ByteOrder.{bytes_cmp}
 use Rattle.base_core.proofs.Sorting.{sorted_up}
-use Rattle.change_files.specs.db_core.Members.{members_of_kept}
-use Rattle.change_files.specs.db_core.Seen.{members_of, packages_of}
+use Rattle.file_owners.specs.db_core.Members.{members_of_kept}
+use Rattle.file_owners.specs.db_core.Seen.{members_of, packages_of}
 use Rattle.path_claim_lists.specs.path_claims.Claims.{PathClaim, claim_cmp, is_claim_of_path}
 use Rattle.path_claim_lists.specs.path_claims.Seen.{claim_seen}
 use Rattle.path_claim_lists.specs.path_claims.declared.claim.Claim.{Claim}
 use Rattle.path_claim_lists.proofs.path_claims.ClaimOrder.{claims_total}
 use Rattle.path_claim_lists.proofs.path_claims.Places.{map_len, seen_at}
-use Rattle.change_files.specs.file_guard.Listed.{DescribesEntry}
-use Rattle.change_files.specs.file_guard.declared.compare.ListedFile.{ListedFile}
-use Rattle.change_files.specs.file_owners.Owners.{claims_in}
-use Rattle.change_files.specs.FileChange.{is_listed_after_change, old_file_entry, old_listings}
+use Rattle.file_guard.specs.Listed.{DescribesEntry}
+use Rattle.file_guard.specs.declared.compare.ListedFile.{ListedFile}
+use Rattle.file_owners.specs.Owners.{claims_in}
+use Rattle.own_core.specs.FileChange.{is_listed_after_change, old_file_entry, old_listings}
 use Rattle.own_core.specs.ClaimEntries.{claim_entry}
 use Rattle.own_core.specs.Fates.{DescribesEntryIfAny}
 use Rattle.own_core.specs.Sides.{HasClaimsOfPackages, claims_after, claims_before, file_change_of}

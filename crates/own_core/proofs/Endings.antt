@@ -8,8 +8,8 @@ use Rattle.std.proofs.Math.Seq.{take-append_seam, drop-append_seam}
 use Rattle.base_core.specs.Name.{IsName}
 use Rattle.base_core.proofs.NameParts.{IsEnding, ending_makes_name}
 use Rattle.path_claim_lists.specs.adb_fields.Paths.{path_of}
-use Rattle.change_files.specs.Fate.{apk_new_name}
-use Rattle.change_files.specs.FilesAfter.{path_of_apk_new_name}
+use Rattle.own_core.specs.Fate.{apk_new_name}
+use Rattle.own_core.specs.FilesAfter.{path_of_apk_new_name}
 
 abbrev pub ending : List ℕ
 ending = codes ".apk-new"

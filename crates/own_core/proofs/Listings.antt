@@ -13,7 +13,7 @@ use Rattle.adb_view.specs.Values.{count_of, entries_in, entry_at_index, nth}
 use Rattle.path_claim_lists.specs.adb_fields.Repeated.{files_in, list_of, name_of}
 use Rattle.base_core.specs.Sorted.{sorted_by}
 use Rattle.base_core.proofs.Sorting.{Each, stable_in_order}
-use Rattle.change_files.specs.db_core.Members.{Listing, Member, listings_of_path, is_added, listings_of_member, listings_of_members_from, listings_from_member_folder_file_places, listings_in_folders_from, listing_of_file_entry, listings_of_members}
+use Rattle.file_owners.specs.db_core.Members.{Listing, Member, listings_of_path, is_added, listings_of_member, listings_of_members_from, listings_from_member_folder_file_places, listings_in_folders_from, listing_of_file_entry, listings_of_members}
 use Rattle.path_claim_lists.specs.path_claims.Claims.{PathClaim, claim_cmp, is_owning_member, is_claim_of_path}
 use Rattle.path_claim_lists.proofs.path_claims.ClaimOrder.{claims_total}
 use Rattle.path_claim_lists.proofs.path_claims.Owned.{ties_path}
@@ -21,8 +21,8 @@ use Rattle.path_claim_lists.proofs.path_claims.Places.{no_some, value_or}
 use Rattle.path_claim_lists.proofs.path_claims.Runs.{filter_ext}
 use Rattle.path_claim_lists.proofs.path_claims.Whole.{from_sorted}
 use Rattle.path_claim_lists.proofs.Lists.{found_ext, found_filtered, found_first, found_is, first_of}
-use Rattle.change_files.specs.file_owners.Owners.{indexed_claim_of_listing, claims_of_listings_indexed_from, claims_in, owner_of_path}
-use Rattle.change_files.specs.FileChange.{FileChange, added_owner_listing, if_member_added, is_listed_after_change, old_file_entry, old_listings, owner_listing}
+use Rattle.file_owners.specs.Owners.{indexed_claim_of_listing, claims_of_listings_indexed_from, claims_in, owner_of_path}
+use Rattle.own_core.specs.FileChange.{FileChange, added_owner_listing, if_member_added, is_listed_after_change, old_file_entry, old_listings, owner_listing}
 use Rattle.own_core.specs.ClaimEntries.{AreClaimsOf, HasFileAt, IsClaimOf, claim_entry, is_added_at, is_added_if_any, listed_file_at, folders_if_any, is_of_added_owner}
 
 -- ---- each listing stands where it says

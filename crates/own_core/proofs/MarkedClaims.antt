@@ -4,7 +4,7 @@ use Rattle.std.specs.Prelude.{slice_get}
 use Rattle.std.specs.List.{filter, find}
 use Rattle.std.specs.List.Sorted.{IsSorted}
 use Rattle.base_core.proofs.Rising as Names
-use Rattle.change_files.specs.db_core.Members.{Member}
+use Rattle.file_owners.specs.db_core.Members.{Member}
 use Rattle.path_claim_lists.specs.path_claims.Claims.{PathClaim, claim_cmp}
 use Rattle.path_claim_lists.proofs.path_claims.Places.{no_some}
 use Rattle.path_claim_lists.proofs.Firsts.{paths}

@@ -6,20 +6,20 @@ use Rattle.std.specs.List.{filter, find, list_any}
 use Rattle.base_core.specs.Files.{Files}
 use Rattle.base_core.proofs.Rising as Names
 use Rattle.base_core.specs.Sorted.{sorted_by}
-use Rattle.change_files.specs.db_core.Members.{Listing, is_added, listings_of_members, members_of_kept}
+use Rattle.file_owners.specs.db_core.Members.{Listing, is_added, listings_of_members, members_of_kept}
 use Rattle.path_claim_lists.specs.path_claims.Claims.{PathClaim, claim_cmp, is_claim_of_path}
 use Rattle.path_claim_lists.proofs.path_claims.Places.{no_some, value_or}
 use Rattle.path_claim_lists.proofs.Firsts.{found_in, in_found, paths}
 use Rattle.path_claim_lists.proofs.Lists.{found_passes}
-use Rattle.change_files.specs.file_owners.Owners.{claims_in}
-use Rattle.change_files.specs.Fate as Fates
-use Rattle.change_files.specs.Fate.{fate_with_file_found, fate_of, goes_aside, goes_in, gives_way, is_protected_path}
-use Rattle.change_files.specs.FileChange.{FileChange, added_owner_listing, if_member_added, is_listed_after_change, old_file_entry, old_listings, owner_listing, was_listed}
-use Rattle.change_files.specs.FilesAfter.{if_written_as_apk_new, if_written_in_place, is_present_and_modified_from_entry, is_left_over_modified_file_kept, is_left_over_and_not_written, is_removed, is_listing_written_under_name, listing_written_as_apk_new_beside, is_modified_config_to_keep, path_of_apk_new_name, listing_written_under_name, listing_written_in_place}
+use Rattle.file_owners.specs.Owners.{claims_in}
+use Rattle.own_core.specs.Fate as Fates
+use Rattle.own_core.specs.Fate.{fate_with_file_found, fate_of, goes_aside, goes_in, gives_way, is_protected_path}
+use Rattle.own_core.specs.FileChange.{FileChange, added_owner_listing, if_member_added, is_listed_after_change, old_file_entry, old_listings, owner_listing, was_listed}
+use Rattle.own_core.specs.FilesAfter.{if_written_as_apk_new, if_written_in_place, is_present_and_modified_from_entry, is_left_over_modified_file_kept, is_left_over_and_not_written, is_removed, is_listing_written_under_name, listing_written_as_apk_new_beside, is_modified_config_to_keep, path_of_apk_new_name, listing_written_under_name, listing_written_in_place}
 use Rattle.std.specs.Option.{option_or}
-use Rattle.change_files.specs.NamesAfter.{added_paths}
-use Rattle.change_files.specs.PlanLists.{paths_with_apk_new_file, kept_left_over_paths_of, old_paths, removals_of}
-use Rattle.change_files.proofs.Coming.{no_owner}
+use Rattle.own_core.specs.NamesAfter.{added_paths}
+use Rattle.own_core.specs.PlanLists.{paths_with_apk_new_file, kept_left_over_paths_of, old_paths, removals_of}
+use Rattle.own_core.proofs.ComingFiles.{no_owner}
 use Rattle.own_core.specs.ClaimEntries.{claim_entry, is_of_added_owner}
 use Rattle.own_core.specs.Fates.{claim_fate, are_equal_fates, are_equal_flags}
 use Rattle.own_core.specs.Going.{is_file_kept, is_apk_new_name_of, is_path_left_over}

@@ -13,15 +13,15 @@ use Rattle.base_core.specs.Sorted.{sorted_by, with_element_inserted}
 use Rattle.base_core.proofs.Sorting.{Each}
 use Rattle.base_core.proofs.Booleans.{or_swap}
 use Rattle.base_core.proofs.AtName.{either_way}
-use Rattle.change_files.specs.db_core.Members.{Listing, Member, is_added, listings_of_members, members_of_kept}
-use Rattle.change_files.specs.db_core.Seen.{members_of}
+use Rattle.file_owners.specs.db_core.Members.{Listing, Member, is_added, listings_of_members, members_of_kept}
+use Rattle.file_owners.specs.db_core.Seen.{members_of}
 use Rattle.path_claim_lists.specs.path_claims.Claims.{PathClaim, claim_cmp, is_claim_of_path}
 use Rattle.path_claim_lists.specs.Once.{HasFirstClaimOfEachPath}
-use Rattle.change_files.specs.file_owners.Owners.{claims_of_listings_indexed_from, claims_in}
-use Rattle.change_files.specs.Fate.{apk_new_name}
-use Rattle.change_files.specs.FileChange.{old_file_entry, was_listed}
-use Rattle.change_files.specs.FilesAfter.{database_name, is_left_over_modified_file_kept, is_left_over_and_not_written, listing_written_as_apk_new_beside, is_modified_config_to_keep, path_of_apk_new_name, world_name}
-use Rattle.change_files.specs.NamesAfter.{added_paths, is_released, counts_as_written, name_change}
+use Rattle.file_owners.specs.Owners.{claims_of_listings_indexed_from, claims_in}
+use Rattle.own_core.specs.Fate.{apk_new_name}
+use Rattle.own_core.specs.FileChange.{old_file_entry, was_listed}
+use Rattle.own_core.specs.FilesAfter.{database_name, is_left_over_modified_file_kept, is_left_over_and_not_written, listing_written_as_apk_new_beside, is_modified_config_to_keep, path_of_apk_new_name, world_name}
+use Rattle.own_core.specs.NamesAfter.{added_paths, is_released, counts_as_written, name_change}
 use Rattle.own_core.specs.ClaimEntries.{claim_entry, is_added_at, is_added_if_any, is_of_added_owner}
 use Rattle.own_core.specs.Fates.{claim_fate}
 use Rattle.own_core.specs.Found.{results_for_claims}

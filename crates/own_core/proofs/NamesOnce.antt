@@ -12,8 +12,8 @@ use Rattle.base_core.proofs.Orderings.{is_less}
 use Rattle.path_claim_lists.specs.path_claims.Claims.{PathClaim, is_claim_of_path}
 use Rattle.path_claim_lists.proofs.Firsts.{paths}
 use Rattle.path_claim_lists.proofs.PathOrder.{behind}
-use Rattle.change_files.specs.PlanLists.{sorted_distinct_names, prepend_unless_equal_to_first, names_with_adjacent_repeats_merged}
-use Rattle.change_files.proofs.InOrder.{from_once, in_order, from_order, order_rises, filter_rises}
+use Rattle.own_core.specs.PlanLists.{sorted_distinct_names, prepend_unless_equal_to_first, names_with_adjacent_repeats_merged}
+use Rattle.own_core.proofs.InOrder.{from_once, in_order, from_order, order_rises, filter_rises}
 
 -- ---- each once
 

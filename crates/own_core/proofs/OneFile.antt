@@ -5,17 +5,17 @@ use Rattle.adb_view.specs.Plain.{Plain}
 use Rattle.base_core.specs.Calls.{IfObservable}
 use Rattle.base_core.specs.Tree.{TreeState, files_of}
 use Rattle.base_core.proofs.Observed.{found_there}
-use Rattle.change_files.specs.db_core.Members.{members_of_kept}
+use Rattle.file_owners.specs.db_core.Members.{members_of_kept}
 use Rattle.path_claim_lists.specs.path_claims.Claims.{PathClaim}
-use Rattle.change_files.specs.file_guard.AsListed.{is_as_listed}
-use Rattle.change_files.specs.file_guard.Listed.{DescribesEntry, comparison_of_found_file, is_as_described}
-use Rattle.change_files.specs.file_guard.declared.compare.Comparison.{Comparison}
-use Rattle.change_files.specs.file_guard.declared.compare.ListedFile.{ListedFile}
-use Rattle.change_files.proofs.file_guard.Told.{told_as_listed}
-use Rattle.change_files.specs.Fate as Fates
-use Rattle.change_files.specs.Fate.{fate_if_user_modified_file, fate_with_file_found, goes_in, is_as_old_entry_lists, is_protected_path}
-use Rattle.change_files.specs.FileChange.{FileChange, old_file_entry}
-use Rattle.change_files.specs.FilesAfter.{is_present_and_modified_from_entry}
+use Rattle.file_guard.specs.AsListed.{is_as_listed}
+use Rattle.file_guard.specs.Listed.{DescribesEntry, comparison_of_found_file, is_as_described}
+use Rattle.file_guard.specs.declared.compare.Comparison.{Comparison}
+use Rattle.file_guard.specs.declared.compare.ListedFile.{ListedFile}
+use Rattle.file_guard.proofs.Told.{told_as_listed}
+use Rattle.own_core.specs.Fate as Fates
+use Rattle.own_core.specs.Fate.{fate_if_user_modified_file, fate_with_file_found, goes_in, is_as_old_entry_lists, is_protected_path}
+use Rattle.own_core.specs.FileChange.{FileChange, old_file_entry}
+use Rattle.own_core.specs.FilesAfter.{is_present_and_modified_from_entry}
 use Rattle.own_core.specs.ClaimEntries.{claim_entry}
 use Rattle.own_core.specs.Fates.{DescribesEntryIfAny, claim_fate}
 use Rattle.own_core.specs.Found.{IsByFile}

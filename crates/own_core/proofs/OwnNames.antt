@@ -2,26 +2,26 @@
 use Rattle.std.proofs.Common.{◌≡◌, inl, inr, ℕ, zero, suc, ◌≤◌, Bool, true, false, List, [], ◌∷◌, length, map, All, Contains, Option, Some, None, Result, Ok, Err, refl, ap, sym, subst, arith, true≢false}
 use Rattle.std.specs.Prelude.{◌&&◌, ◌||◌, not, if◌then◌else◌, is_some, nat_le, IfOk}
 use Rattle.std.proofs.lemmas.Bool.{and_parts, leb-true}
-use Rattle.change_files.specs.adb_schema.Reserved.{is_reserved}
+use Rattle.file_guard.specs.adb_schema.Reserved.{is_reserved}
 use Rattle.adb_view.specs.Plain.{Plain}
 use Rattle.base_core.specs.Files.{Files}
 use Rattle.base_core.specs.Listed.{AreSortedDistinctTexts}
 use Rattle.base_core.specs.Name.{IsName}
 use Rattle.base_core.specs.Tree.{TreeState}
 use Rattle.base_core.proofs.Rising as Names
-use Rattle.change_files.specs.db_core.Members.{Listing, listings_of_members, member_of_kept}
-use Rattle.change_files.specs.file_guard.AsListed.{is_as_listed}
-use Rattle.change_files.specs.Fate.{agrees_with_old_entry, apk_new_name, fate_if_user_modified_file, fate_with_file_found, fate_of, gives_way, goes_aside, goes_in, is_as_old_entry_lists, is_protected_path}
-use Rattle.change_files.specs.FileChange.{FileChange, is_listed_after_change, old_file_entry, old_listings}
-use Rattle.change_files.specs.FilesAfter.{is_removed, is_listing_written_under_name, listing_written_as_apk_new_beside, listing_written_under_name}
-use Rattle.change_files.specs.PlanLists.{FileWrite, file_writes_of, first_reserved_added_path_in_byte_order, removals_of}
-use Rattle.change_files.specs.Touched.{IsPlannedWrite}
-use Rattle.change_files.proofs.LeftOver.{removed_unreserved}
-use Rattle.change_files.proofs.Lists.{IsOneOf, contains_from_one}
-use Rattle.change_files.proofs.OwnedFiles.{aside_found, coming_listed, in_old_paths, written_is}
-use Rattle.change_files.proofs.PlanNames.{removals_hold, removals_rise, writes_are, writes_hold, writes_rise, written_or_removed}
-use Rattle.change_files.proofs.Reserved.{written_unreserved}
-use Rattle.change_files.proofs.Untouched.{removed_is}
+use Rattle.file_owners.specs.db_core.Members.{Listing, listings_of_members, member_of_kept}
+use Rattle.file_guard.specs.AsListed.{is_as_listed}
+use Rattle.own_core.specs.Fate.{agrees_with_old_entry, apk_new_name, fate_if_user_modified_file, fate_with_file_found, fate_of, gives_way, goes_aside, goes_in, is_as_old_entry_lists, is_protected_path}
+use Rattle.own_core.specs.FileChange.{FileChange, is_listed_after_change, old_file_entry, old_listings}
+use Rattle.own_core.specs.FilesAfter.{is_removed, is_listing_written_under_name, listing_written_as_apk_new_beside, listing_written_under_name}
+use Rattle.own_core.specs.PlanLists.{FileWrite, file_writes_of, first_reserved_added_path_in_byte_order, removals_of}
+use Rattle.own_core.specs.Touched.{IsPlannedWrite}
+use Rattle.own_core.proofs.LeftOver.{removed_unreserved}
+use Rattle.own_core.proofs.Lists.{IsOneOf, contains_from_one}
+use Rattle.own_core.proofs.OwnedFiles.{aside_found, coming_listed, in_old_paths, written_is}
+use Rattle.own_core.proofs.PlanNames.{removals_hold, removals_rise, writes_are, writes_hold, writes_rise, written_or_removed}
+use Rattle.own_core.proofs.Reserved.{written_unreserved}
+use Rattle.own_core.proofs.Untouched.{removed_is}
 use Rattle.own_core.specs.Fates.{is_apk_new_name_free}
 use Rattle.own_core.specs.Planned.{ArePlanLists, HasDisjointUnreservedNames, HasSources, IsOfAddedFile, IsUnreservedName, IsPlanForMembersAlone, IsPlanOverSomeFiles}
 use Rattle.own_core.specs.WritesSeen.{writes_in}

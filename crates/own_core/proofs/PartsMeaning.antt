@@ -8,18 +8,18 @@ use Rattle.base_core.specs.Tree.{TreeState}
 use Rattle.base_core.proofs.Rising as Names
 use Rattle.base_core.specs.Sorted.{sorted_by}
 use Rattle.base_core.proofs.Sorting.{Each}
-use Rattle.change_files.specs.db_core.Seen.{members_of}
-use Rattle.change_files.specs.db_core.Members.{members_of_kept}
+use Rattle.file_owners.specs.db_core.Seen.{members_of}
+use Rattle.file_owners.specs.db_core.Members.{members_of_kept}
 use Rattle.path_claim_lists.specs.path_claims.Claims.{PathClaim, claim_cmp, is_claim_of_path}
 use Rattle.path_claim_lists.proofs.path_claims.Places.{no_some, value_or}
 use Rattle.path_claim_lists.specs.Named.{HaveValidPaths}
 use Rattle.path_claim_lists.specs.Once.{HasFirstClaimOfEachPath}
 use Rattle.path_claim_lists.proofs.Firsts.{paths}
-use Rattle.change_files.specs.file_owners.Owners.{claims_in}
-use Rattle.change_files.specs.Fate as Fates
-use Rattle.change_files.specs.Fate.{gives_way, goes_aside, goes_in}
-use Rattle.change_files.specs.FileChange.{FileChange}
-use Rattle.change_files.specs.FilesAfter.{listing_written_as_apk_new_beside, path_of_apk_new_name}
+use Rattle.file_owners.specs.Owners.{claims_in}
+use Rattle.own_core.specs.Fate as Fates
+use Rattle.own_core.specs.Fate.{gives_way, goes_aside, goes_in}
+use Rattle.own_core.specs.FileChange.{FileChange}
+use Rattle.own_core.specs.FilesAfter.{listing_written_as_apk_new_beside, path_of_apk_new_name}
 use Rattle.own_core.specs.ClaimEntries.{AreClaimsOf, claim_entry, is_of_added_owner}
 use Rattle.own_core.specs.Fates.{claim_fate, are_equal_fates, are_equal_flags, is_apk_new_name_free, marked_claims}
 use Rattle.own_core.specs.Found.{AreAnswersByFiles, results_for_claims}

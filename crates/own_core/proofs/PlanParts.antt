@@ -14,8 +14,8 @@ use Rattle.base_core.specs.ByteOrder.{bytes_cmp}
 use Rattle.base_core.specs.Sorted.{sorted_by, with_element_inserted}
 use Rattle.base_core.proofs.Sorting.{Each, sorted_up}
 use Rattle.base_core.proofs.Orderings.{names_total}
-use Rattle.change_files.specs.db_core.Members.{Member, listings_of_members, members_of_kept}
-use Rattle.change_files.specs.db_core.Seen.{members_of, packages_of}
+use Rattle.file_owners.specs.db_core.Members.{Member, listings_of_members, members_of_kept}
+use Rattle.file_owners.specs.db_core.Seen.{members_of, packages_of}
 use Rattle.path_claim_lists.specs.path_claims.Claims.{PathClaim, claim_cmp, is_claim_of_path}
 use Rattle.path_claim_lists.specs.path_clashes.Clash.{NameChange}
 use Rattle.path_claim_lists.specs.path_clashes.ClashSeen.{clash_seen}
@@ -23,10 +23,10 @@ use Rattle.path_claim_lists.specs.path_clashes.FirstClash.{IsFirstClashOrNone, I
 use Rattle.path_claim_lists.specs.path_clashes.declared.clash.Clash.{Clash}
 use Rattle.path_claim_lists.specs.Once.{HasFirstClaimOfEachPath}
 use Rattle.path_claim_lists.proofs.Firsts.{paths}
-use Rattle.change_files.specs.file_owners.Owners.{claims_in}
-use Rattle.change_files.specs.Fate.{apk_new_name}
-use Rattle.change_files.specs.FilesAfter.{database_name, world_name}
-use Rattle.change_files.specs.NamesAfter.{name_change}
+use Rattle.file_owners.specs.Owners.{claims_in}
+use Rattle.own_core.specs.Fate.{apk_new_name}
+use Rattle.own_core.specs.FilesAfter.{database_name, world_name}
+use Rattle.own_core.specs.NamesAfter.{name_change}
 use Rattle.own_core.specs.ClaimEntries.{AreClaimsOf, is_added_at, is_of_added_owner}
 use Rattle.own_core.specs.Fates.{claim_fate}
 use Rattle.own_core.specs.Going.{is_file_kept}

@@ -12,8 +12,8 @@ use Rattle.base_core.specs.ByteOrder.{bytes_cmp, smallest_text}
 use Rattle.base_core.specs.Sorted.{sorted_by}
 use Rattle.base_core.proofs.Smallest.{smallest_first}
 use Rattle.base_core.proofs.Sorting.{Each, Rises, one_order, ranks, rises_in_order, stable_in_order}
-use Rattle.change_files.specs.adb_schema.Reserved.{is_reserved}
-use Rattle.change_files.specs.db_core.Members.{Listing, Member, is_added, listings_of_members}
+use Rattle.file_guard.specs.adb_schema.Reserved.{is_reserved}
+use Rattle.file_owners.specs.db_core.Members.{Listing, Member, is_added, listings_of_members}
 use Rattle.path_claim_lists.specs.path_claims.Claims.{ContestedPath, PathClaim, claim_cmp, claimants, path_with_rivals_of_first_claimant, first_contested_path_in_byte_order, first_path_without_owner_in_byte_order, is_claim_of_path, owner_among}
 use Rattle.path_claim_lists.specs.path_claims.Contest.{first_with_unbeaten_rival, rivals_of}
 use Rattle.path_claim_lists.specs.path_claims.Seen.{claim_seen}
@@ -23,9 +23,9 @@ use Rattle.path_claim_lists.proofs.path_claims.ClaimOrder.{claims_total}
 use Rattle.path_claim_lists.proofs.path_claims.Places.{map_len, no_some, seen_at, value_or}
 use Rattle.path_claim_lists.proofs.path_claims.Whole.{paths_in_order}
 use Rattle.path_claim_lists.proofs.Lists.{filter_swap, first_of, found_both, found_first, found_is, or_found, take_at, take_whole}
-use Rattle.change_files.specs.file_owners.Owners.{indexed_claim_of_listing, claims_of_listings_indexed_from, claims_in, first_contested_member_path_in_byte_order, member_beats}
-use Rattle.change_files.specs.PlanLists.{first_reserved_added_path_in_byte_order}
-use Rattle.change_files.proofs.InOrder.{from_sorted}
+use Rattle.file_owners.specs.Owners.{indexed_claim_of_listing, claims_of_listings_indexed_from, claims_in, first_contested_member_path_in_byte_order, member_beats}
+use Rattle.own_core.specs.PlanLists.{first_reserved_added_path_in_byte_order}
+use Rattle.own_core.proofs.InOrder.{from_sorted}
 use Rattle.own_core.specs.ClaimEntries.{is_added_at, is_added_if_any, is_added_and_reserved}
 use Rattle.own_core.proofs.Listings.{IsPlaced, each_all, each_placed}
 use Rattle.own_core.proofs.MarkedClaims.{found_from}

@@ -10,8 +10,8 @@ use Rattle.base_core.specs.Tree.{TreeState, files_of}
 use Rattle.base_core.specs.Files.{Files}
 use Rattle.base_core.proofs.Rising as Names
 use Rattle.base_core.proofs.Counting.{readings_two}
-use Rattle.change_files.specs.db_core.Members.{Member}
-use Rattle.change_files.specs.db_core.Seen.{members_of}
+use Rattle.file_owners.specs.db_core.Members.{Member}
+use Rattle.file_owners.specs.db_core.Seen.{members_of}
 use Rattle.path_claim_lists.specs.path_claims.Claims.{PathClaim, is_claim_of_path}
 use Rattle.path_claim_lists.specs.path_claims.Seen.{claim_seen}
 use Rattle.path_claim_lists.specs.path_claims.declared.claim.Claim.{Claim}
@@ -22,8 +22,8 @@ use Rattle.path_claim_lists.specs.path_clashes.declared.clash.Clash.{Clash}
 use Rattle.path_claim_lists.specs.Once.{HasFirstClaimOfEachPath}
 use Rattle.path_claim_lists.proofs.Firsts.{found_in, paths}
 use Rattle.path_claim_lists.proofs.Lists.{found_passes, found_some}
-use Rattle.change_files.specs.FileChange.{is_listed_after_change}
-use Rattle.change_files.specs.NamesAfter.{name_change}
+use Rattle.own_core.specs.FileChange.{is_listed_after_change}
+use Rattle.own_core.specs.NamesAfter.{name_change}
 use Rattle.own_core.specs.ClaimEntries.{AreClaimsOf, is_of_added_owner}
 use Rattle.own_core.specs.Fates.{claim_fate}
 use Rattle.own_core.specs.Going.{is_file_kept, is_apk_new_name_of, is_path_left_over}

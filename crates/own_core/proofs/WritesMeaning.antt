@@ -12,24 +12,24 @@ use Rattle.base_core.specs.ByteOrder.{bytes_cmp}
 use Rattle.base_core.specs.Sorted.{sorted_by, with_element_inserted}
 use Rattle.base_core.proofs.Sorting as Sorting
 use Rattle.base_core.proofs.Sorting.{Each, sort_seen, sorted_up, stable}
-use Rattle.change_files.specs.db_core.Members.{Listing}
+use Rattle.file_owners.specs.db_core.Members.{Listing}
 use Rattle.path_claim_lists.specs.path_claims.Claims.{PathClaim, claim_cmp, is_claim_of_path}
 use Rattle.path_claim_lists.proofs.Firsts.{found_in, paths}
 use Rattle.path_claim_lists.proofs.Lists.{found_is}
 use Rattle.path_claim_lists.proofs.PathOrder.{behind, less_apart}
-use Rattle.change_files.specs.file_owners.Owners.{claims_in}
-use Rattle.change_files.specs.Fate as Fates
-use Rattle.change_files.specs.Fate.{agrees_with_old_entry, apk_new_name, fate_with_file_found, fate_of, goes_aside, goes_in, gives_way, is_as_old_entry_lists, is_protected_path}
-use Rattle.change_files.specs.file_guard.AsListed.{is_as_listed}
-use Rattle.change_files.specs.FileChange.{FileChange, added_owner_listing, is_listed_after_change, old_file_entry}
-use Rattle.change_files.specs.FilesAfter.{if_written_as_apk_new, if_written_in_place, listing_written_as_apk_new_beside, path_of_apk_new_name, listing_written_under_name, listing_written_in_place}
+use Rattle.file_owners.specs.Owners.{claims_in}
+use Rattle.own_core.specs.Fate as Fates
+use Rattle.own_core.specs.Fate.{agrees_with_old_entry, apk_new_name, fate_with_file_found, fate_of, goes_aside, goes_in, gives_way, is_as_old_entry_lists, is_protected_path}
+use Rattle.file_guard.specs.AsListed.{is_as_listed}
+use Rattle.own_core.specs.FileChange.{FileChange, added_owner_listing, is_listed_after_change, old_file_entry}
+use Rattle.own_core.specs.FilesAfter.{if_written_as_apk_new, if_written_in_place, listing_written_as_apk_new_beside, path_of_apk_new_name, listing_written_under_name, listing_written_in_place}
 use Rattle.std.specs.Option.{option_or}
 use Rattle.base_core.proofs.Orderings.{is_less}
 use Rattle.base_core.proofs.Listed.{in_both}
-use Rattle.change_files.specs.NamesAfter.{added_paths}
-use Rattle.change_files.specs.PlanLists.{FileWrite, file_writes_of, sorted_distinct_names, file_write_under_name}
-use Rattle.change_files.proofs.InOrder.{from_with, in_sorted, from_sorted}
-use Rattle.change_files.proofs.Coming.{no_owner}
+use Rattle.own_core.specs.NamesAfter.{added_paths}
+use Rattle.own_core.specs.PlanLists.{FileWrite, file_writes_of, sorted_distinct_names, file_write_under_name}
+use Rattle.own_core.proofs.InOrder.{from_with, in_sorted, from_sorted}
+use Rattle.own_core.proofs.ComingFiles.{no_owner}
 use Rattle.own_core.specs.ClaimEntries.{claim_entry, is_of_added_owner}
 use Rattle.own_core.specs.Fates.{claim_fate, are_equal_fates}
 use Rattle.own_core.specs.WritesSeen.{apk_new_write, claim_write, write_of_claim_under, write_cmp}

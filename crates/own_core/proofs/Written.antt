@@ -9,7 +9,7 @@ use Rattle.path_claim_lists.proofs.path_claims.Places.{map_len, seen_at}
 use Rattle.path_claim_lists.specs.path_claims.Seen.{claim_seen}
 use Rattle.path_claim_lists.specs.path_claims.declared.claim.Claim.{Claim}
 use Rattle.path_claim_lists.proofs.Lists.{take_at, take_whole}
-use Rattle.change_files.specs.PlanLists.{FileWrite}
+use Rattle.own_core.specs.PlanLists.{FileWrite}
 use Rattle.own_core.specs.WritesSeen.{write_of_claim_under}
 use Rattle.own_core.proofs.Kept.{filter_step, map_more, none_more}
 

@@ -7,10 +7,10 @@ use Rattle.base_core.specs.Name.{IsName}
 use Rattle.adb_view.specs.Plain.{Plain, null}
 use Rattle.adb_view.specs.FieldIndexes.{DIR_FILES_INDEX, PACKAGE_PATHS_INDEX}
 use Rattle.adb_view.specs.Values.{count_of, entries_in, entry_at_index}
-use Rattle.change_files.specs.adb_schema.Reserved.{is_reserved}
-use Rattle.change_files.specs.db_core.Members.{Member, is_added}
+use Rattle.file_guard.specs.adb_schema.Reserved.{is_reserved}
+use Rattle.file_owners.specs.db_core.Members.{Member, is_added}
 use Rattle.path_claim_lists.specs.path_claims.Claims.{PathClaim, is_owning_member}
-use Rattle.change_files.specs.file_owners.Owners.{owner_of_path}
+use Rattle.file_owners.specs.Owners.{owner_of_path}
 
 -- ---- files
 

@@ -1,19 +1,19 @@
 -- What is done with the files of added packages, claim by claim.
 -- The rule is in `docs/commands.md`, "What a change does with files", what is said there of
--- configuration files; *fate_with_file_found* of `change_files` defines it.
+-- configuration files; *fate_with_file_found* of `Fate` defines it.
 use Rattle.std.specs.Prelude.{ℕ, Bool, true, false, not, ◌&&◌, nat_le, List, [], ◌∷◌, length, Option, Some, None, cond}
 use Rattle.adb_view.specs.Plain.{Plain}
 use Rattle.path_claim_lists.specs.path_claims.Claims.{PathClaim}
-use Rattle.change_files.specs.file_guard.Listed.{DescribesEntry}
-use Rattle.change_files.specs.file_guard.declared.compare.ListedFile.{ListedFile}
-use Rattle.change_files.specs.Fate as Fates
-use Rattle.change_files.specs.Fate.{apk_new_name, fate_with_file_found, gives_way, goes_aside, goes_in, most_name_bytes}
-use Rattle.change_files.specs.FileChange.{FileChange, is_listed_after_change}
+use Rattle.file_guard.specs.Listed.{DescribesEntry}
+use Rattle.file_guard.specs.declared.compare.ListedFile.{ListedFile}
+use Rattle.own_core.specs.Fate as Fates
+use Rattle.own_core.specs.Fate.{apk_new_name, fate_with_file_found, gives_way, goes_aside, goes_in, most_name_bytes}
+use Rattle.own_core.specs.FileChange.{FileChange, is_listed_after_change}
 use Rattle.own_core.specs.ClaimEntries.{claim_entry}
 use Rattle.own_core.specs.declared.fate.AddedFileFate.{AddedFileFate}
 use Rattle.own_core.specs.declared.fate.AddedFileFate.TheVariants.{GivesWay, GoesAside, GoesIn}
 
--- the fate of an added file, as contracts see it: an `AddedFileFate` of the program as one of `change_files`
+-- the fate of an added file, as contracts see it: an `AddedFileFate` of the program as one of `Fate`
 abbrev pub fate_seen : AddedFileFate → Fates.AddedFileFate
 fate_seen GoesIn = goes_in
 fate_seen GivesWay = gives_way

@@ -3,11 +3,11 @@
 -- which of those below `etc/` are kept.
 use Rattle.std.specs.Prelude.{ℕ, Bool, not, ◌&&◌, List, Option, option_and_then, is_some}
 use Rattle.std.specs.List.{find}
-use Rattle.change_files.specs.db_core.Members.{members_of_kept}
+use Rattle.file_owners.specs.db_core.Members.{members_of_kept}
 use Rattle.path_claim_lists.specs.path_claims.Claims.{PathClaim, is_claim_of_path}
-use Rattle.change_files.specs.Fate.{is_protected_path}
-use Rattle.change_files.specs.FileChange.{FileChange, is_listed_after_change}
-use Rattle.change_files.specs.FilesAfter.{is_present_and_modified_from_entry, path_of_apk_new_name}
+use Rattle.own_core.specs.Fate.{is_protected_path}
+use Rattle.own_core.specs.FileChange.{FileChange, is_listed_after_change}
+use Rattle.own_core.specs.FilesAfter.{is_present_and_modified_from_entry, path_of_apk_new_name}
 use Rattle.own_core.specs.ClaimEntries.{claim_entry}
 
 -- whether the name is `PATH.apk-new` for the path of one of the claims `asides`

@@ -2,10 +2,19 @@
 -- with files".
 
 -- re-exported crates: a crate that depends on this one can use their definitions without depending on them too
-pub use Rattle.change_files.specs as change_files
-pub use Rattle.change_files.specs.file_owners as file_owners
+pub use Rattle.file_guard.specs as file_guard
+pub use Rattle.file_guard.specs.adb_schema as adb_schema
+pub use Rattle.file_owners.specs as file_owners
+pub use Rattle.file_owners.specs.db_core as db_core
 pub use Rattle.path_claim_lists.specs.path_claims as path_claims
-pub use Rattle.path_claim_lists.specs.path_clashes as path_clashes
+pub use Rattle.path_clashes.specs as path_clashes
+pub use Rattle.path_clashes.specs.adb_fields as adb_fields
+-- modules that the contract of `apk` cites
+pub mod FileChange
+pub mod Fate
+pub mod FilesAfter
+pub mod NamesAfter
+pub mod PlanLists
 -- modules that the contracts of the public functions of this crate cite
 pub mod WritesSeen
 pub mod Planned
@@ -20,3 +29,4 @@ pub mod Divided
 pub mod NamesChanged
 pub mod ListsSeen
 pub mod FaultsSeen
+pub mod Touched

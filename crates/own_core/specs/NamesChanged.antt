@@ -4,12 +4,12 @@
 -- of `src/clashes.rt`.
 use Rattle.std.specs.Prelude.{◌&&◌, ◌||◌, ◌++◌, ◌∷◌, [], ℕ, Bool, not, List, map, bytes_eq, is_some}
 use Rattle.std.specs.List.{filter, find, list_any}
-use Rattle.change_files.specs.db_core.Seen.{members_of}
+use Rattle.file_owners.specs.db_core.Seen.{members_of}
 use Rattle.base_core.specs.ByteOrder.{bytes_cmp}
 use Rattle.base_core.specs.Sorted.{sorted_by}
 use Rattle.path_claim_lists.specs.path_claims.Claims.{is_claim_of_path}
-use Rattle.change_files.specs.Fate.{apk_new_name}
-use Rattle.change_files.specs.FilesAfter.{database_name, world_name}
+use Rattle.own_core.specs.Fate.{apk_new_name}
+use Rattle.own_core.specs.FilesAfter.{database_name, world_name}
 use Rattle.path_claim_lists.specs.path_clashes.Clash.{NameChange}
 use Rattle.own_core.specs.ClaimEntries.{is_added_at}
 use Rattle.own_core.specs.Parts.{apk_new_claims_of, kept_claims_of}

@@ -7,8 +7,8 @@ use Rattle.std.specs.List.{filter}
 use Rattle.base_core.specs.Tree.{TreeState}
 use Rattle.path_claim_lists.specs.path_claims.Claims.{PathClaim}
 use Rattle.path_claim_lists.specs.path_claims.Seen.{claim_seen}
-use Rattle.change_files.specs.Fate as Fates
-use Rattle.change_files.specs.Fate.{goes_aside, goes_in}
+use Rattle.own_core.specs.Fate as Fates
+use Rattle.own_core.specs.Fate.{goes_aside, goes_in}
 use Rattle.own_core.specs.Fates.{claim_fate, are_equal_fates, are_equal_flags, marked_claims}
 use Rattle.own_core.specs.Found.{AreAnswersByFiles}
 use Rattle.own_core.specs.Going.{is_file_kept, is_path_left_over}

@@ -1,9 +1,9 @@
 -- What `plan` ensures of the plan of a change, and of the fault by which it refuses a change.
--- The rules are in `docs/commands.md`, "What a change does with files", and are defined in
--- `change_files`, `path_clashes` and `file_owners`; this file says which of them a plan or a refusal
--- ensures, and over which files.
+-- The rules are in `docs/commands.md`, "What a change does with files". `FilesAfter`, `NamesAfter`
+-- and `PlanLists` define them, with the crates `path_clashes` and `file_owners`. This file says which
+-- of them a plan or a refusal ensures, and over which files.
 use Rattle.std.specs.Prelude.{◌≡◌, ℕ, Bool, true, false, List, map, Option, Some, None, All, Contains, option_map, slice_get}
-use Rattle.change_files.specs.adb_schema.Reserved.{is_reserved}
+use Rattle.file_guard.specs.adb_schema.Reserved.{is_reserved}
 use Rattle.adb_view.specs.FieldIndexes.{PACKAGE_PATHS_INDEX}
 use Rattle.adb_view.specs.Values.{entry_at_index}
 use Rattle.base_core.specs.Calls.{IfObservable}
@@ -11,17 +11,17 @@ use Rattle.base_core.specs.Files.{Files}
 use Rattle.base_core.specs.Listed.{AreSortedDistinctTexts}
 use Rattle.base_core.specs.Name.{IsName}
 use Rattle.base_core.specs.Tree.{TreeState, files_of}
-use Rattle.change_files.specs.db_core.Members.{Member, is_added, member_name}
-use Rattle.change_files.specs.db_core.Seen.{members_of, packages_of}
-use Rattle.change_files.specs.db_core.declared.db.Db.{Db}
-use Rattle.change_files.specs.db_core.declared.members.Members.{Members}
+use Rattle.file_owners.specs.db_core.Members.{Member, is_added, member_name}
+use Rattle.file_owners.specs.db_core.Seen.{members_of, packages_of}
+use Rattle.file_owners.specs.db_core.declared.db.Db.{Db}
+use Rattle.file_owners.specs.db_core.declared.members.Members.{Members}
 use Rattle.path_claim_lists.specs.path_claims.Claims.{ContestedPath}
 use Rattle.path_claim_lists.specs.path_clashes.Clash.{HasNoClash, IsFirstClash, NamePair}
 use Rattle.path_claim_lists.specs.path_clashes.FirstClash.{IsFirstClashOverSomeFiles}
-use Rattle.change_files.specs.file_owners.Owners.{first_contested_member_path_in_byte_order, owned_flags_of}
-use Rattle.change_files.specs.FileChange.{FileChange}
-use Rattle.change_files.specs.NamesAfter.{name_change}
-use Rattle.change_files.specs.PlanLists.{FileWrite, paths_with_apk_new_file, file_writes_of, first_reserved_added_path_in_byte_order, kept_left_over_paths_of, removals_of}
+use Rattle.file_owners.specs.Owners.{first_contested_member_path_in_byte_order, owned_flags_of}
+use Rattle.own_core.specs.FileChange.{FileChange}
+use Rattle.own_core.specs.NamesAfter.{name_change}
+use Rattle.own_core.specs.PlanLists.{FileWrite, paths_with_apk_new_file, file_writes_of, first_reserved_added_path_in_byte_order, kept_left_over_paths_of, removals_of}
 use Rattle.own_core.specs.ClaimEntries.{HasFileAt}
 use Rattle.own_core.specs.WritesSeen.{writes_in}
 use Rattle.own_core.specs.declared.fault.PlanFault.{PlanFault}

@@ -1,15 +1,15 @@
 -- The claims of the packages before a change and after it, as values of the program.
 -- No document has a rule for this: it serves the contracts of this crate; both sides denote a
--- *FileChange* of `change_files`.
+-- *FileChange*.
 use Rattle.std.specs.Prelude.{◌≡◌, List, map}
 use Rattle.base_core.specs.Sorted.{sorted_by}
-use Rattle.change_files.specs.db_core.Members.{members_of_kept}
-use Rattle.change_files.specs.db_core.Seen.{members_of, packages_of}
+use Rattle.file_owners.specs.db_core.Members.{members_of_kept}
+use Rattle.file_owners.specs.db_core.Seen.{members_of, packages_of}
 use Rattle.path_claim_lists.specs.path_claims.Claims.{PathClaim, claim_cmp}
 use Rattle.path_claim_lists.specs.path_claims.Seen.{claim_seen}
 use Rattle.path_claim_lists.specs.Once.{HasFirstClaimOfEachPath}
-use Rattle.change_files.specs.file_owners.Owners.{claims_in}
-use Rattle.change_files.specs.FileChange.{FileChange}
+use Rattle.file_owners.specs.Owners.{claims_in}
+use Rattle.own_core.specs.FileChange.{FileChange}
 use Rattle.own_core.specs.ClaimEntries.{AreClaimsOf}
 use Rattle.own_core.specs.declared.claim_change.ClaimChange.{ClaimChange}
 

@@ -7,12 +7,12 @@ use Rattle.std.specs.declared.cmp.Ordering.{Ordering}
 use Rattle.base_core.specs.Name.{IsName}
 use Rattle.base_core.specs.ByteOrder.{bytes_cmp}
 use Rattle.path_claim_lists.specs.path_claims.Claims.{PathClaim}
-use Rattle.change_files.specs.Fate.{apk_new_name, most_name_bytes}
-use Rattle.change_files.specs.PlanLists.{FileWrite}
+use Rattle.own_core.specs.Fate.{apk_new_name, most_name_bytes}
+use Rattle.own_core.specs.PlanLists.{FileWrite}
 use Rattle.own_core.specs.declared.writes.Write.{Write}
 use Rattle.own_core.specs.declared.writes.Writes.{Writes}
 
--- a `Write` of the program as a *FileWrite* of `change_files`
+-- a `Write` of the program as a *FileWrite* of `PlanLists`
 abbrev pub write_seen : Write → FileWrite
 write_seen w = record { name = w.name; member = w.member; folder = w.path; file = w.file }
 

@@ -3,7 +3,7 @@
 //! `docs/commands.md`, "Files that several packages list", says which packages and files these are;
 //! *HasClaimsOfPackages* of `specs/Sides.antt`, what holds of the lists of claims.
 
-use change_files::{Db, Members};
+use file_owners::{Db, Members};
 use path_claim_lists::Claim;
 
 /// The packages before a change and after it, with their claims in byte order of the paths: before

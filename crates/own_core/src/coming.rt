@@ -6,13 +6,13 @@ ghost use Rattle.std.specs.Prelude.{◌≡◌, IfOk, map};
 ghost use Rattle.std.specs.List.{filter};
 ghost use Rattle.std.specs.List.Sorted.{IsSorted};
 ghost use Rattle.path_claim_lists.specs.Once.{HasFirstClaimOfEachPath};
-ghost use Rattle.change_files.specs.db_core.Seen.{members_of};
-ghost use Rattle.change_files.specs.file_owners.Owners.{owner_of_path};
+ghost use Rattle.file_owners.specs.db_core.Seen.{members_of};
+ghost use Rattle.file_owners.specs.Owners.{owner_of_path};
 ghost use Rattle.path_claim_lists.specs.path_claims.Claims.{claim_cmp};
 ghost use Rattle.path_claim_lists.specs.path_claims.Seen.{claim_seen};
 ghost use Rattle.own_core.specs.ClaimEntries.{AreClaimsOf, IsClaimOf, is_added_at, is_of_added_owner};
 
-use change_files::Members;
+use file_owners::Members;
 use path_claim_lists::{Claim, one_of_each_path};
 use std::alloc::{AllocError, Global};
 

@@ -5,16 +5,17 @@
 
 ghost use Rattle.std.specs.Prelude.{◌-◌, ◌<◌, ◌≤◌};
 ghost use Rattle.path_claim_lists.specs.adb_fields.ListValue.{list_value};
-ghost use Rattle.change_files.specs.adb_schema.Views.{package_value};
+ghost use Rattle.file_guard.specs.adb_schema.Views.{package_value};
 ghost use Rattle.adb_view.specs.FieldIndexes.{PACKAGE_PATHS_INDEX};
 ghost use Rattle.adb_view.specs.Values.{count_of, entries_in, entry_at_index};
-ghost use Rattle.change_files.specs.db_core.Members.{members_of_kept};
-ghost use Rattle.change_files.specs.db_core.Seen.{members_of, packages_of};
-ghost use Rattle.change_files.specs.file_guard.Listed.{DescribesEntry};
+ghost use Rattle.file_owners.specs.db_core.Members.{members_of_kept};
+ghost use Rattle.file_owners.specs.db_core.Seen.{members_of, packages_of};
+ghost use Rattle.file_guard.specs.Listed.{DescribesEntry};
 ghost use Rattle.path_claim_lists.specs.path_claims.Seen.{claim_seen};
 ghost use Rattle.own_core.specs.ClaimEntries.{HasFileAt, IsClaimOf, claim_entry, listed_file_at};
 
-use change_files::{Db, DirInfo, FileInfo, List, ListedFile, Members, PackageView, listed_file};
+use file_guard::{DirInfo, FileInfo, List, ListedFile, PackageView, listed_file};
+use file_owners::{Db, Members};
 use path_claim_lists::Claim;
 use std::marker::PhantomData;
 

@@ -5,8 +5,8 @@
 
 ghost use Rattle.std.specs.Prelude.{◌≡◌, ◌≤◌, IfOk, length, option_map};
 ghost use Rattle.path_claim_lists.specs.adb_fields.JoinedPath.{joined_path};
-ghost use Rattle.change_files.specs.Fate.{apk_new_name, is_protected_path, most_name_bytes};
-ghost use Rattle.change_files.specs.FilesAfter.{path_of_apk_new_name};
+ghost use Rattle.own_core.specs.Fate.{apk_new_name, is_protected_path, most_name_bytes};
+ghost use Rattle.own_core.specs.FilesAfter.{path_of_apk_new_name};
 
 use base_core::Name;
 use path_claim_lists::FilePath;

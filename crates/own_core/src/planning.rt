@@ -8,13 +8,13 @@ ghost use Rattle.base_core.specs.Calls.{IfObservable};
 ghost use Rattle.base_core.specs.Name.{IsName};
 ghost use Rattle.base_core.specs.Read.{OnlyReads};
 ghost use Rattle.base_core.specs.Tree.{files_of};
-ghost use Rattle.change_files.specs.NamesAfter.{name_change};
-ghost use Rattle.change_files.specs.PlanLists.{first_reserved_added_path_in_byte_order};
+ghost use Rattle.own_core.specs.NamesAfter.{name_change};
+ghost use Rattle.own_core.specs.PlanLists.{first_reserved_added_path_in_byte_order};
 ghost use Rattle.path_claim_lists.specs.Named.{HaveValidPaths};
 ghost use Rattle.path_claim_lists.specs.Once.{HasFirstClaimOfEachPath};
-ghost use Rattle.change_files.specs.db_core.Members.{listings_of_members};
-ghost use Rattle.change_files.specs.db_core.Seen.{members_of};
-ghost use Rattle.change_files.specs.file_owners.Owners.{claims_in, first_contested_member_path_in_byte_order, owned_flags_of};
+ghost use Rattle.file_owners.specs.db_core.Members.{listings_of_members};
+ghost use Rattle.file_owners.specs.db_core.Seen.{members_of};
+ghost use Rattle.file_owners.specs.Owners.{claims_in, first_contested_member_path_in_byte_order, owned_flags_of};
 ghost use Rattle.base_core.specs.Sorted.{sorted_by};
 ghost use Rattle.path_claim_lists.specs.path_claims.Claims.{claim_cmp};
 ghost use Rattle.path_claim_lists.specs.path_claims.ContestedSeen.{contested_seen};
@@ -36,9 +36,8 @@ use crate::fault::PlanFault;
 use crate::parts::{Parts, parts_of};
 use crate::writes::{Writes, writes_of};
 use base_core::{Name, Names, Text, Tree, TreeFault};
-use change_files::{
-    Contested, Db, Members, Owned, claims_in_database, is_reserved_file, owners_of_files,
-};
+use file_guard::is_reserved_file;
+use file_owners::{Contested, Db, Members, Owned, claims_in_database, owners_of_files};
 use path_claim_lists::{
     Claim, Clash, first_clash, name_of_path, names_of_claims, one_of_each_path,
 };

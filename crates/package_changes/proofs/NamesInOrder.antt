@@ -4,7 +4,7 @@ use Rattle.std.specs.Prelude.{bytes_eq}
 use Rattle.std.specs.List.{dedup, dedup_from}
 use Rattle.std.specs.Cmp.Lexicographic.{bytes_decides}
 use Rattle.base_core.proofs.AtName.{either_way}
-use Rattle.change_files.specs.PlanLists.{prepend_unless_equal_to_first, names_with_adjacent_repeats_merged}
+use Rattle.own_core.specs.PlanLists.{prepend_unless_equal_to_first, names_with_adjacent_repeats_merged}
 
 abbrev pub is_same_name : Bor (List ℕ) → Bor (List ℕ) → Bool
 is_same_name a b = bytes_eq a.now b.now

@@ -6,7 +6,7 @@ use Rattle.std.specs.Option.{option_map_or}
 use Rattle.std.specs.List.Sorted.{IsPermutation}
 use Rattle.std.proofs.lemmas.List.Sorted.{list_any-IsPermutation}
 use Rattle.adb_view.specs.Plain.{Plain}
-use Rattle.change_files.specs.db_core.Packages.{is_package_named}
+use Rattle.own_core.specs.db_core.Packages.{is_package_named}
 use Rattle.solve_core.specs.candidate_core.Candidates.{Candidate}
 use Rattle.solve_core.specs.candidate_core.Rank.{SelectionProblem, candidate_at, candidate_at_passes}
 use Rattle.report_core.specs.Reports.{Change}

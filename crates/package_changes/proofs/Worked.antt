@@ -2,7 +2,7 @@
 use Rattle.std.proofs.Common.{◌≡◌, ℕ, false, true, List, [], ◌∷◌, Option, Some, None, refl}
 use Rattle.std.specs.Prelude.{codes}
 use Rattle.adb_view.specs.Plain.{Plain, blob, more, none, obj}
-use Rattle.change_files.specs.PlanLists.{sorted_distinct_names}
+use Rattle.own_core.specs.PlanLists.{sorted_distinct_names}
 use Rattle.dep_core.specs.Dependency.{Dependency, dependency_from_parts}
 use Rattle.solve_core.specs.candidate_core.Candidates.{Candidate, candidate_from_parts}
 use Rattle.package_changes.specs.Changes.{change_of_name, changes_of}

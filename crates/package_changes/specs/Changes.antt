@@ -9,10 +9,10 @@ use Rattle.std.specs.declared.cmp.Ordering.TheVariants.{Less, Equal, Greater}
 use Rattle.adb_view.specs.Plain.{Plain}
 use Rattle.adb_view.specs.FieldIndexes.{INFO_VERSION_INDEX}
 use Rattle.adb_view.specs.Values.{entry_at_index, text_in}
-use Rattle.change_files.specs.adb_fields.Repeated.{package_name}
-use Rattle.change_files.specs.db_core.Packages.{installed_id, is_package_named}
-use Rattle.change_files.specs.file_owners.Replaces.{package_version_text}
-use Rattle.change_files.specs.PlanLists.{sorted_distinct_names}
+use Rattle.own_core.specs.adb_fields.Repeated.{package_name}
+use Rattle.own_core.specs.db_core.Packages.{installed_id, is_package_named}
+use Rattle.own_core.specs.file_owners.Replaces.{package_version_text}
+use Rattle.own_core.specs.PlanLists.{sorted_distinct_names}
 use Rattle.solve_core.specs.candidate_core.Candidates.{Candidate, is_same_id_by_nonempty_prefix, version_of_text}
 use Rattle.std.specs.Option.{option_cmp}
 use Rattle.version_core.specs.Order.{version_cmp}

@@ -2,10 +2,10 @@
 -- "`upgrade` and `fix`".
 
 -- re-exported crates: a crate that depends on this one can use their definitions without depending on them too
-pub use Rattle.change_files.specs as change_files
-pub use Rattle.change_files.specs.file_owners as file_owners
-pub use Rattle.change_files.specs.path_claims as path_claims
-pub use Rattle.change_files.specs.path_clashes as path_clashes
+pub use Rattle.own_core.specs as own_core
+pub use Rattle.own_core.specs.file_owners as file_owners
+pub use Rattle.own_core.specs.path_claims as path_claims
+pub use Rattle.own_core.specs.path_clashes as path_clashes
 pub use Rattle.solve_core.specs.search_tables as search_tables
 -- modules that the contract of `apk` cites
 pub mod Changes

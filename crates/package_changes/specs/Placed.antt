@@ -3,7 +3,7 @@
 use Rattle.std.specs.Prelude.{ℕ, List, Option, bytes_eq, map, option_map, option_and_then, slice_get}
 use Rattle.std.specs.List.{filter_map, find, list_any, position_from}
 use Rattle.adb_view.specs.Plain.{Plain}
-use Rattle.change_files.specs.db_core.Packages.{is_package_named}
+use Rattle.own_core.specs.db_core.Packages.{is_package_named}
 use Rattle.solve_core.specs.candidate_core.Candidates.{Candidate}
 use Rattle.solve_core.specs.candidate_core.Rank.{SelectionProblem, candidate_at, candidate_at_passes}
 use Rattle.report_core.specs.Reports.{Change}

@@ -5,8 +5,8 @@ use Rattle.std.specs.List.{filter, flat_map, list_any}
 use Rattle.adb_view.specs.Plain.{Plain}
 use Rattle.adb_view.specs.FieldIndexes.{INFO_INSTALLED_SIZE_INDEX}
 use Rattle.adb_view.specs.Values.{entry_at_index, int_in}
-use Rattle.change_files.specs.PlanLists.{sorted_distinct_names}
-use Rattle.change_files.specs.db_core.Packages.{is_package_named}
+use Rattle.own_core.specs.PlanLists.{sorted_distinct_names}
+use Rattle.own_core.specs.db_core.Packages.{is_package_named}
 use Rattle.dep_core.specs.Dependency.{Dependency}
 use Rattle.solve_core.specs.candidate_core.Candidates.{Candidate, meets_dependency}
 use Rattle.report_core.specs.Reports.{change_lines, report_line, still_needed_text, bytes_and_package_count_text}

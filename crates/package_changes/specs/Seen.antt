@@ -1,8 +1,8 @@
 -- The values of definitions that the changes of the program denote. No document has a rule for this: it serves the
 -- contracts of `src/`, whose texts are slices.
 use Rattle.std.specs.Prelude.{ℕ, List, map, option_map}
-use Rattle.change_files.specs.db_core.Seen.{packages_of}
-use Rattle.change_files.specs.db_core.declared.db.Db.{Db}
+use Rattle.own_core.specs.db_core.Seen.{packages_of}
+use Rattle.own_core.specs.db_core.declared.db.Db.{Db}
 use Rattle.solve_core.specs.candidate_core.Rank.{SelectionProblem}
 use Rattle.report_core.specs.Reports as Texts
 use Rattle.package_changes.specs.Placed.{PlacedChange, PlacedName, ReplacementWithSelectionAsPlaces}

@@ -4,7 +4,7 @@ use Rattle.std.specs.Prelude.{ℕ, List, [], ◌∷◌, map, Option, Some, None,
 use Rattle.std.specs.Borrow.{Bor}
 use Rattle.std.specs.List.{position_from}
 use Rattle.adb_view.specs.Plain.{Plain}
-use Rattle.change_files.specs.db_core.Packages.{is_package_named}
+use Rattle.own_core.specs.db_core.Packages.{is_package_named}
 use Rattle.solve_core.specs.candidate_core.Rank.{SelectionProblem}
 use Rattle.package_changes.specs.Placed.{PlacedName, name_with_change_and_given_places}
 

@@ -3,17 +3,17 @@
 //! The rules are in `docs/selection.md`, "What there is to choose from" (when a candidate is the
 //! installed package), in `docs/formats.md`, "Versions" (their order), and in `docs/names.md`,
 //! "A change of what is installed".
-ghost use Rattle.change_files.specs.adb_schema.Views.{package_value};
-ghost use Rattle.change_files.specs.db_core.Seen.{packages_of};
-ghost use Rattle.change_files.specs.file_owners.Replaces.{package_version_text};
-ghost use Rattle.change_files.specs.db_core.Packages.{installed_id};
+ghost use Rattle.own_core.specs.adb_schema.Views.{package_value};
+ghost use Rattle.own_core.specs.db_core.Seen.{packages_of};
+ghost use Rattle.own_core.specs.file_owners.Replaces.{package_version_text};
+ghost use Rattle.own_core.specs.db_core.Packages.{installed_id};
 ghost use Rattle.package_changes.specs.Changes.{change_between, is_of_no_repository_or_same_version_and_id, candidate_version_text, version_change, version_text_cmp};
 ghost use Rattle.package_changes.specs.Seen.{change_seen};
 ghost use Rattle.solve_core.specs.candidate_core.Values.{candidate_value};
 ghost use Rattle.report_core.specs.Reports as Texts;
 ghost use Rattle.std.specs.Prelude.{◌≡◌, ◌<◌, false, Some, None, length, option_map, slice_get};
 
-use change_files::{Db, PackageView};
+use own_core::{Db, PackageView};
 use solve_core::{CandId, Candidate, is_same_id_by_nonempty_prefix};
 use std::cmp::Ordering;
 use std::marker::PhantomData;

@@ -10,7 +10,7 @@ ghost use Rattle.std.specs.Prelude.{◌≡◌, ◌<◌, ◌==◌, ◌++◌, Some
 use crate::change::PlacedChange;
 use crate::placed::{PlacedName, PlacedNames};
 use base_core::Words;
-use change_files::Db;
+use own_core::Db;
 use solve_core::{Sealed, Trace};
 use std::alloc::{AllocError, Global};
 

@@ -1,6 +1,6 @@
 //! A law that joins the definitions of `Placed` in `specs/`, which know packages by their places,
 //! to those of `Changes`, which know packages by their names. No document has a rule for this.
-ghost use Rattle.change_files.specs.db_core.Packages.{is_package_named};
+ghost use Rattle.own_core.specs.db_core.Packages.{is_package_named};
 ghost use Rattle.package_changes.specs.Changes.{change_of_name, is_candidate_named};
 ghost use Rattle.package_changes.specs.Placed.{ReplacementWithSelectionAsPlaces, candidates_at, candidate_at_new_place, package_at_old_place, name_with_change_and_old_and_pool_place, replacement_of};
 ghost use Rattle.std.specs.List.{find};

@@ -24,10 +24,10 @@ mod stays;
 // What crates that depend on this one may call: functions, types and laws of this crate, and of
 // crates on which it depends.
 pub use change::{Change, PlacedChange};
-pub use change_files::the_lists_of_a_plan_hold_just_its_names;
 pub use changes::Changes;
 pub use laws::places_lead_to_packages_and_candidates;
 pub use names::{names_of_words, sorted_distinct_names};
+pub use own_core::the_lists_of_a_plan_hold_just_its_names;
 pub use placed::{PlacedName, PlacedNames};
 pub use report::{push_change_lines, push_sum_line, simulated_report};
 pub use selected::{SelectedNames, candidate_at};

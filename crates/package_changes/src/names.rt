@@ -1,8 +1,8 @@
 //! Lists of names: sorted in byte order without repeats, and made of words. `placed.rt` and
 //! `stays.rt` use them. Only the order has a rule in a document: `docs/commands.md`, "`add` and
 //! `del`", reports packages in byte order of their names. The definition `sorted_distinct_names` is
-//! in `change_files`.
-ghost use Rattle.change_files.specs.PlanLists.{sorted_distinct_names, names_with_adjacent_repeats_merged};
+//! in `own_core`.
+ghost use Rattle.own_core.specs.PlanLists.{sorted_distinct_names, names_with_adjacent_repeats_merged};
 ghost use Rattle.base_core.specs.ByteOrder.{bytes_cmp};
 ghost use Rattle.base_core.specs.Sorted.{sorted_by};
 ghost use Rattle.std.specs.Prelude.{◌≡◌, map, IfOk};
@@ -11,7 +11,7 @@ use base_core::Words;
 use std::alloc::{AllocError, Global};
 
 /// The names in byte order, each once.
-#[tactic(auto, unfolding(change_files::specs::PlanLists::sorted_distinct_names))]
+#[tactic(auto, unfolding(own_core::specs::PlanLists::sorted_distinct_names))]
 pub fn sorted_distinct_names<'a>(names: Vec<&'a [u8]>) -> Result<Vec<&'a [u8]>, AllocError>
     ensures { IfOk result (λ sorted. map (λ n. n.now) sorted.items
         ≡ sorted_distinct_names (map (λ n. n.now) names.entry.items)) }

@@ -2,11 +2,11 @@
 //! added packages (`change_outcome`) use it. The rules are in `docs/commands.md`, "`add` and
 //! `del`", part "What is reported", and "`upgrade` and `fix`"; the terms in `docs/names.md`, "A
 //! change of what is installed".
-ghost use Rattle.change_files.specs.adb_fields.Repeated.{package_name};
-ghost use Rattle.change_files.specs.adb_schema.Views.{package_value};
-ghost use Rattle.change_files.specs.PlanLists.{sorted_distinct_names};
-ghost use Rattle.change_files.specs.db_core.Packages.{is_package_named};
-ghost use Rattle.change_files.specs.db_core.Seen.{packages_of};
+ghost use Rattle.own_core.specs.adb_fields.Repeated.{package_name};
+ghost use Rattle.own_core.specs.adb_schema.Views.{package_value};
+ghost use Rattle.own_core.specs.PlanLists.{sorted_distinct_names};
+ghost use Rattle.own_core.specs.db_core.Packages.{is_package_named};
+ghost use Rattle.own_core.specs.db_core.Seen.{packages_of};
 ghost use Rattle.package_changes.specs.Changes.{change_between};
 ghost use Rattle.package_changes.specs.Placed.{candidates_at, candidate_at_new_place, name_with_change_and_given_places, names_with_change_and_old_and_pool_place};
 ghost use Rattle.package_changes.specs.Seen.{change_seen, placed_name_seen, placed_names_seen, placed_replacement_from_parts};
@@ -22,7 +22,7 @@ use crate::change::{Change, install, purge, replace};
 use crate::names::sorted_distinct_names;
 use crate::selected::{SelectedNames, candidate_at};
 use base_core::Words;
-use change_files::{Db, PackageView};
+use own_core::{Db, PackageView};
 use solve_core::{CandId, Candidate, Sealed, SortedWords, Trace};
 use std::alloc::{AllocError, Global};
 use std::marker::PhantomData;

@@ -17,7 +17,7 @@ use crate::changes::Changes;
 use crate::selected::candidate_at;
 use crate::stays::push_stay_lines;
 use base_core::Words;
-use change_files::Db;
+use own_core::Db;
 use report_core::Report;
 use solve_core::{CandId, Sealed, Trace};
 use std::alloc::{AllocError, Global};

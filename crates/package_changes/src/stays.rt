@@ -1,8 +1,8 @@
 //! The lines `NAME stays` on packages that were to be removed and are kept, since others need them.
 //! `simulated_report` and `change_report` add them. The line is defined in `docs/commands.md`,
 //! "`add` and `del`", part "What is reported".
-ghost use Rattle.change_files.specs.PlanLists.{sorted_distinct_names};
-ghost use Rattle.change_files.specs.db_core.Seen.{packages_of};
+ghost use Rattle.own_core.specs.PlanLists.{sorted_distinct_names};
+ghost use Rattle.own_core.specs.db_core.Seen.{packages_of};
 ghost use Rattle.package_changes.specs.Changes.{is_candidate_named};
 ghost use Rattle.package_changes.specs.Placed.{candidates_at};
 ghost use Rattle.package_changes.specs.SelectedNames.{place_paired_with_name};
@@ -16,7 +16,7 @@ ghost use Rattle.std.specs.Prelude.{◌≡◌, ◌++◌, if◌then◌else◌, []
 use crate::names::{names_of_words, sorted_distinct_names};
 use crate::selected::SelectedNames;
 use base_core::Words;
-use change_files::Db;
+use own_core::Db;
 use report_core::Report;
 use solve_core::{CandId, Details, Sealed, Trace};
 use std::alloc::{AllocError, Global};

@@ -6,9 +6,9 @@ use Rattle.outcome.specs.adb_fields.FirstPair.{IsIn}
 use Rattle.adb_view.specs.Plain.{Plain}
 use Rattle.outcome.specs.adb_write.Canonical.{ByteAndValueCounts, counts_after_values, empty_layout_counting_root, exceeds_a_limit, counts_at_first_overflow, payload_or_counts_at_overflow}
 use Rattle.base_core.specs.Files.{Files}
-use Rattle.outcome.specs.change_files.FileChange.{FileChange}
-use Rattle.outcome.specs.change_files.PlanLists.{first_reserved_added_path_in_byte_order}
-use Rattle.outcome.proofs.change_files.InOrder.{from_order}
+use Rattle.outcome.specs.own_core.FileChange.{FileChange}
+use Rattle.outcome.specs.own_core.PlanLists.{first_reserved_added_path_in_byte_order}
+use Rattle.outcome.proofs.own_core.InOrder.{from_order}
 use Rattle.outcome.specs.change_inputs.Chains.{and_then}
 use Rattle.outcome.specs.change_inputs.Inputs.{Inputs}
 use Rattle.outcome.specs.change_outcome.ChangeOutcome.{ChangeDone, ChangeWishes, IsFirstClashUnlessMembersRefused, IsFirstClashOfChange, intent_of_change, change_done, members_after_change, change_or_refusal, change_with_members, packages_before_and_after_with_purge, member_name_at_place, database_and_world_after_change, touched_paths, unless_clash, unless_contested, or_result_too_large, unless_overflow, unless_reserved_path, change_done_unless_over_writer_limits}

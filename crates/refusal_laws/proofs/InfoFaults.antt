@@ -7,8 +7,8 @@ use Rattle.outcome.specs.change_inputs.Database.{payload_database, root_database
 use Rattle.outcome.specs.change_inputs.Inputs.{database_for, database_read_number, text_database_read_number}
 use Rattle.command_core.specs.Command.{CommandLine}
 use Rattle.outcome.specs.tell_core.InfoResult.{info_result}
-use Rattle.outcome.specs.installed_info.Info.{info_of}
-use Rattle.outcome.specs.installed_info.declared.telling.ReportAndRefusal.{ReportAndRefusal}
+use Rattle.outcome.specs.tell_core.Info.{info_of}
+use Rattle.outcome.specs.tell_core.declared.info.reporting.ReportAndRefusal.{ReportAndRefusal}
 use Rattle.outcome.specs.make_info.Reads.{Reads}
 use Rattle.report_core.specs.declared.refusal.Refusal.{Refusal}
 use Rattle.report_core.specs.declared.refusal.Refusal.TheVariants.{DatabaseBad, NoDatabase, ResultTooLarge}

@@ -12,11 +12,11 @@ use Rattle.outcome.specs.db_core.Packages.{is_package_named, lists_path}
 use Rattle.dep_core.specs.LeadingSlash.{without_leading_slash}
 use Rattle.report_core.specs.declared.refusal.Refusal.{Refusal}
 use Rattle.report_core.specs.declared.refusal.Refusal.TheVariants.{NotInstalled}
-use Rattle.outcome.specs.installed_info.Form.{info_form_of_flags}
-use Rattle.outcome.specs.installed_info.Info.{form_info, info_of, info_refusal, info_unless_refused, operands_info}
-use Rattle.outcome.specs.installed_info.Packages.{package_meant_by_operand_text, package_named, path_owner}
-use Rattle.outcome.specs.installed_info.declared.telling.ReportAndRefusal.{ReportAndRefusal}
-use Rattle.outcome.proofs.installed_info.Refusing.{unless_err}
+use Rattle.outcome.specs.tell_core.InfoForm.{info_form_of_flags}
+use Rattle.outcome.specs.tell_core.Info.{form_info, info_of, info_refusal, info_unless_refused, operands_info}
+use Rattle.outcome.specs.tell_core.InfoPackages.{package_meant_by_operand_text, package_named, path_owner}
+use Rattle.outcome.specs.tell_core.declared.info.reporting.ReportAndRefusal.{ReportAndRefusal}
+use Rattle.outcome.proofs.tell_core.Refusing.{unless_err}
 use Rattle.refusal_laws.specs.InfoFaults.{AreFoundInstalled, IsPackageAskedFor, IsFirstNotInstalled, IsFoundInstalled}
 use Rattle.refusal_laws.proofs.Lists.{any_in, found_in, in_any, none_found}
 

@@ -10,9 +10,9 @@ use Rattle.std.proofs.lemmas.Slice.Eq.{bytes_eq-Decides}
 use Rattle.outcome.specs.adb_fields.FirstPair.{IsIn}
 use Rattle.outcome.specs.adb_schema.Reserved.{is_reserved}
 use Rattle.base_core.proofs.Rising as Names
-use Rattle.outcome.proofs.change_files.InOrder.{from_filter, in_filter, in_sorted, from_sorted}
-use Rattle.outcome.specs.change_files.NamesAfter.{added_paths}
-use Rattle.outcome.specs.change_files.PlanLists.{first_reserved_added_path_in_byte_order}
+use Rattle.outcome.proofs.own_core.InOrder.{from_filter, in_filter, in_sorted, from_sorted}
+use Rattle.outcome.specs.own_core.NamesAfter.{added_paths}
+use Rattle.outcome.specs.own_core.PlanLists.{first_reserved_added_path_in_byte_order}
 use Rattle.outcome.specs.change_outcome.ChangeOutcome.{member_name_at_place}
 use Rattle.outcome.specs.db_core.Members.{Listing, Member, listings_of_members, member_name}
 use Rattle.outcome.specs.file_owners.Owners.{indexed_claim_of_listing, claims_of_listings_indexed_from, claims_in, first_contested_member_path_in_byte_order, member_beats, owner_of_path, takes_over_if_both_exist}

@@ -11,7 +11,7 @@ use Rattle.outcome.specs.change_inputs.Database.{Database}
 use Rattle.outcome.specs.change_inputs.Inputs.{Inputs, database_for, database_read_number, inputs_of, text_database_read_number}
 use Rattle.command_core.specs.Command.{CommandLine}
 use Rattle.command_core.specs.declared.operands.Operand.{Operand}
-use Rattle.outcome.specs.installed_info.Info.{report_and_refusal}
+use Rattle.outcome.specs.tell_core.Info.{report_and_refusal}
 use Rattle.outcome.specs.make_info.Reads.{Reads}
 use Rattle.outcome.specs.query_core.Queries.{text_of_query}
 use Rattle.report_core.specs.declared.refusal.Refusal.{Refusal}

@@ -5,9 +5,9 @@ use Rattle.std.proofs.lemmas.Bool.{and_from}
 use Rattle.outcome.specs.adb_fields.FirstPair.{IsIn}
 use Rattle.adb_view.specs.Plain.{Plain}
 use Rattle.base_core.specs.Files.{Files}
-use Rattle.outcome.specs.change_files.FileChange.{FileChange}
-use Rattle.outcome.specs.change_files.PlanLists.{first_reserved_added_path_in_byte_order}
-use Rattle.outcome.proofs.change_files.InOrder.{in_order}
+use Rattle.outcome.specs.own_core.FileChange.{FileChange}
+use Rattle.outcome.specs.own_core.PlanLists.{first_reserved_added_path_in_byte_order}
+use Rattle.outcome.proofs.own_core.InOrder.{in_order}
 use Rattle.outcome.specs.change_inputs.Chains.{and_then}
 use Rattle.outcome.specs.change_inputs.Inputs.{Inputs}
 use Rattle.outcome.specs.change_outcome.ChangeOutcome.{ChangeDone, ChangeWishes, IsFirstClashUnlessMembersRefused, IsFirstClashOfChange, members_after_change, change_or_refusal, change_with_members, packages_before_and_after_with_purge, member_name_at_place, touched_paths, unless_clash, unless_contested, unless_reserved_path, change_done_unless_over_writer_limits}

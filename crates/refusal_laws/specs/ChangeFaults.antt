@@ -6,8 +6,8 @@ use Rattle.outcome.specs.adb_schema.Reserved.{is_reserved}
 use Rattle.adb_view.specs.Plain.{Plain}
 use Rattle.outcome.specs.adb_write.Canonical.{exceeds_a_limit, counts_at_first_overflow}
 use Rattle.base_core.specs.Files.{Files}
-use Rattle.outcome.specs.change_files.FileChange.{FileChange}
-use Rattle.outcome.specs.change_files.NamesAfter.{added_paths, name_change}
+use Rattle.outcome.specs.own_core.FileChange.{FileChange}
+use Rattle.outcome.specs.own_core.NamesAfter.{added_paths, name_change}
 use Rattle.outcome.specs.change_inputs.Inputs.{Inputs}
 use Rattle.outcome.specs.change_outcome.ChangeOutcome.{ChangeWishes, intent_of_change, members_after_change, packages_before_and_after_with_purge, database_and_world_after_change, touched_paths}
 use Rattle.outcome.specs.change_outcome.MembersAfter.{MemberFound, found_members}

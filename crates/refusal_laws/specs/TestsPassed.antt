@@ -4,8 +4,8 @@ use Rattle.std.specs.Prelude.{◌≡◌, ℕ, true, false, List, is_some}
 use Rattle.outcome.specs.adb_fields.FirstPair.{IsIn}
 use Rattle.outcome.specs.adb_schema.Reserved.{is_reserved}
 use Rattle.base_core.specs.Files.{Files}
-use Rattle.outcome.specs.change_files.FileChange.{FileChange}
-use Rattle.outcome.specs.change_files.NamesAfter.{added_paths, name_change}
+use Rattle.outcome.specs.own_core.FileChange.{FileChange}
+use Rattle.outcome.specs.own_core.NamesAfter.{added_paths, name_change}
 use Rattle.outcome.specs.change_outcome.ChangeOutcome.{ChangeWishes}
 use Rattle.outcome.specs.change_outcome.PackageFiles.{has_script_with_number}
 use Rattle.report_core.specs.Numbers.{TRIGGER_SCRIPT}

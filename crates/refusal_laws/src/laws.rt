@@ -11,7 +11,7 @@ ghost use Rattle.command_core.specs.Command.{CommandLine};
 ghost use Rattle.outcome.specs.engine_core.Changed.{IsFirstClashOfCommand, change_of_command, selected_from_inputs_by_choice};
 ghost use Rattle.outcome.specs.engine_core.Choice.{IsPreferredChoiceOrNoneIfRefused};
 ghost use Rattle.outcome.specs.engine_core.Selecting.{pool_of_command};
-ghost use Rattle.outcome.specs.installed_info.declared.telling.ReportAndRefusal.{ReportAndRefusal};
+ghost use Rattle.outcome.specs.tell_core.declared.info.reporting.ReportAndRefusal.{ReportAndRefusal};
 ghost use Rattle.outcome.specs.make_info.Reads.{Reads};
 ghost use Rattle.outcome.specs.make_info.declared.fault.MakeFault.TheVariants.{TooLarge};
 ghost use Rattle.outcome.specs.make_core.Making.{made_package};

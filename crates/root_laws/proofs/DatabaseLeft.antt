@@ -12,7 +12,7 @@ use Rattle.engine_core.specs.db_core.Members.{AreMembersInNameOrder, Member, lis
 use Rattle.engine_core.specs.db_core.OwnedListings.{HaveAtMostOneOwnerForEachPath, owned_listings}
 use Rattle.engine_core.specs.db_core.SoundMembers.{AreMembersOfSoundContainers, HaveOneOwnerPerPathAndNoneReserved}
 use Rattle.engine_core.specs.db_core.NewDatabase.{database_of, database_value, packages_in_new_database}
-use Rattle.engine_core.specs.change_files.PlanLists.{first_reserved_added_path_in_byte_order}
+use Rattle.engine_core.specs.own_core.PlanLists.{first_reserved_added_path_in_byte_order}
 use Rattle.engine_core.specs.file_owners.Owners.{owned_flags_of}
 use Rattle.report_core.specs.declared.refusal.Refusal.TheVariants.{DatabaseBad}
 use Rattle.root_laws.specs.RootLeft.{database_of_members}

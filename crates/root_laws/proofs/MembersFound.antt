@@ -15,7 +15,7 @@ use Rattle.adb_view.specs.Plain.{Plain}
 use Rattle.base_core.specs.declared.cause.Cause.{Cause}
 use Rattle.base_core.proofs.Rising as Names
 use Rattle.base_core.proofs.Causes.{first_none}
-use Rattle.engine_core.proofs.change_files.InOrder.{order_rises}
+use Rattle.engine_core.proofs.own_core.InOrder.{order_rises}
 use Rattle.engine_core.specs.change_inputs.Chains.{and_then}
 use Rattle.engine_core.specs.change_inputs.Inputs.{first_index_read_number}
 use Rattle.engine_core.proofs.change_outcome.Made.{and_then_ok}

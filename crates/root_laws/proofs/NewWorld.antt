@@ -1,8 +1,8 @@
 -- The world that a change is made for is a world, and is read back.
 use Rattle.std.proofs.Common.{◌≡◌, ℕ, List, [], ◌∷◌, Option, Some, None, Result, Ok, Err, refl, ap}
 use Rattle.base_core.specs.Files.{Files}
-use Rattle.engine_core.specs.change_files.FileChange.{FileChange}
-use Rattle.engine_core.specs.change_files.FilesAfter.{DatabaseAndWorldAfter, files_after_change, new_world_bytes_unless_empty_and_absent, world_name}
+use Rattle.engine_core.specs.own_core.FileChange.{FileChange}
+use Rattle.engine_core.specs.own_core.FilesAfter.{DatabaseAndWorldAfter, files_after_change, new_world_bytes_unless_empty_and_absent, world_name}
 use Rattle.engine_core.specs.change_inputs.Chains.{with_error_as_refusal}
 use Rattle.engine_core.specs.change_inputs.World.{new_world, root_world, found_text_or_empty, world_with_operand, world_with_operands, world_without_operands}
 use Rattle.command_core.specs.declared.command.Applet.{Applet}

@@ -2,9 +2,9 @@
 use Rattle.std.proofs.Common.{◌≡◌, ◌∙◌, ℕ, Bool, true, false, List, Option, Some, None, Result, Ok, refl, sym, ap, subst}
 use Rattle.std.specs.Prelude.{if◌then◌else◌}
 use Rattle.base_core.specs.Files.{Files}
-use Rattle.engine_core.specs.change_files.FileChange.{FileChange}
-use Rattle.engine_core.specs.change_files.FilesAfter.{DatabaseAndWorldAfter, listing_bytes}
-use Rattle.engine_core.proofs.change_files.RecordNames.{database_after}
+use Rattle.engine_core.specs.own_core.FileChange.{FileChange}
+use Rattle.engine_core.specs.own_core.FilesAfter.{DatabaseAndWorldAfter, listing_bytes}
+use Rattle.engine_core.proofs.own_core.RecordNames.{database_after}
 use Rattle.engine_core.specs.change_inputs.Database.{root_database}
 use Rattle.engine_core.specs.change_inputs.Inputs.{Inputs, inputs_of, text_database_read_number}
 use Rattle.engine_core.specs.change_inputs.World.{root_world, found_text_or_empty}

@@ -12,7 +12,7 @@ use Rattle.make_core.specs.adb_fields.Paths.{path_of}
 use Rattle.make_core.specs.adb_fields.Repeated.{files_in, folders_in, list_of, name_of}
 use Rattle.make_core.specs.adb_schema.Reserved.{is_reserved}
 use Rattle.make_core.specs.adb_schema.SoundValues.{ObeysTextAndNumberRulesOfFileInFolder, ObeysTextAndNumberRulesOfFolder, ObeysTextAndNumberRulesOfPackage}
-use Rattle.engine_core.specs.change_files.PlanLists.{first_reserved_added_path_in_byte_order}
+use Rattle.engine_core.specs.own_core.PlanLists.{first_reserved_added_path_in_byte_order}
 use Rattle.engine_core.specs.db_core.Members.{Listing, Member, is_added, listings_of_member, listings_of_members_from, listings_from_member_folder_file_places, listings_in_folders_from, listings_of_members}
 use Rattle.engine_core.specs.db_core.OwnedListings.{HaveAtMostOneOwnerForEachPath, owned_listings}
 use Rattle.engine_core.specs.db_core.SoundMembers.{AreMembersOfSoundContainers, IsPackageOfSoundContainer, IsOfSoundDatabase, HaveOneOwnerPerPathAndNoneReserved, NoneReserved}

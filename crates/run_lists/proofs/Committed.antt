@@ -41,7 +41,7 @@ use Rattle.apk_front.specs.outcome.Outcome.{Outcome, commit_report, just_refusal
 use Rattle.apk_front.specs.outcome.Words.{IsOutcome, IsOutcomeOfAppletIncludingRecovery}
 use Rattle.apk_front.specs.outcome.Work.{recovery_fault, files_recovered_if_needed}
 use Rattle.run_lists.proofs.BadIntent.{only_reads}
-use Rattle.apk_front.proofs.file_replacement.Suffix.{intent_is_no_scratch}
+use Rattle.apk_front.proofs.journal_commit.Suffix.{intent_is_no_scratch}
 
 abbrev pub BringsNoIntent : Type 0
 BringsNoIntent = (inputs : Inputs) (r : Replacement) (wishes : ChangeWishes) (read : Reads) (clash : Option NamePair) (files : Files) (done : ChangeDone)

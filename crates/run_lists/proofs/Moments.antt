@@ -26,7 +26,7 @@ use Rattle.run_lists.proofs.Along.{seen_durable}
 use Rattle.run_lists.proofs.AtMoments.{History, now_map, start_or_made}
 use Rattle.run_lists.proofs.Committed.{CommitsNoIntent}
 use Rattle.run_lists.proofs.Facts.{Facts, Ignored}
-use Rattle.apk_front.proofs.file_replacement.Suffix.{intent_is_no_scratch}
+use Rattle.apk_front.proofs.journal_commit.Suffix.{intent_is_no_scratch}
 use Rattle.run_lists.proofs.Names.{after_hides}
 use Rattle.run_lists.proofs.OneRun.{now_hides, now_durable, durable_at}
 use Rattle.run_lists.proofs.Unstaged.{none_found, not_staged, plain_at}

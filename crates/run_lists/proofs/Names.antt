@@ -7,7 +7,7 @@ use Rattle.std.proofs.lemmas.Slice.Eq.{bytes_eq-Decides}
 use Rattle.apk_front.specs.Moments.{IgnoresOutputScratchNameButNotIntent, ignored_except_output_and_scratch}
 use Rattle.apk_front.specs.declared.answer.Answer.{Answer}
 use Rattle.apk_front.specs.declared.answer.Answer.TheVariants.{Ok as Done, Refused, TreeFault, OutFault, Memory}
-use Rattle.apk_front.proofs.file_replacement.Suffix.{intent_is_no_scratch}
+use Rattle.apk_front.proofs.journal_commit.Suffix.{intent_is_no_scratch}
 use Rattle.command_core.specs.Command.{CommandLine}
 use Rattle.apk_front.specs.journal_core.Recovery.{intent_name}
 use Rattle.apk_front.specs.journal_core.Replacing.{scratch_name_of}

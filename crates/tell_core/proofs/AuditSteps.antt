@@ -12,8 +12,8 @@ use Rattle.change_inputs.specs.Seen.{installed_seen}
 use Rattle.change_inputs.specs.declared.installed.Installed.{Installed}
 use Rattle.change_inputs.specs.declared.root.Refused.{Refused}
 use Rattle.command_core.specs.Command.{CommandLine}
-use Rattle.installed_info.specs.Info.{report_and_refusal}
-use Rattle.installed_info.specs.declared.telling.ReportAndRefusal.{ReportAndRefusal}
+use Rattle.tell_core.specs.Info.{report_and_refusal}
+use Rattle.tell_core.specs.declared.info.reporting.ReportAndRefusal.{ReportAndRefusal}
 use Rattle.change_inputs.specs.make_info.Reads.{Reads}
 use Rattle.change_inputs.proofs.package_files.ReadLemmas.{explained, explained_as}
 use Rattle.change_inputs.specs.package_files.Runs.{AreReadsOfTreeIfObservable, HoldsOfSomeReadsOfTree}

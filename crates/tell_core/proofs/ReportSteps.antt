@@ -8,7 +8,7 @@ use Rattle.change_inputs.proofs.Handed.{handed_on_disk, passed_part, refused_par
 use Rattle.change_inputs.specs.Answers.{Agrees, AgreesUnlessDiskOrMemory}
 use Rattle.change_inputs.specs.Chains.{and_then}
 use Rattle.change_inputs.specs.declared.root.Refused.{Refused}
-use Rattle.installed_info.specs.declared.telling.ReportAndRefusal.{ReportAndRefusal}
+use Rattle.tell_core.specs.declared.info.reporting.ReportAndRefusal.{ReportAndRefusal}
 use Rattle.change_inputs.specs.make_info.Reads.{Reads}
 use Rattle.change_inputs.specs.package_files.Runs.{HoldsOfSomeReadsOfTree}
 use Rattle.report_core.specs.declared.refusal.Refusal.{Refusal}

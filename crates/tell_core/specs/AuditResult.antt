@@ -7,8 +7,8 @@ use Rattle.change_inputs.specs.Chains.{and_then}
 use Rattle.change_inputs.specs.Database.{Database}
 use Rattle.change_inputs.specs.Inputs.{database_for}
 use Rattle.command_core.specs.Command.{CommandLine}
-use Rattle.installed_info.specs.Info.{report_and_refusal}
-use Rattle.installed_info.specs.declared.telling.ReportAndRefusal.{ReportAndRefusal}
+use Rattle.tell_core.specs.Info.{report_and_refusal}
+use Rattle.tell_core.specs.declared.info.reporting.ReportAndRefusal.{ReportAndRefusal}
 use Rattle.change_inputs.specs.make_info.Reads.{Reads}
 use Rattle.report_core.specs.declared.refusal.Refusal.{Refusal}
 

@@ -1,11 +1,11 @@
--- The result of `info`, by what reads find. The rules are in `docs/commands.md`, "`info`"; the text is
--- made by `installed_info`.
+-- The result of `info`, by what reads find. The rules are in `docs/commands.md`, "`info`"; the report is
+-- defined in `Info`.
 use Rattle.std.specs.Prelude.{Result}
 use Rattle.change_inputs.specs.Chains.{and_then}
 use Rattle.change_inputs.specs.Inputs.{database_for}
 use Rattle.command_core.specs.Command.{CommandLine}
-use Rattle.installed_info.specs.Info.{info_of}
-use Rattle.installed_info.specs.declared.telling.ReportAndRefusal.{ReportAndRefusal}
+use Rattle.tell_core.specs.Info.{info_of}
+use Rattle.tell_core.specs.declared.info.reporting.ReportAndRefusal.{ReportAndRefusal}
 use Rattle.change_inputs.specs.make_info.Reads.{Reads}
 use Rattle.report_core.specs.declared.refusal.Refusal.{Refusal}
 

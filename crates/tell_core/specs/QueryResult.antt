@@ -1,13 +1,13 @@
 -- The results of `list`, `search` and `policy`, by what reads find. The rules are in
 -- `docs/commands.md`, under each command's name; the reports are defined in `query_core`.
 use Rattle.std.specs.Prelude.{None, Result, Ok}
-use Rattle.installed_info.specs.candidate_core.Rank.{no_names}
+use Rattle.candidate_core.specs.Rank.{no_names}
 use Rattle.change_inputs.specs.Candidates.{root_pool}
 use Rattle.change_inputs.specs.Chains.{and_then}
 use Rattle.change_inputs.specs.Inputs.{Inputs, inputs_of}
 use Rattle.command_core.specs.Command.{CommandLine}
-use Rattle.installed_info.specs.Info.{report_and_refusal}
-use Rattle.installed_info.specs.declared.telling.ReportAndRefusal.{ReportAndRefusal}
+use Rattle.tell_core.specs.Info.{report_and_refusal}
+use Rattle.tell_core.specs.declared.info.reporting.ReportAndRefusal.{ReportAndRefusal}
 use Rattle.change_inputs.specs.make_info.Reads.{Reads}
 use Rattle.query_core.specs.Queries.{text_of_query}
 use Rattle.report_core.specs.declared.refusal.Refusal.{Refusal}

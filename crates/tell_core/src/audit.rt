@@ -6,11 +6,11 @@ ghost use Rattle.change_inputs.specs.Seen.{installed_seen};
 ghost use Rattle.change_inputs.specs.package_files.Runs.{HoldsOfSomeReadsOfTree};
 ghost use Rattle.tell_core.specs.AuditResult.{audit_of, audit_result, manifest_report_or_refusal, manifest_result};
 
+use crate::info::reporting::ReportAndRefusal;
 use audit_core::{audit, audits_depend_on_their_own_reads, manifest};
 use base_core::{Tree, TreeFault, consecutive_reads_compose};
 use change_inputs::{Installed, Refused};
 use command_core::Command;
-use installed_info::ReportAndRefusal;
 use std::alloc::Global;
 
 /// Reports the installed files that differ from their entries in the database. The database of the

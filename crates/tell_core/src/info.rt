@@ -1,15 +1,23 @@
-//! The report of `info` on a root. The rules are in `docs/commands.md`, "`info`".
+//! The report of `info` on a root. The modules below it make the report on the packages of a
+//! database. The rules are in `docs/commands.md`, "`info`".
+
+mod names;
+mod operands;
+mod package;
+mod paths;
+pub(crate) mod reporting;
+
 ghost use Rattle.base_core.specs.Read.{OnlyReads};
 ghost use Rattle.change_inputs.specs.Answers.{Agrees, AgreesUnlessDiskOrMemory};
 ghost use Rattle.change_inputs.specs.Seen.{installed_seen};
 ghost use Rattle.tell_core.specs.InfoResult.{info_result};
-ghost use Rattle.installed_info.specs.Info.{info_of};
+ghost use Rattle.tell_core.specs.Info.{info_of};
 ghost use Rattle.change_inputs.specs.package_files.Runs.{HoldsOfSomeReadsOfTree};
 
+use crate::info::reporting::{ReportAndRefusal, info_of};
 use base_core::Tree;
 use change_inputs::{Installed, Refused};
 use command_core::Command;
-use installed_info::{ReportAndRefusal, tell};
 use std::alloc::Global;
 
 /// Reports on the installed packages as the options and operands of `info` ask for it. Only the
@@ -50,7 +58,7 @@ fn report_installed(
         (info_of command.now (installed_seen installed.now).packages) }
 {
     let db = installed.db(alloc)?;
-    match tell(alloc, command, &db)? {
+    match info_of(alloc, command, &db)? {
         Ok(done) => Ok(done),
         // The command is refused for an operand, and nothing is reported.
         Err(refusal) => Err(Refused::Refusal(refusal)),

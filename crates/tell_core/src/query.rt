@@ -8,11 +8,12 @@ ghost use Rattle.query_core.specs.Queries.{text_of_query};
 ghost use Rattle.std.specs.Prelude.{◌≡◌, IfOk};
 ghost use Rattle.tell_core.specs.QueryResult.{query_report_or_refusal, query_result};
 
+use crate::info::reporting::ReportAndRefusal;
 use base_core::{Text, Tree};
+use candidate_core::Upgrade;
 use change_inputs::{Loaded, Refused, Sealed};
 use command_core::{Applet, Command};
 use dep_core::Repos;
-use installed_info::{ReportAndRefusal, Upgrade};
 use query_core::{list, policy, search};
 use std::alloc::{AllocError, Global};
 

@@ -2,18 +2,18 @@
 //! are in `docs/commands.md`, under its name.
 ghost use Rattle.base_core.specs.Read.{OnlyReads};
 ghost use Rattle.change_inputs.specs.Answers.{AgreesUnlessDiskOrMemory};
-ghost use Rattle.installed_info.specs.Info.{report_and_refusal};
+ghost use Rattle.tell_core.specs.Info.{report_and_refusal};
 ghost use Rattle.change_inputs.specs.package_files.Runs.{HoldsOfSomeReadsOfTree};
 ghost use Rattle.std.specs.Prelude.{◌≡◌, [], None};
 ghost use Rattle.tell_core.specs.ReportForCommand.{report_for_command};
 
 use crate::audit::{report_audit, report_manifest};
 use crate::info::report_info;
+use crate::info::reporting::ReportAndRefusal;
 use crate::query::report_query;
 use base_core::{Text, Tree};
 use change_inputs::Refused;
 use command_core::{Applet, Command};
-use installed_info::ReportAndRefusal;
 use std::alloc::Global;
 
 /// Reports on a root as one of these commands asks for it: `info`, `audit`, `manifest`, `list`,

@@ -2,8 +2,8 @@
 use Rattle.std.proofs.Common.{◌≡◌, ℕ, Bool, false, List, ◌++◌, length, Option, Result, Ok, Err, append_assoc, refl, ap, sym, ◌∙◌, subst}
 use Rattle.std.specs.Prelude.{if◌then◌else◌, sum_by}
 use Rattle.base_core.specs.Files.{Files}
-use Rattle.engine_core.specs.change_files.FileChange.{FileChange}
-use Rattle.engine_core.specs.change_files.PlanLists.{paths_with_apk_new_file, kept_left_over_paths_of}
+use Rattle.engine_core.specs.own_core.FileChange.{FileChange}
+use Rattle.engine_core.specs.own_core.PlanLists.{paths_with_apk_new_file, kept_left_over_paths_of}
 use Rattle.engine_core.specs.change_inputs.Chains.{and_then}
 use Rattle.engine_core.specs.change_inputs.Inputs.{Inputs, inputs_of}
 use Rattle.engine_core.specs.change_outcome.Made.{IsChangeMade}

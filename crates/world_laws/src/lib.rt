@@ -15,7 +15,7 @@ ghost use Rattle.engine_core.specs.candidate_core.Rank.{SelectionProblem};
 ghost use Rattle.engine_core.specs.search_tables.Selection.{IsSatisfying, next_need};
 ghost use Rattle.world_laws.specs.NextNeed.{IsNextNeedOrNone};
 ghost use Rattle.base_core.specs.Files.{Files};
-ghost use Rattle.engine_core.specs.change_files.FileChange.{FileChange};
+ghost use Rattle.engine_core.specs.own_core.FileChange.{FileChange};
 ghost use Rattle.engine_core.specs.change_outcome.ChangeOutcome.{ChangeDone, ChangeWishes, change_report};
 ghost use Rattle.command_core.specs.Command.{CommandLine};
 ghost use Rattle.engine_core.specs.Changed.{InputsAndReplacement, change_of_command, selected_from_reads_by_choice};

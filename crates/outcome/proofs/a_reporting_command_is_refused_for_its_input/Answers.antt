@@ -1,4 +1,4 @@
-use Rattle.tell_core.proofs.installed_info.Refusing.{info_late, info_refused}
+use Rattle.tell_core.proofs.Refusing.{info_late, info_refused}
 use Rattle.outcome.proofs.Tellers.{late_stated, refused_stated}
 use Rattle.outcome.proofs.a_reporting_command_is_refused_for_its_input.Goals as goal
 

@@ -1,5 +1,5 @@
 use Rattle.engine_core.proofs.change_outcome.Made.{made}
-use Rattle.tell_core.proofs.installed_info.Refusing.{info_late, info_refused}
+use Rattle.tell_core.proofs.Refusing.{info_late, info_refused}
 use Rattle.outcome.proofs.FirstSelections.{over_end}
 use Rattle.outcome.proofs.IntentRefusals.{refused_bad}
 use Rattle.outcome.proofs.Tellers.{late_stated, refused_stated}

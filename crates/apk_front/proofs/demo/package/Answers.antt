@@ -1,6 +1,6 @@
 use Rattle.std.proofs.Common.{◌∙◌}
 use Rattle.base_core.specs.Tree.{files_of}
-use Rattle.outcome.specs.demo_lines.Lines.{demo_file, contents_of_demo_file, mkpkg_words}
+use Rattle.outcome.specs.DemoLines.{demo_file, contents_of_demo_file, mkpkg_words}
 use Rattle.outcome.specs.Demo.{with_file_packed_in_demo_package}
 use Rattle.tree_memory.specs.Memory.{tree_state}
 use Rattle.apk_front.proofs.Demos.{package_to, put_to}

@@ -1,5 +1,5 @@
 use Rattle.std.proofs.Common.{sym}
-use Rattle.outcome.specs.demo_lines.Lines.{mkpkg_words}
+use Rattle.outcome.specs.DemoLines.{mkpkg_words}
 use Rattle.outcome.specs.Demo.{with_file_packed_in_demo_package}
 use Rattle.apk_front.proofs.Demos.{after_refused, behind_run}
 use Rattle.apk_front.proofs.demo.package_behind.Goals as goal

@@ -1,5 +1,5 @@
 use Rattle.change_outcome.specs.ChangeOutcome.{intent_of_change, database_and_world_after_change}
-use Rattle.package_changes.specs.change_files.FilesAfter.{files_after_change}
+use Rattle.package_changes.specs.own_core.FilesAfter.{files_after_change}
 use Rattle.change_outcome.proofs.ChangeLeads.{leads}
 use Rattle.change_outcome.proofs.Leading.{acted_is}
 use Rattle.change_outcome.proofs.laws.the_actions_of_a_change_lead_to_its_files.Goals as goal

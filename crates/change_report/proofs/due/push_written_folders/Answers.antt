@@ -1,5 +1,5 @@
 use Rattle.std.proofs.Common.{◌∙◌, ◌∷◌, ◌+◌, List, ℕ, Bor, drop, map, ap, sym, arith}
-use Rattle.own_core.specs.change_files.PlanLists.{FileWrite}
+use Rattle.own_core.specs.PlanLists.{FileWrite}
 use Rattle.package_files.specs.Folders.{folder_of}
 use Rattle.own_core.specs.WritesSeen.{writes_in}
 use Rattle.std.proofs.lemmas.List.{length-map}

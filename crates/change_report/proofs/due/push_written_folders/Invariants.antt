@@ -1,7 +1,7 @@
 -- The folders of the writes that are left are still to come.
 use Rattle.std.proofs.Common.{◌≡◌, ◌++◌, drop, map}
 use Rattle.package_files.specs.Folders.{folder_of}
-use Rattle.own_core.specs.change_files.PlanLists.{FileWrite}
+use Rattle.own_core.specs.PlanLists.{FileWrite}
 use Rattle.own_core.specs.WritesSeen.{writes_in}
 use Rattle.change_report.proofs.due.push_written_folders.Given as goal
 

@@ -1,7 +1,7 @@
 use Rattle.base_core.specs.Listed.{AreSortedDistinctTexts}
 use Rattle.std.proofs.Common.{◌≡◌, ◌∙◌, ◌++◌, All, Option, Ok, List, map, ap, sym, subst, true, false}
 use Rattle.change_outcome.specs.adb_write.Canonical.{counts_at_first_overflow}
-use Rattle.change_report.specs.change_files.PlanLists.{sorted_distinct_names}
+use Rattle.change_report.specs.own_core.PlanLists.{sorted_distinct_names}
 use Rattle.change_report.specs.change_inputs.Answers.{Agrees}
 use Rattle.change_report.specs.change_outcome.ChangeOutcome.{name_if_needed, unless_overflow}
 use Rattle.change_report.specs.journal_core.Staged.{Staging, new_stage_of_removals_and_writes}

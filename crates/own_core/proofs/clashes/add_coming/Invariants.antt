@@ -2,7 +2,7 @@
 use Rattle.std.proofs.Common.{◌≡◌, ◌++◌, map, take}
 use Rattle.std.specs.List.{filter}
 use Rattle.path_claim_lists.specs.adb_fields.JoinedPath.{joined_path}
-use Rattle.change_files.specs.db_core.Seen.{members_of}
+use Rattle.file_owners.specs.db_core.Seen.{members_of}
 use Rattle.path_claim_lists.specs.path_claims.Seen.{claim_seen}
 use Rattle.own_core.specs.ClaimEntries.{is_added_at}
 use Rattle.own_core.proofs.clashes.add_coming.Given as goal

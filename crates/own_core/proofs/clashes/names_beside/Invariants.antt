@@ -1,6 +1,6 @@
 -- The names beside the claims that were passed.
 use Rattle.std.proofs.Common.{◌≡◌, map, take}
-use Rattle.change_files.specs.Fate.{apk_new_name}
+use Rattle.own_core.specs.Fate.{apk_new_name}
 use Rattle.path_claim_lists.specs.path_claims.Seen.{claim_seen}
 use Rattle.own_core.proofs.clashes.names_beside.Given as goal
 

@@ -3,7 +3,7 @@ use Rattle.std.specs.List.Sorted.{IsSorted}
 use Rattle.std.specs.Ordering.{is_lt}
 use Rattle.std.proofs.lemmas.List.Kept.{IsSortedBy-filter}
 use Rattle.base_core.proofs.Sorting.{ranks}
-use Rattle.change_files.specs.db_core.Seen.{members_of}
+use Rattle.file_owners.specs.db_core.Seen.{members_of}
 use Rattle.path_claim_lists.specs.path_claims.Claims.{claim_cmp}
 use Rattle.path_claim_lists.specs.path_claims.Seen.{claim_seen}
 use Rattle.path_claim_lists.proofs.path_claims.ClaimOrder.{claims_total}

@@ -1,6 +1,6 @@
 use Rattle.std.proofs.Common.{◌∙◌, ap, arith}
-use Rattle.change_files.specs.db_core.Seen.{members_of}
-use Rattle.change_files.specs.file_owners.Owners.{owner_of_path}
+use Rattle.file_owners.specs.db_core.Seen.{members_of}
+use Rattle.file_owners.specs.Owners.{owner_of_path}
 use Rattle.path_claim_lists.specs.path_claims.Seen.{claim_seen}
 use Rattle.path_claim_lists.proofs.path_claims.Places.{seen_at}
 use Rattle.own_core.specs.ClaimEntries.{is_of_added_owner}

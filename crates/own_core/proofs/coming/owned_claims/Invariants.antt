@@ -1,7 +1,7 @@
 -- What is kept are the claims so far of owners that come.
 use Rattle.std.proofs.Common.{◌≡◌, map, take}
 use Rattle.std.specs.List.{filter}
-use Rattle.change_files.specs.db_core.Seen.{members_of}
+use Rattle.file_owners.specs.db_core.Seen.{members_of}
 use Rattle.path_claim_lists.specs.path_claims.Seen.{claim_seen}
 use Rattle.own_core.specs.ClaimEntries.{is_of_added_owner}
 use Rattle.own_core.proofs.coming.owned_claims.Given as goal

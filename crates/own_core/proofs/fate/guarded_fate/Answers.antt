@@ -1,6 +1,6 @@
 use Rattle.std.proofs.Common.{◌∙◌, ap}
-use Rattle.change_files.specs.Fate.{fate_if_user_modified_file}
-use Rattle.change_files.specs.db_core.Seen.{members_of}
+use Rattle.own_core.specs.Fate.{fate_if_user_modified_file}
+use Rattle.file_owners.specs.db_core.Seen.{members_of}
 use Rattle.path_claim_lists.specs.path_claims.Seen.{claim_seen}
 use Rattle.own_core.specs.ClaimEntries.{claim_entry}
 use Rattle.own_core.specs.Fates.{fate_seen}

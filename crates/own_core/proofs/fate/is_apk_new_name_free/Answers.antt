@@ -1,7 +1,7 @@
 use Rattle.std.proofs.Common.{◌≡◌, ◌∙◌, ◌≤◌, List, ℕ, ap, subst, length, arith}
 use Rattle.std.specs.Prelude.{not}
-use Rattle.change_files.specs.Fate.{apk_new_name}
-use Rattle.change_files.specs.FileChange.{is_listed_after_change}
+use Rattle.own_core.specs.Fate.{apk_new_name}
+use Rattle.own_core.specs.FileChange.{is_listed_after_change}
 use Rattle.own_core.specs.Sides.{file_change_of}
 use Rattle.own_core.proofs.ChangeClaims.{after_sorted, free_there, short_and}
 use Rattle.own_core.proofs.fate.is_apk_new_name_free.Goals as goal

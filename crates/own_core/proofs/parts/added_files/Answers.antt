@@ -1,7 +1,7 @@
 use Rattle.std.proofs.Common.{arith, rules}
 use Rattle.base_core.specs.declared.tree.TreeFault.TheVariants.{Disk}
 use Rattle.base_core.proofs.Counting.{readings_none}
-use Rattle.change_files.specs.Fate.{goes_aside, goes_in}
+use Rattle.own_core.specs.Fate.{goes_aside, goes_in}
 use Rattle.path_claim_lists.specs.path_claims.Seen.{claim_seen}
 use Rattle.path_claim_lists.proofs.path_claims.Places.{seen_at}
 use Rattle.own_core.specs.Fates.{are_equal_fates, claim_fate, fate_seen}

@@ -3,7 +3,7 @@ use Rattle.std.proofs.Common.{ℕ, map, take, Ok}
 use Rattle.base_core.specs.Read.{OnlyReads}
 use Rattle.base_core.specs.declared.tree.TreeFault.{TreeFault}
 use Rattle.base_core.specs.declared.tree.TreeFault.TheVariants.{Disk}
-use Rattle.change_files.specs.Fate.{goes_aside, goes_in}
+use Rattle.own_core.specs.Fate.{goes_aside, goes_in}
 use Rattle.path_claim_lists.specs.path_claims.Seen.{claim_seen}
 use Rattle.own_core.specs.Divided.{AreDividedByAnswer}
 use Rattle.own_core.specs.Fates.{are_equal_fates, claim_fate}

@@ -1,6 +1,6 @@
 use Rattle.std.proofs.Common.{◌∙◌, sym}
 use Rattle.path_claim_lists.specs.adb_fields.JoinedPath.{joined_path}
-use Rattle.change_files.specs.FileChange.{is_listed_after_change}
+use Rattle.own_core.specs.FileChange.{is_listed_after_change}
 use Rattle.path_claim_lists.specs.path_claims.Seen.{claim_seen}
 use Rattle.std.proofs.Common.{map}
 use Rattle.own_core.specs.Going.{is_apk_new_name_of}

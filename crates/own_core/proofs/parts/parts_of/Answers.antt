@@ -2,9 +2,9 @@ use Rattle.std.proofs.Common.{◌≡◌, ◌∙◌, List, true, false, ap, subst
 use Rattle.std.specs.List.{filter}
 use Rattle.base_core.specs.Tree.{TreeState}
 use Rattle.base_core.proofs.Rising.{rises_from_pairs}
-use Rattle.change_files.specs.db_core.Members.{members_of_kept}
-use Rattle.change_files.specs.db_core.Seen.{packages_of}
-use Rattle.change_files.specs.Fate.{goes_aside}
+use Rattle.file_owners.specs.db_core.Members.{members_of_kept}
+use Rattle.file_owners.specs.db_core.Seen.{packages_of}
+use Rattle.own_core.specs.Fate.{goes_aside}
 use Rattle.path_claim_lists.proofs.Firsts.{paths}
 use Rattle.path_claim_lists.specs.path_claims.Claims.{PathClaim}
 use Rattle.path_claim_lists.specs.path_claims.Seen.{claim_seen}

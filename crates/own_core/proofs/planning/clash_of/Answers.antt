@@ -3,7 +3,7 @@ use Rattle.std.specs.Prelude.{◌&&◌, ◌||◌, not, is_some, bytes_eq}
 use Rattle.std.specs.List.{find, list_any}
 use Rattle.std.specs.List.Sorted.{IsSorted}
 use Rattle.path_claim_lists.specs.adb_fields.JoinedPath.{joined_path}
-use Rattle.change_files.specs.Fate.{apk_new_name}
+use Rattle.own_core.specs.Fate.{apk_new_name}
 use Rattle.base_core.specs.ByteOrder.{bytes_cmp}
 use Rattle.base_core.specs.Sorted.{sorted_by}
 use Rattle.path_claim_lists.specs.path_claims.Claims.{claim_cmp, is_claim_of_path}

@@ -1,4 +1,4 @@
-use Rattle.change_files.specs.db_core.Seen.{members_of}
+use Rattle.file_owners.specs.db_core.Seen.{members_of}
 use Rattle.path_claim_lists.specs.path_claims.ContestedSeen.{contested_seen}
 use Rattle.own_core.proofs.Refusals.{contestable}
 use Rattle.own_core.proofs.planning.contest.Goals as goal

@@ -1,7 +1,7 @@
 -- None of the claims so far is reserved and comes.
 use Rattle.std.proofs.Common.{◌≡◌, None, map, take}
 use Rattle.std.specs.List.{find}
-use Rattle.change_files.specs.db_core.Seen.{members_of}
+use Rattle.file_owners.specs.db_core.Seen.{members_of}
 use Rattle.path_claim_lists.specs.path_claims.Seen.{claim_seen}
 use Rattle.own_core.specs.ClaimEntries.{is_added_and_reserved}
 use Rattle.own_core.proofs.planning.first_reserved_added_path_in_byte_order.Given as goal

@@ -1,9 +1,9 @@
 use Rattle.std.proofs.Common.{◌∙◌, List, ap, sym, subst, map}
 use Rattle.std.specs.List.{filter}
 use Rattle.path_claim_lists.specs.Once.{HasFirstClaimOfEachPath}
-use Rattle.change_files.specs.db_core.Members.{members_of_kept}
-use Rattle.change_files.specs.db_core.Seen.{members_of, packages_of}
-use Rattle.change_files.specs.file_owners.Owners.{claims_in}
+use Rattle.file_owners.specs.db_core.Members.{members_of_kept}
+use Rattle.file_owners.specs.db_core.Seen.{members_of, packages_of}
+use Rattle.file_owners.specs.Owners.{claims_in}
 use Rattle.path_claim_lists.specs.path_claims.Seen.{claim_seen}
 use Rattle.path_claim_lists.specs.path_claims.declared.claim.Claim.{Claim}
 use Rattle.path_claim_lists.proofs.path_claims.Whole.{is_sorted}

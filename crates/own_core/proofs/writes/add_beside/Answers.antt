@@ -1,5 +1,5 @@
 use Rattle.std.proofs.Common.{◌≤◌, ℕ, List, ap, sym, subst, ◌∙◌, arith, length, map}
-use Rattle.change_files.specs.Fate.{apk_new_name}
+use Rattle.own_core.specs.Fate.{apk_new_name}
 use Rattle.path_claim_lists.specs.path_claims.Seen.{claim_seen}
 use Rattle.path_claim_lists.proofs.path_claims.Places.{seen_at}
 use Rattle.own_core.specs.WritesSeen.{apk_new_write, write_seen}

@@ -1,6 +1,6 @@
 -- What becomes of the names that are left is still to come.
 use Rattle.std.proofs.Common.{◌≡◌, ◌++◌, map, drop}
-use Rattle.change_files.specs.db_core.Seen.{packages_of}
+use Rattle.own_core.specs.db_core.Seen.{packages_of}
 use Rattle.package_changes.specs.Seen.{placed_name_seen}
 use Rattle.package_changes.specs.SelectedNames.{name_with_change_and_places_by_table}
 use Rattle.package_changes.proofs.placed.placed_names.Given as goal

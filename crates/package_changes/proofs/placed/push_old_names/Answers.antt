@@ -1,8 +1,8 @@
 use Rattle.std.proofs.Common.{◌≡◌, ◌∙◌, ◌∷◌, ◌+◌, ℕ, List, Bor, Option, Some, None, arith, drop, map, ap, refl}
 use Rattle.std.specs.Prelude.{option_map, slice_get}
 use Rattle.adb_view.specs.Plain.{Plain}
-use Rattle.change_files.specs.adb_fields.Repeated.{package_name}
-use Rattle.change_files.specs.db_core.Seen.{packages_of}
+use Rattle.own_core.specs.adb_fields.Repeated.{package_name}
+use Rattle.own_core.specs.db_core.Seen.{packages_of}
 use Rattle.package_changes.proofs.Lists.{all_told, left_at, none_left, pushed}
 use Rattle.package_changes.proofs.placed.push_old_names.Goals as goal
 

@@ -1,7 +1,7 @@
 -- The names of the packages that are left are still to come.
 use Rattle.std.proofs.Common.{◌≡◌, ◌++◌, map, drop}
-use Rattle.change_files.specs.adb_fields.Repeated.{package_name}
-use Rattle.change_files.specs.db_core.Seen.{packages_of}
+use Rattle.own_core.specs.adb_fields.Repeated.{package_name}
+use Rattle.own_core.specs.db_core.Seen.{packages_of}
 use Rattle.package_changes.proofs.placed.push_old_names.Given as goal
 
 abbrev pub invariant-loop-i : goal.invariant-loop-i

@@ -1,5 +1,5 @@
 use Rattle.std.proofs.Common.{◌∙◌, ◌++◌, ap}
-use Rattle.change_files.specs.db_core.Seen.{packages_of}
+use Rattle.own_core.specs.db_core.Seen.{packages_of}
 use Rattle.report_core.specs.Reports.{change_lines}
 use Rattle.package_changes.specs.Placed.{candidates_at}
 use Rattle.package_changes.specs.Report.{selected_sum_line, simulated_report, lines_on_names_that_stay}

@@ -1,7 +1,7 @@
 use Rattle.std.proofs.Common.{◌+◌, List, ℕ, Bor, Bool, arith, drop, map, ap}
 use Rattle.std.specs.List.{filter, flat_map}
 use Rattle.std.proofs.lemmas.List.{drop_all}
-use Rattle.change_files.specs.db_core.Seen.{packages_of}
+use Rattle.own_core.specs.db_core.Seen.{packages_of}
 use Rattle.package_changes.specs.Placed.{candidates_at}
 use Rattle.package_changes.specs.Report.{lines_on_name_that_stays, was_installed}
 use Rattle.package_changes.proofs.Lists.{all_told, told}

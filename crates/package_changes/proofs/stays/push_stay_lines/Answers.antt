@@ -1,8 +1,8 @@
 use Rattle.std.proofs.Common.{◌∙◌, ◌++◌, List, ℕ, Bor, ap, map}
 use Rattle.std.specs.Prelude.{is_some}
 use Rattle.std.specs.List.{filter, flat_map}
-use Rattle.change_files.specs.PlanLists.{sorted_distinct_names}
-use Rattle.change_files.specs.db_core.Seen.{packages_of}
+use Rattle.own_core.specs.PlanLists.{sorted_distinct_names}
+use Rattle.own_core.specs.db_core.Seen.{packages_of}
 use Rattle.package_changes.specs.Placed.{candidates_at}
 use Rattle.package_changes.specs.Report.{lines_on_name_that_stays, was_installed}
 use Rattle.package_changes.specs.SelectedNames.{place_paired_with_name}

@@ -1,7 +1,7 @@
 use Rattle.std.proofs.Common.{◌∙◌, ap}
 use Rattle.std.specs.Prelude.{is_some}
-use Rattle.change_files.specs.db_core.Packages.{is_package_named}
-use Rattle.change_files.specs.db_core.Seen.{packages_of}
+use Rattle.own_core.specs.db_core.Packages.{is_package_named}
+use Rattle.own_core.specs.db_core.Seen.{packages_of}
 use Rattle.package_changes.proofs.ReportLines.{is_found}
 use Rattle.package_changes.proofs.stays.was_installed.Goals as goal
 

@@ -2,7 +2,7 @@ use Rattle.std.specs.Prelude.{Ok}
 use Rattle.change_inputs.proofs.Handed.{handed_on}
 use Rattle.change_inputs.specs.Inputs.{database_for}
 use Rattle.change_inputs.specs.Seen.{installed_seen}
-use Rattle.installed_info.specs.Info.{info_of}
+use Rattle.tell_core.specs.Info.{info_of}
 use Rattle.tell_core.proofs.ReportSteps.{report_read, report_unread}
 use Rattle.tell_core.proofs.info.report_info.Goals as goal
 

@@ -1,5 +1,5 @@
 use Rattle.std.proofs.Common.{◌∙◌, List, ℕ, Bor, ap, map}
-use Rattle.change_files.specs.db_core.Seen.{packages_of}
+use Rattle.own_core.specs.db_core.Seen.{packages_of}
 use Rattle.package_changes.specs.Placed.{names_with_change_and_old_and_pool_place}
 use Rattle.package_changes.specs.Seen.{placed_replacement_from_parts}
 use Rattle.package_changes.specs.SelectedNames.{name_with_change_and_places_by_table}

@@ -1,5 +1,0 @@
-use Rattle.change_files.proofs.Untouched.{others_stay}
-use Rattle.change_files.proofs.laws.a_name_that_nobody_lists_is_not_touched.Goals as goal
-
-pub returns : goal.returns
-returns c = others_stay

@@ -1,5 +1,0 @@
-use Rattle.change_files.proofs.Brought.{brought_as_listed}
-use Rattle.change_files.proofs.laws.the_files_of_an_added_package_are_as_listed.Goals as goal
-
-pub returns : goal.returns
-returns c = brought_as_listed

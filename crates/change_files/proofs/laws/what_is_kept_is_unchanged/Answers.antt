@@ -1,5 +1,0 @@
-use Rattle.change_files.proofs.Untouched.{is_spared}
-use Rattle.change_files.proofs.laws.what_is_kept_is_unchanged.Goals as goal
-
-pub returns : goal.returns
-returns c = is_spared

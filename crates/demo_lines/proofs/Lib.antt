@@ -1,3 +1,0 @@
-pub mod Lengths
-mod Numbers
-pub mod Worked

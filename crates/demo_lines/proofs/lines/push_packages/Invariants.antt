@@ -1,7 +1,0 @@
-use Rattle.std.proofs.Common.{◌≡◌, ◌++◌}
-use Rattle.demo_lines.specs.Lines.{demo_package_paths}
-use Rattle.demo_lines.proofs.lines.push_packages.Given as goal
-
--- the packages so far
-abbrev pub invariant-loop-i : goal.invariant-loop-i
-invariant-loop-i l = l.words ≡ l.fn.words ++ demo_package_paths l.i

@@ -1,6 +1,0 @@
-use Rattle.std.proofs.Common.{rules}
-use Rattle.demo_lines.proofs.Lengths.{few_names}
-use Rattle.demo_lines.proofs.lines.push_top_names.Goals as goal
-
-pub push_if_top-requires : goal.push_if_top-requires
-push_if_top-requires c = few_names c.loop-i.words c.args.words.now c.args.n c.loop-i.i c.args.n c.loop-i.invariant c.requires (search rules) c.ranges.n.fits

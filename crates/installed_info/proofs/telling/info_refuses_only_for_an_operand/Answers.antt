@@ -1,8 +1,0 @@
-use Rattle.installed_info.proofs.Refusing.{info_late, info_refused}
-use Rattle.installed_info.proofs.telling.info_refuses_only_for_an_operand.Goals as goal
-
-pub returns-clause-refused : goal.returns-clause-refused
-returns-clause-refused c = info_refused
-
-pub returns-clause-following_refusal : goal.returns-clause-following_refusal
-returns-clause-following_refusal c = info_late
