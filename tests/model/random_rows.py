@@ -1,5 +1,6 @@
 #!/usr/bin/env python3
-"""Rows of random containers for crates/damage_tests, with the answers of verify.py.
+"""Rows of random containers for the topic `damage` of crates/container_tests, with the answers of
+verify.py.
 
     python3 tests/model/random_rows.py SEED COUNT [ODDS]
 
@@ -270,6 +271,7 @@ def text_of(test, file):
 
 def main(words):
     rng, odds = random.Random(int(words[0])), float(words[2]) if len(words) > 2 else 0.02
+    print("topic damage ->")
     for _ in range(int(words[1])):
         file = Maker(rng, odds).file_of(rng.choice([PACKAGE, PACKAGE, INDEX, DATABASE, INTENT]))
         answer = verify.answer_text(text_of(verify.verify, file))

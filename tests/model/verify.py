@@ -1,8 +1,9 @@
 #!/usr/bin/env python3
-"""A second reader of containers, written from docs/formats.md alone, and the rows of
-crates/damage_tests that it works out.
+"""A second reader of containers, written from docs/formats.md alone, and the rows of the topic
+`damage` of crates/container_tests that it works out.
 
-    python3 tests/model/verify.py > crates/damage_tests/stdin     writes the rows
+    python3 tests/model/verify.py                                writes the rows to the file `stdin`
+    python3 tests/model/verify.py rows                           prints the rows
     python3 tests/model/verify.py verify FILE                    the first failed test, or `sound`
     python3 tests/model/verify.py dump FILE                      the text, or the first failed test
     python3 tests/model/verify.py answers NAME SWEEP [dump]      every answer of a sweep
@@ -15,6 +16,7 @@ It shares no code with the program: where the two differ, one of them is wrong.
 """
 
 import hashlib
+import os
 import re
 import struct
 import sys
@@ -686,25 +688,46 @@ SWEEPS = {"changes": changed_files, "words": word_files, "cuts": cut_files}
 TESTS = {"verify": verify, "dump": dump}
 
 
-def write_rows():
-    print("# Each byte of a small container set to each value, each word to each other, each cut.")
-    print("# The answers are those of tests/model/verify.py, which writes this file.")
-    print("# `tests/lines.md` describes the form.")
+STDIN = os.path.join(os.path.dirname(os.path.abspath(__file__)),
+                     "../../crates/container_tests/stdin")
+TOPIC = "topic damage ->\n"
+
+
+def rows():
+    """The rows of the topic `damage`, in several texts."""
+    yield (TOPIC + "\n"
+           "# Each byte of a small container set to each value, each word to each other, each cut.\n"
+           "# The answers are those of tests/model/verify.py, which writes these rows.\n"
+           "# `tests/lines.md` describes the form.\n")
     for name, make in CONTAINERS.items():
         file = make()
-        print(f"\n# {name}: {len(file)} bytes.\ncontainer {row_text(file)} ->")
-        print(f"verify -> sound\\n\npieces -> sound\\n\ndump -> {answer_text(dump(file))}\\n")
+        yield f"\n# {name}: {len(file)} bytes.\ncontainer {row_text(file)} ->\n"
+        yield f"verify -> sound\\n\npieces -> sound\\n\ndump -> {answer_text(dump(file))}\\n\n"
         for sweep_name, sweep in SWEEPS.items():
             answer = sweep_answer(verify, sweep(file))
-            print(f"verify_{sweep_name} -> {answer}\npieces_{sweep_name} -> {answer}")
-            print(f"dump_{sweep_name} -> {sweep_answer(dump, sweep(file))}")
-        sys.stdout.flush()
+            yield f"verify_{sweep_name} -> {answer}\npieces_{sweep_name} -> {answer}\n"
+            yield f"dump_{sweep_name} -> {sweep_answer(dump, sweep(file))}\n"
+
+
+def write_rows():
+    """Replaces the rows of the topic `damage`, which are the last ones of the file `stdin`."""
+    with open(STDIN, encoding="utf-8") as opened:
+        others, topic, _ = opened.read().partition(TOPIC)
+    if not topic:
+        sys.exit(f"{STDIN} has no topic `damage`")
+    found = "".join(rows())
+    with open(STDIN, "w", encoding="utf-8") as opened:
+        opened.write(others + found)
 
 
 def main(words):
     if not words:
         return write_rows()
-    if words[0] in TESTS:
+    if words[0] == "rows":
+        for text in rows():
+            sys.stdout.write(text)
+            sys.stdout.flush()
+    elif words[0] in TESTS:
         with open(words[1], "rb") as opened:
             file = opened.read()
         for kind, line in answers(TESTS[words[0]], [("", file)]):

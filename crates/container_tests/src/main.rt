@@ -1,14 +1,19 @@
-//! Answers questions about the parts of a container: its blocks, the values that writers write, and
-//! the tests and views of payloads. All rows (questions with their expected answers) are in the
-//! file `stdin` of this crate; `tests/lines.md` describes their form. The README of this crate has
-//! a row for each question.
+//! Answers questions about the parts of a container: its blocks, the values that writers write, the
+//! tests and views of payloads, and the files of packages in pieces. Other questions are about
+//! damaged containers. All rows (questions with their expected answers) are in the file `stdin` of
+//! this crate; `tests/lines.md` describes their form. The README of this crate has a row for each
+//! question.
 #![tactic(auto)]
 
 mod blocks;
+mod damage;
+mod pieces;
 mod schemas;
 mod writers;
 
 use crate::blocks::FramedBlocks;
+use crate::damage::CurrentContainer;
+use crate::pieces::Files;
 use crate::schemas::CurrentPayload;
 use crate::writers::Containers;
 use base_core::Words;
@@ -26,14 +31,20 @@ enum Topic {
     Writers,
     /// The values of a payload, their tests and their views.
     Schemas,
+    /// The contents of a package's files, which are read in pieces.
+    Pieces,
+    /// Damaged containers.
+    Damage,
 }
 
 // The words for the topics.
 #[rattlefmt::skip]
-const TOPICS: [(&[u8], Topic); 3] = [
+const TOPICS: [(&[u8], Topic); 5] = [
     (b"blocks", Topic::Blocks),
     (b"writers", Topic::Writers),
     (b"schemas", Topic::Schemas),
+    (b"pieces", Topic::Pieces),
+    (b"damage", Topic::Damage),
 ];
 
 /// The topic of the rows, and what the rows of each topic keep from one row to the next.
@@ -43,6 +54,8 @@ struct Parts {
     topic: Option<Topic>,
     /// The payload that questions are about.
     payload: CurrentPayload,
+    /// The container that is damaged.
+    container: CurrentContainer,
 }
 
 impl Subject for Parts {
@@ -62,6 +75,8 @@ impl Subject for Parts {
             Some(Topic::Blocks) => FramedBlocks.answer(alloc, words, answer),
             Some(Topic::Writers) => Containers.answer(alloc, words, answer),
             Some(Topic::Schemas) => self.payload.answer(alloc, words, answer),
+            Some(Topic::Pieces) => Files.answer(alloc, words, answer),
+            Some(Topic::Damage) => self.container.answer(alloc, words, answer),
             None => {
                 answer.push(b"no topic");
                 Ok(())
@@ -76,6 +91,7 @@ fn main(rt: HostRuntime) -> io::Result<ExitCode> {
     let mut subject = Parts {
         topic: None,
         payload: CurrentPayload::new(alloc),
+        container: CurrentContainer::new(alloc),
     };
     run_program(&rt, alloc, &mut subject)
 }

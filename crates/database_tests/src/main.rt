@@ -1,14 +1,18 @@
-//! Answers questions about installed packages: the database that lists them, and the packages that
-//! own files. All rows (questions with their expected answers) are in the file `stdin` of this
-//! crate; `tests/lines.md` describes their form. The README of this crate has a row for each
-//! question.
+//! Answers questions about installed packages: the database that lists them, the packages that own
+//! files, and what a change does with files. All rows (questions with their expected answers) are
+//! in the file `stdin` of this crate; `tests/lines.md` describes their form. The README of this
+//! crate has a row for each question.
 #![tactic(auto)]
 
 mod databases;
+mod members;
 mod owners;
+mod plans;
+mod split;
 
 use crate::databases::Installed;
 use crate::owners::AddedPackages;
+use crate::plans::Planned;
 use base_core::Words;
 use row_lines::{Answer, Subject, run_program, value_named, word_at};
 use std::alloc::{AllocError, Global};
@@ -22,13 +26,16 @@ enum Topic {
     Databases,
     /// The packages that own files.
     Owners,
+    /// What a change does with files.
+    Plans,
 }
 
 // The words for the topics.
 #[rattlefmt::skip]
-const TOPICS: [(&[u8], Topic); 2] = [
+const TOPICS: [(&[u8], Topic); 3] = [
     (b"databases", Topic::Databases),
     (b"owners", Topic::Owners),
+    (b"plans", Topic::Plans),
 ];
 
 /// The topic of the rows, and what the rows of each topic keep from one row to the next.
@@ -40,6 +47,8 @@ struct Packages {
     installed: Installed,
     /// The packages that a change adds.
     added: AddedPackages,
+    /// The change whose files are planned, and the plan.
+    planned: Planned,
 }
 
 impl Subject for Packages {
@@ -58,6 +67,7 @@ impl Subject for Packages {
         match self.topic {
             Some(Topic::Databases) => self.installed.answer(alloc, words, answer),
             Some(Topic::Owners) => self.added.answer(alloc, words, answer),
+            Some(Topic::Plans) => self.planned.answer(alloc, words, answer),
             None => {
                 answer.push(b"no topic");
                 Ok(())
@@ -73,6 +83,7 @@ fn main(rt: HostRuntime) -> io::Result<ExitCode> {
         topic: None,
         installed: Installed::new(alloc),
         added: AddedPackages::new(alloc),
+        planned: Planned::new(alloc),
     };
     run_program(&rt, alloc, &mut subject)
 }

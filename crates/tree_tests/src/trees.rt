@@ -1,197 +1,187 @@
-//! Answers about names and a tree in memory: what is put and read, and which calls are planned to
-//! fail. The rules are in `docs/crash-safety.md`, "A tree at one moment" and "Misuses, faults and
-//! counts".
+//! Answers questions to `base_core` and `tree_memory`: names and lists of names, and a sink (output
+//! stream) in memory; a tree in memory with its misuses (invalid calls), its planned failures, and
+//! the files that a crash leaves of it. The tree and the sink are kept from one row to the next.
 
-use crate::calls::{Call, add_call, ok_or_failed};
-use base_core::{Name, Names, Tree, Words, read_all};
-use row_lines::{Answer, number_of, word_at};
+mod calls;
+mod files;
+
+use crate::trees::calls::{Call, add_written, make_turns};
+use crate::trees::files::{
+    FileQuestion, add_counts, add_file_answer, add_is_name, add_names, add_tree, long_at,
+    plan_failures,
+};
+use base_core::{Name, Sink, Tree, Words, write_all};
+use row_lines::{Answer, Subject, value_named, word_at};
 use std::alloc::{AllocError, Global};
-use tree_memory::MemoryTree;
+use tree_memory::{MemorySink, MemoryTree};
 
-/// The most bytes that a row reads at once.
-const LONGEST: u64 = 4096;
-
-/// The questions about the file of a name.
+/// The questions of rows; the README of this crate says what each question answers.
 #[derive(Clone, Copy)]
-pub(crate) enum FileQuestion {
-    /// `put NAME BYTES`: whether the tree can have a file under the name. If it can, the file is
-    /// put there.
-    Put,
-    /// `can_put NAME`: whether the tree can have a file under the name.
-    CanPut,
-    /// `file NAME`: the bytes of the file.
-    Bytes,
-    /// `size NAME`: the length of the file.
-    Size,
-    /// `read NAME AT LEN`: LEN bytes of the file from the offset AT on.
-    Read,
-    /// `list NAME`: the names below the folder NAME.
-    List,
-    /// Calls that change the file, or sync it: `create NAME`, `append NAME BYTES`, `sync NAME`,
-    /// `remove NAME`, `rename NAME NAME`.
-    Call(Call),
+enum Question {
+    /// `name TEXT`: whether TEXT is a valid name.
+    Name,
+    /// `names WORD ..`: which words are valid names.
+    Names,
+    /// Questions and calls to the sink.
+    Sink(SinkQuestion),
+    /// `new_tree`: the tree is replaced by an empty one.
+    NewTree,
+    /// `fail_at N ..`: which later calls on the tree fail.
+    FailAt,
+    /// `stop_after N`: after which call all calls on the tree fail.
+    StopAfter,
+    /// `counts`: the counts of calls on the tree, and of maps of names.
+    Counts,
+    /// `image N`: the files of the possible crash image with the number N.
+    Image,
+    /// `turns N HERE THERE`: a file is renamed to THERE and back, N times.
+    Turns,
+    /// `sync_names`: the names of the tree are synced.
+    SyncNames,
+    /// Questions about the file of a name, which is the second word of the row.
+    File(FileQuestion),
 }
 
-/// Answers a question about the file of a name, or makes the call on the tree that the row names.
-/// Further words of the row are arguments.
-pub(crate) fn add_file_answer(
-    alloc: Global,
-    tree: &mut MemoryTree,
-    question: FileQuestion,
-    name: &Name,
-    words: &Words,
-    answer: &mut Answer,
-) -> Result<(), AllocError> {
-    match question {
-        FileQuestion::Put => {
-            let can = tree.can_put(name);
-            if can {
-                tree.put(name, word_at(words, 2))?;
+/// The questions and calls to the sink.
+#[derive(Clone, Copy)]
+enum SinkQuestion {
+    /// `new_sink`: the sink is replaced by an empty one.
+    New,
+    /// `fail_after N`: the sink fails after N more bytes.
+    FailAfter,
+    /// `take_at_most N`: the sink takes at most N bytes of each write.
+    TakeAtMost,
+    /// `write BYTES`: how many of the bytes the sink takes in one write.
+    Write,
+    /// `write_all BYTES`: whether the sink takes all of the bytes.
+    WriteAll,
+    /// `sink_bytes`: the bytes that the sink took, and how often the sink ran out of memory.
+    BytesAndWants,
+}
+
+// The first word of each question.
+#[rattlefmt::skip]
+const QUESTIONS: [(&[u8], Question); 26] = [
+    // Questions about names.
+    (b"name", Question::Name),
+    (b"names", Question::Names),
+    // Questions and calls to the sink.
+    (b"new_sink", Question::Sink(SinkQuestion::New)),
+    (b"fail_after", Question::Sink(SinkQuestion::FailAfter)),
+    (b"take_at_most", Question::Sink(SinkQuestion::TakeAtMost)),
+    (b"write", Question::Sink(SinkQuestion::Write)),
+    (b"write_all", Question::Sink(SinkQuestion::WriteAll)),
+    (b"sink_bytes", Question::Sink(SinkQuestion::BytesAndWants)),
+    // Questions and calls to the tree.
+    (b"new_tree", Question::NewTree),
+    (b"fail_at", Question::FailAt),
+    (b"stop_after", Question::StopAfter),
+    (b"counts", Question::Counts),
+    (b"image", Question::Image),
+    (b"turns", Question::Turns),
+    (b"sync_names", Question::SyncNames),
+    // Questions about a file of the tree.
+    (b"put", Question::File(FileQuestion::Put)),
+    (b"can_put", Question::File(FileQuestion::CanPut)),
+    (b"file", Question::File(FileQuestion::Bytes)),
+    (b"size", Question::File(FileQuestion::Size)),
+    (b"read", Question::File(FileQuestion::Read)),
+    (b"list", Question::File(FileQuestion::List)),
+    // Calls that change a file of the tree, or sync it.
+    (b"create", Question::File(FileQuestion::Call(Call::Create))),
+    (b"append", Question::File(FileQuestion::Call(Call::Append))),
+    (b"sync", Question::File(FileQuestion::Call(Call::Sync))),
+    (b"remove", Question::File(FileQuestion::Call(Call::Remove))),
+    (b"rename", Question::File(FileQuestion::Call(Call::Rename))),
+];
+
+/// The tree and the sink on which all rows work.
+#[derive(Drop)]
+pub(crate) struct InMemory {
+    /// The tree, as earlier rows have left it.
+    tree: MemoryTree,
+    /// The sink, as earlier rows have left it.
+    sink: MemorySink,
+}
+
+impl InMemory {
+    /// The tree and the sink before the first row; both are empty.
+    pub(crate) fn new(alloc: Global) -> InMemory {
+        InMemory {
+            tree: MemoryTree::new(alloc),
+            sink: MemorySink::new(alloc),
+        }
+    }
+}
+
+impl Subject for InMemory {
+    // Answers a question, which the first word of the row names, on the tree and the sink as
+    // earlier rows have left them.
+    fn answer(
+        &mut self,
+        alloc: Global,
+        words: &Words,
+        answer: &mut Answer,
+    ) -> Result<(), AllocError> {
+        let Some(question) = value_named(&QUESTIONS, word_at(words, 0)) else {
+            answer.push(b"no question");
+            return Ok(());
+        };
+        match question {
+            Question::Name => return add_is_name(alloc, word_at(words, 1), answer),
+            Question::Names => return add_names(alloc, words, answer),
+            Question::Sink(question) => {
+                add_sink_answer(alloc, &mut self.sink, question, words, answer)
             }
-            answer.add_yes_or_no(can)
+            Question::NewTree => self.tree = MemoryTree::new(alloc),
+            Question::FailAt => return plan_failures(alloc, &mut self.tree, words),
+            Question::StopAfter => self.tree.stop_after(long_at(words, 1)),
+            Question::Counts => add_counts(alloc, &self.tree, answer),
+            Question::Image => {
+                let image = self.tree.pick_image(alloc, long_at(words, 1))?;
+                add_tree(alloc, &image, answer)?;
+                add_counts(alloc, &image, answer)
+            }
+            Question::Turns => return make_turns(alloc, &mut self.tree, words),
+            Question::SyncNames => {
+                let outcome = self.tree.sync_names();
+                return add_written(alloc, &self.tree, outcome, answer);
+            }
+            Question::File(question) => match Name::read(alloc, word_at(words, 1))? {
+                Some(name) => {
+                    return add_file_answer(alloc, &mut self.tree, question, &name, words, answer);
+                }
+                None => answer.push(b"no name"),
+            },
         }
-        FileQuestion::CanPut => answer.add_yes_or_no(tree.can_put(name)),
-        FileQuestion::Bytes => add_file(alloc, tree, name, answer),
-        FileQuestion::Size => match tree.size(name) {
-            Ok(Some(size)) => answer.add_number(u128::from(size)),
-            Ok(None) => answer.push(b"absent"),
+        Ok(())
+    }
+}
+
+// Answers a question to the sink, or makes the call on the sink that the row names.
+fn add_sink_answer(
+    alloc: Global,
+    sink: &mut MemorySink,
+    question: SinkQuestion,
+    words: &Words,
+    answer: &mut Answer,
+) {
+    match question {
+        SinkQuestion::New => *sink = MemorySink::new(alloc),
+        SinkQuestion::FailAfter => sink.fail_after(long_at(words, 1) as usize),
+        SinkQuestion::TakeAtMost => sink.take_at_most((long_at(words, 1) as usize).max(1)),
+        SinkQuestion::Write => match sink.write(word_at(words, 1)) {
+            Ok(taken) => answer.add_number(taken as u128),
             Err(_) => answer.push(b"failed"),
         },
-        FileQuestion::Read => return add_read(alloc, tree, name, words, answer),
-        FileQuestion::List => match tree.list(alloc, name) {
-            Ok(names) => add_each(&names, answer),
+        SinkQuestion::WriteAll => match write_all(sink, word_at(words, 1)) {
+            Ok(()) => answer.push(b"all"),
             Err(_) => answer.push(b"failed"),
         },
-        FileQuestion::Call(call) => {
-            return add_call(alloc, tree, call, name, word_at(words, 2), answer);
+        SinkQuestion::BytesAndWants => {
+            answer.push(sink.bytes());
+            answer.add_word(b"wants ");
+            answer.add_number(u128::from(sink.wants()))
         }
-    }
-    Ok(())
-}
-
-/// Answers `file NAME`: adds the bytes of the file, or `differs` if `read_all` reads other bytes
-/// than `file` returns.
-fn add_file(alloc: Global, tree: &mut MemoryTree, name: &Name, answer: &mut Answer) {
-    let Ok(whole) = read_all(alloc, tree, name) else {
-        return answer.push(b"failed");
-    };
-    let file = tree.file(name);
-    if whole.as_deref() == file {
-        answer.push(file.unwrap_or(b"absent"))
-    } else {
-        answer.push(b"differs")
-    }
-}
-
-/// Answers `read NAME AT LEN`: reads LEN bytes of the file, from the offset AT on, into a buffer of
-/// digits `7`. Adds whether the read succeeded, the buffer, and the length of the longest read so
-/// far.
-fn add_read(
-    alloc: Global,
-    tree: &mut MemoryTree,
-    name: &Name,
-    words: &Words,
-    answer: &mut Answer,
-) -> Result<(), AllocError> {
-    let len = long_at(words, 3).min(LONGEST) as usize;
-    // The buffer; bytes that the read does not write stay `7`.
-    let mut into = Vec::from_elem(alloc, b'7', len)?;
-    let outcome = tree.read_at(name, long_at(words, 2), &mut into);
-    answer.push(ok_or_failed(outcome));
-    answer.add_word(&into);
-    // Adds the space between the bytes and the number.
-    answer.add_word(b"");
-    answer.add_number(u128::from(tree.longest_read()));
-    Ok(())
-}
-
-/// Plans that the later calls on the tree with the numbers in the row fail (`fail_at N ..`).
-pub(crate) fn plan_failures(
-    alloc: Global,
-    tree: &mut MemoryTree,
-    words: &Words,
-) -> Result<(), AllocError> {
-    let mut calls = Vec::new(alloc);
-    for i in 1..words.len() {
-        calls.push(long_at(words, i))?;
-    }
-    tree.fail_at(&calls)
-}
-
-/// Adds how many calls on the tree were made, and how many of them wrote, failed, and ran out of
-/// memory (`wants`). Then adds the length of the longest read, and the number of the tree's maps of
-/// names.
-pub(crate) fn add_counts(alloc: Global, tree: &MemoryTree, answer: &mut Answer) {
-    let (calls, writes, faults) = (tree.calls(), tree.writes(), tree.faults());
-    let (wants, longest, maps) = (tree.wants(), tree.longest_read(), tree.maps());
-    // Adds the space before the counts, if the answer is not empty.
-    answer.add_word(b"");
-    answer.add_text(format!(in alloc;
-        "calls {calls} writes {writes} faults {faults} wants {wants} longest {longest} maps {maps}"
-    ))
-}
-
-/// Adds each name in the tree with the bytes of its file.
-pub(crate) fn add_tree(
-    alloc: Global,
-    tree: &MemoryTree,
-    answer: &mut Answer,
-) -> Result<(), AllocError> {
-    let names = tree.names(alloc)?;
-    for i in 0..names.len() {
-        let name = names.get(i);
-        answer.add_named(name.as_bytes(), tree.file(name).unwrap_or(b"absent"));
-    }
-    Ok(())
-}
-
-/// Answers `name TEXT`: adds whether TEXT is a valid name. If it is, the answer is yes only if the
-/// name and a copy of the name have the bytes of TEXT.
-pub(crate) fn add_is_name(
-    alloc: Global,
-    text: &[u8],
-    answer: &mut Answer,
-) -> Result<(), AllocError> {
-    let is_name = match Name::read(alloc, text)? {
-        Some(name) => {
-            let copied = name.copy(alloc)?;
-            name.as_bytes() == text && copied.as_bytes() == text
-        }
-        None => false,
-    };
-    answer.add_yes_or_no(is_name);
-    Ok(())
-}
-
-/// The number in the word of the row with the index `i`, counted from 0; 0 if the word is no number
-/// of 64 bits.
-pub(crate) fn long_at(words: &Words, i: usize) -> u64 {
-    match number_of(word_at(words, i)) {
-        Some(number) => u64::try_from(number).unwrap_or(0),
-        None => 0,
-    }
-}
-
-/// Answers `names WORD ..`: adds how many of the words are valid names, and each of these names.
-pub(crate) fn add_names(
-    alloc: Global,
-    words: &Words,
-    answer: &mut Answer,
-) -> Result<(), AllocError> {
-    let mut names = Names::new(alloc);
-    for i in 1..words.len() {
-        if let Some(name) = Name::read(alloc, word_at(words, i))? {
-            names.push(name)?;
-        }
-    }
-    answer.add_number(names.len() as u128);
-    add_each(&names, answer);
-    Ok(())
-}
-
-/// Adds each name of a list, in its order.
-fn add_each(names: &Names, answer: &mut Answer) {
-    for i in 0..names.len() {
-        answer.add_word(names.get(i).as_bytes());
     }
 }

@@ -1,12 +1,12 @@
 //! Computes the database after a change that the words of a row describe. The rules are in
 //! `docs/formats.md`, "The database after a change".
+use crate::members::{add_coming, add_installed, front_of, name_at};
 use adb_schema::ReadFault;
 use adb_write::WriteFault;
 use base_core::Words;
 use db_core::{Db, Members, Owned};
 use db_core::write_db;
 use pkg_core::Front;
-use row_members::{add_coming, add_installed, front_of, name_at};
 use std::alloc::{AllocError, Global};
 use std::marker::PhantomData;
 

@@ -1,12 +1,12 @@
 //! The answer to the question `owners`: who owns the files of the added packages, as text. The
 //! rules are in `docs/commands.md`, "Files that several packages list".
 
+use crate::members::{add_coming, front_of};
 use adb_schema::FilePath;
 use db_core::{Db, MOST_MEMBERS, Members};
 use file_owners::{Owners, owners_of_files};
 use pkg_core::Front;
 use row_lines::Answer;
-use row_members::{add_coming, front_of};
 use std::alloc::{AllocError, Global};
 
 /// Adds to the answer who owns the files of the packages in these containers, or why this cannot be

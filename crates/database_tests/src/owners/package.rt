@@ -1,6 +1,7 @@
 //! The containers of the packages that rows describe. Each container is made from a dump text
 //! (`docs/formats.md`, "Dump text"); the README of this crate says how a row gives a package.
 
+use crate::split::{folder_and_name, split_at_first};
 use base_core::Words;
 use gen_core::{GenFault, gen_};
 use row_lines::word_at;
@@ -85,26 +86,4 @@ fn add_files(dump: &mut Vec<u8>, paths: &[u8]) -> Result<(), AllocError> {
         dump.extend_from_slice(FILE_LINES)?;
     }
     Ok(())
-}
-
-/// The text before the first byte `mark`, and the text after it. Without such a byte, the whole
-/// text and an empty one.
-fn split_at_first(text: &[u8], mark: u8) -> (&[u8], &[u8]) {
-    for i in 0..text.len() {
-        if text[i] == mark {
-            return (&text[..i], &text[i + 1..]);
-        }
-    }
-    (text, b"")
-}
-
-/// The folder of a path, before its last slash, and the name after it. Without a slash the folder
-/// is empty.
-fn folder_and_name(path: &[u8]) -> (&[u8], &[u8]) {
-    for i in (0..path.len()).rev() {
-        if path[i] == b'/' {
-            return (&path[..i], &path[i + 1..]);
-        }
-    }
-    (b"", path)
 }

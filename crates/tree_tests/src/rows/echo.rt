@@ -1,23 +1,14 @@
-//! Tests the reports of `row_run`: of texts that are not spelled as rows, and of rows that fail.
-//! The faults are in `tests/rows.md`, "A text that is none", and what is compared in "Lines" and
-//! "What goes wrong".
-//!
-//! Standard input has texts of rows, each after a line `==== NAME`. The rows of each text run with
-//! the program `Echo`, which prints each word on a line, and returns the status 1 if there is no
-//! word. Some words make this program do what no program should do. If the last line of a text is
-//! `\`, the line before it has no line end.
-#![tactic(auto)]
+//! The program whose runs the texts of rows describe. It prints each word on a line, and returns the
+//! status 1 if there is no word. Some words make this program do what no program should do.
 
 use base_core::{Disk, Name, Tree, Words, write_all};
-use row_run::{Program, run_text};
+use row_run::Program;
 use std::alloc::{AllocError, Global};
-use std::io;
-use std::io::{Read, Write};
 use tree_memory::{MemorySink, MemoryTree};
 
 /// A program for these tests, which prints its words. Some words also make it change the tree
 /// (`act`).
-struct Echo;
+pub(crate) struct Echo;
 
 impl Program for Echo {
     /// Does with the tree what the words say, and prints the words. With some words, this program
@@ -143,68 +134,4 @@ fn recover(alloc: Global, tree: &mut MemoryTree) -> Result<(), Disk> {
         tree.append(&growing, b"x")?;
     }
     Ok(())
-}
-
-/// The state after some lines of standard input: the lines of the current case (one text of rows),
-/// and the report.
-#[derive(Drop)]
-struct Cases {
-    /// Where memory is taken.
-    alloc: Global,
-    /// The lines of the current case so far.
-    text: Vec<u8>,
-    /// The reports of all cases so far.
-    report: Vec<u8>,
-}
-
-impl Cases {
-    /// Adds a line to the current case. A line `==== NAME` ends this case and begins the next one.
-    fn add(&mut self, line: &[u8]) -> Result<(), AllocError> {
-        match line.strip_prefix(b"==== ") {
-            Some(name) => {
-                self.end()?;
-                self.report.extend_from_slice(name)?;
-                self.report.extend_from_slice(b":\n")
-            }
-            None => {
-                self.text.extend_from_slice(line)?;
-                self.text.extend_from_slice(b"\n")
-            }
-        }
-    }
-
-    /// Ends the current case: runs its rows, and adds their report.
-    fn end(&mut self) -> Result<(), AllocError> {
-        if !self.text.is_empty() {
-            let text = case_text(&self.text);
-            run_text(self.alloc, &Echo, text, &mut self.report)?;
-        }
-        self.text.clear();
-        Ok(())
-    }
-}
-
-/// The text of a case. A last line `\` is removed, together with the line end before it.
-fn case_text(text: &[u8]) -> &[u8] {
-    match text.strip_suffix(b"\n\\\n") {
-        Some(cut) => cut,
-        None => text,
-    }
-}
-
-/// Runs each case of standard input, and prints the reports.
-fn main(rt: HostRuntime) -> io::Result<()> {
-    let alloc = rt.alloc();
-    let mut text = Vec::new(alloc);
-    rt.stdin().read_to_end(&mut text)?;
-    let mut cases = Cases {
-        alloc,
-        text: Vec::new(alloc),
-        report: Vec::new(alloc),
-    };
-    for line in text.split(|byte| *byte == b'\n') {
-        cases.add(line)?;
-    }
-    cases.end()?;
-    rt.stdout().write_all(&cases.report)
 }

@@ -1,8 +1,9 @@
 //! Changes of packages, which are described by rows, and the plans of their files. `tests/lines.md`
 //! describes how a row gives a package; the rules of plans are in `docs/commands.md`, "What a
 //! change does with files".
-use crate::answer::{add_fault, add_files};
-use crate::package::database_file;
+use crate::members::{add_coming, add_installed};
+use crate::plans::answer::{add_fault, add_files};
+use crate::plans::package::database_file;
 use adb_schema::ReadFault;
 use base_core::Words;
 use db_core::{Db, Members};
@@ -10,13 +11,12 @@ use db_core::write_db;
 use own_core::plan;
 use pkg_core::Front;
 use row_lines::Answer;
-use row_members::{add_coming, add_installed};
 use std::alloc::{AllocError, Global};
 use tree_memory::MemoryTree;
 
 /// A change that rows describe: the packages before it and after it.
 #[derive(Drop)]
-pub struct ToldChange {
+pub(crate) struct ToldChange {
     /// The installed packages before the change, each as the words of its row.
     pub before: Vec<Words>,
     /// The packages after the change.
@@ -25,7 +25,7 @@ pub struct ToldChange {
 
 /// A package after a change.
 #[derive(Drop)]
-pub enum PackageAfter {
+pub(crate) enum PackageAfter {
     /// The installed package with this name is kept.
     Kept(Vec<u8>),
     /// The package with this front (header and first block) is added. A package that fails a test

@@ -1,6 +1,6 @@
 //! Calls on a tree in memory that write: whether each succeeds, and what is in the tree then. The
 //! rules are in `docs/crash-safety.md`, "What each call does" and "Misuses, faults and counts".
-use crate::trees::{add_tree, long_at};
+use crate::trees::files::{add_tree, long_at};
 use base_core::{Disk, Name, Tree, Words};
 use row_lines::{Answer, word_at};
 use std::alloc::{AllocError, Global};

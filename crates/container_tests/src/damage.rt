@@ -1,23 +1,19 @@
-//! Tests of damaged containers: each byte of a small container is set to each value, each word
-//! (four bytes) is replaced by each other word, and the file is cut off at each length. An answer
-//! counts the results by their kinds, and has a digest over all results. All rows (questions with
-//! their expected answers) are in the file `stdin` of this crate; `tests/model/verify.py` computes
-//! these answers, and `tests/lines.md` describes the form of rows. A container is kept from one row
-//! to the next. The README of this crate has a row for each question.
-#![tactic(auto)]
+//! Answers questions about damaged containers: each byte of a small container is set to each value,
+//! each word (four bytes) is replaced by each other word, and the file is cut off at each length.
+//! An answer counts the results by their kinds, and has a digest over all results. The script
+//! `tests/model/verify.py` computes the expected answers. A container is kept from one row to the
+//! next.
 
 ghost use Rattle.std.specs.Prelude.{◌+◌, ◌≤◌, length};
 
 mod reading;
 mod tally;
 
+use crate::damage::reading::Test;
+use crate::damage::tally::Tally;
 use base_core::Words;
-use reading::Test;
-use row_lines::{Answer, Subject, run_program, value_named, word_at};
+use row_lines::{Answer, Subject, value_named, word_at};
 use std::alloc::{AllocError, Global};
-use std::io;
-use std::process::ExitCode;
-use tally::Tally;
 
 /// The kinds of questions, each with the way in which files are tested.
 #[derive(Clone, Copy)]
@@ -62,9 +58,18 @@ const QUESTIONS: [(&[u8], Question); 13] = [
 
 /// The container that the last row `container` has given.
 #[derive(Drop)]
-struct CurrentContainer {
+pub(crate) struct CurrentContainer {
     /// The bytes of the container; empty before the first row `container`.
     bytes: Vec<u8>,
+}
+
+impl CurrentContainer {
+    /// No container yet: it has no bytes.
+    pub(crate) fn new(alloc: Global) -> CurrentContainer {
+        CurrentContainer {
+            bytes: Vec::new(alloc),
+        }
+    }
 }
 
 impl Subject for CurrentContainer {
@@ -168,13 +173,4 @@ fn read_words_at(
         tally.add(alloc, test, format!(in alloc; "{at} {from} "), &changed)?;
     }
     Ok(())
-}
-
-/// Answers the rows of standard input, one after another.
-fn main(rt: HostRuntime) -> io::Result<ExitCode> {
-    let alloc = rt.alloc();
-    let mut container = CurrentContainer {
-        bytes: Vec::new(alloc),
-    };
-    run_program(&rt, alloc, &mut container)
 }

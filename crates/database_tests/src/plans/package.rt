@@ -2,13 +2,14 @@
 //! describes how a row gives a package; the fields are in `docs/formats.md`, "Schemas". Fields
 //! count from 1 there, and from 0 here.
 
+use crate::members::front_of;
+use crate::split::{folder_and_name, split_at_first};
 use adb_schema::{IDB_WORD, PACKAGE_WORD};
 use adb_view::Val;
 use adb_write::{Writer, file_in_place};
 use base_core::Words;
 use pkg_core::Front;
 use row_lines::{number_of, word_at};
-use row_members::front_of;
 use sha1::Sha1;
 use sha2::{Digest, Sha256};
 use std::alloc::{AllocError, Global};
@@ -191,26 +192,4 @@ fn path_and_description(file: &[u8]) -> (&[u8], &[u8]) {
         }
     }
     (file, b"")
-}
-
-/// The text before the first byte `mark`, and the text after it. Without such a byte, the whole
-/// text and an empty one.
-fn split_at_first(text: &[u8], mark: u8) -> (&[u8], &[u8]) {
-    for i in 0..text.len() {
-        if text[i] == mark {
-            return (&text[..i], &text[i + 1..]);
-        }
-    }
-    (text, b"")
-}
-
-/// The folder of a path, before its last slash, and the name after it. Without a slash the folder
-/// is empty.
-fn folder_and_name(path: &[u8]) -> (&[u8], &[u8]) {
-    for i in (0..path.len()).rev() {
-        if path[i] == b'/' {
-            return (&path[..i], &path[i + 1..]);
-        }
-    }
-    (b"", path)
 }

@@ -1,8 +1,8 @@
 //! The ways to test a file: by all tests of a container, or by printing its text. Each adds its
-//! result as a line. The tests are in
-//! `docs/formats.md`, "Tests of a container", and the printed text in "Dump text".
+//! result as a line. The tests are in `docs/formats.md`, "Tests of a container", and the printed
+//! text in "Dump text".
 
-use crate::tally::{AnswerKind, kind_of};
+use crate::damage::tally::{AnswerKind, kind_of};
 use adb_block::Blocks;
 use adb_dump::dump;
 use adb_schema::{ReadFault, Shaped, shape};

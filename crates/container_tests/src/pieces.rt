@@ -1,9 +1,6 @@
 //! Answers questions about `pkg_core`, `package_reader` and `package_verifier`: the contents of a
 //! file in pieces, and a block of contents that names a file; the front (header and first block) of
-//! a package, and the pieces of all its files in a tree. All rows (questions with their expected
-//! answers) are in the file `stdin` of this crate; `tests/lines.md` describes their form. The
-//! README of this crate has a row for each question.
-#![tactic(auto)]
+//! a package, and the pieces of all its files in a tree.
 
 ghost use Rattle.std.specs.Prelude.{◌≡◌, IfSome};
 ghost use Rattle.adb_schema.specs.Checked.{table_of_checked};
@@ -12,16 +9,14 @@ ghost use Rattle.adb_view.specs.declared.tables.Which.TheVariants as Tables;
 mod made;
 mod package;
 
-use crate::made::{bytes_of, payload_of, positions};
-use crate::package::{Asked, Reading, add_asked, add_cuts};
+use crate::pieces::made::{bytes_of, payload_of, positions};
+use crate::pieces::package::{Asked, Reading, add_asked, add_cuts};
 use adb_schema::Checked;
 use adb_view::{Adb, Which, shape};
 use base_core::{Cause, Words};
 use pkg_core::{Part, Walk, open_file};
-use row_lines::{Answer, Subject, number_of, run_program, value_named, word_at};
+use row_lines::{Answer, Subject, number_of, value_named, word_at};
 use std::alloc::{AllocError, Global};
-use std::io;
-use std::process::ExitCode;
 
 /// The most bytes of a row's file.
 const MOST_BYTES: u128 = 1_000_000;
@@ -62,7 +57,7 @@ const QUESTIONS: [(&[u8], Question); 10] = [
 
 /// The subject of the rows. It keeps nothing: each row has a package of its own.
 #[derive(Drop)]
-struct Files;
+pub(crate) struct Files;
 
 impl Subject for Files {
     /// Answers a question by its first word. Questions are independent of each other.
@@ -86,7 +81,7 @@ impl Subject for Files {
 }
 
 /// The number that the word of a row is, but at most `MOST_BYTES`; 0 if the word is no number.
-pub(crate) fn small_number(word: &[u8]) -> u32 {
+fn small_number(word: &[u8]) -> u32 {
     number_of(word).unwrap_or(0).min(MOST_BYTES) as u32
 }
 
@@ -194,28 +189,23 @@ fn add_pieces(alloc: Global, walk: &mut Walk<'_>, bytes: &[u8], answer: &mut Ans
 
 /// Adds to `answer` a text that was formatted, and a space before the text if the answer is not
 /// empty.
-pub(crate) fn add_formatted(answer: &mut Answer, text: Result<String, AllocError>) {
+fn add_formatted(answer: &mut Answer, text: Result<String, AllocError>) {
     answer.add_word(b"");
     answer.add_text(text)
 }
 
 /// The positions of the folder and the file that a piece belongs to, and the length of the piece;
 /// and `last` if it is the last piece of the file.
-pub(crate) fn part_text(alloc: Global, part: Part, len: usize) -> Result<String, AllocError> {
+fn part_text(alloc: Global, part: Part, len: usize) -> Result<String, AllocError> {
     let last = if part.last { " last" } else { "" };
     format!(in alloc; "{}.{} {len}{last}", part.path, part.file)
 }
 
 /// The cause of a refusal: its variant and its fields; for a wrong digest only the words `another
 /// digest`.
-pub(crate) fn cause_text(alloc: Global, cause: Cause) -> Result<String, AllocError> {
+fn cause_text(alloc: Global, cause: Cause) -> Result<String, AllocError> {
     match cause {
         Cause::HashDiffers { .. } => format!(in alloc; "another digest"),
         _ => format!(in alloc; "{cause:?}"),
     }
-}
-
-/// Answers the rows of standard input, one by one.
-fn main(rt: HostRuntime) -> io::Result<ExitCode> {
-    run_program(&rt, rt.alloc(), &mut Files)
 }

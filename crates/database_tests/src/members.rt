@@ -1,5 +1,6 @@
-//! Adds packages to the members of a change (the packages that are installed after it), if they are
-//! in the order of their names, as `docs/formats.md`, "The database after a change", has it.
+//! Builds the members of a change (the packages that are installed after it): added packages, from
+//! containers, and kept packages, from a database. Their order is that of their names, as
+//! `docs/formats.md`, "The database after a change", has it.
 
 ghost use Rattle.db_core.specs.adb_fields.Repeated.{package_name};
 ghost use Rattle.adb_view.specs.Plain.{Plain};
@@ -18,7 +19,7 @@ use tree_memory::MemoryTree;
 
 /// The front (header and first block) of the package with the bytes `file`, or None if the package
 /// is bad. The bytes are put into a tree in memory as a file, from which the front is read.
-pub fn front_of(alloc: Global, file: &[u8]) -> Result<Option<Front>, AllocError> {
+pub(crate) fn front_of(alloc: Global, file: &[u8]) -> Result<Option<Front>, AllocError> {
     // The name of the file in the tree; any name would do.
     let Some(name) = Name::read(alloc, b"p")? else {
         return Ok(None);
@@ -36,7 +37,7 @@ pub fn front_of(alloc: Global, file: &[u8]) -> Result<Option<Front>, AllocError>
 
 /// The name of the package with the index `i` in a database, counted from 0. `_mark` names the type
 /// of the view in the signature, which only the borrow checker needs.
-pub fn name_at<'a>(db: &Db<'a>, i: usize, _mark: PhantomData<PackageView<'a>>) -> &'a [u8]
+pub(crate) fn name_at<'a>(db: &Db<'a>, i: usize, _mark: PhantomData<PackageView<'a>>) -> &'a [u8]
     // The database has a package with this index.
     requires { i < length (packages_of db.now) }
     // The result is the name of this package.
@@ -50,7 +51,7 @@ pub fn name_at<'a>(db: &Db<'a>, i: usize, _mark: PhantomData<PackageView<'a>>) -
 /// Adds the installed package with the index `i` in the database as a kept member. Returns false,
 /// and adds nothing, if there are `MOST_MEMBERS` members already, if there is no such package, or
 /// if its name is not after the names of the members.
-pub fn add_installed(members: &mut Members<'_>, i: usize) -> Result<bool, AllocError> {
+pub(crate) fn add_installed(members: &mut Members<'_>, i: usize) -> Result<bool, AllocError> {
     if members.len() >= MOST_MEMBERS || i >= members.db().len() {
         return Ok(false);
     }
@@ -64,7 +65,7 @@ pub fn add_installed(members: &mut Members<'_>, i: usize) -> Result<bool, AllocE
 /// Adds the package with this front as an added member. Returns false, and adds nothing, if the
 /// package is bad, if there are `MOST_MEMBERS` members already, or if its name is not after the
 /// names of the members.
-pub fn add_coming<'a>(
+pub(crate) fn add_coming<'a>(
     alloc: Global,
     members: &mut Members<'a>,
     front: &'a Front,

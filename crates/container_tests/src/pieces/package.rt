@@ -1,8 +1,8 @@
 //! Packages in a tree: their fronts (headers and first blocks), and their files, which are read in
 //! pieces. The tests are in `docs/formats.md`, "The other blocks", the last list.
 
-use crate::made::{Flaw, low_word, package_of};
-use crate::{add_formatted, cause_text, part_text, small_number};
+use crate::pieces::made::{Flaw, low_word, package_of};
+use crate::pieces::{add_formatted, cause_text, part_text, small_number};
 use adb_schema::PACKAGE_WORD;
 use base_core::{Name, TreeFault, Words};
 use package_reader::{FilePieces, Piece, PieceFault, PieceReader};

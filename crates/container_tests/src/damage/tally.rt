@@ -1,7 +1,7 @@
 //! Counts the results of tests by their kinds, and computes a digest over their lines. The kinds
 //! are the causes in `docs/commands.md`, "Error lines", and `sound` for a file without a fault.
 
-use crate::reading::Test;
+use crate::damage::reading::Test;
 use base_core::Cause;
 use row_lines::Answer;
 use sha2::{Digest, Sha256};

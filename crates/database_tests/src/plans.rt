@@ -1,22 +1,17 @@
-//! Tests of `own_core`: what a change of packages does with files. All rows (questions with their
-//! expected answers) are in the file `stdin` of this crate; `tests/lines.md` describes their form,
-//! and the README of this crate has a row for each question. The tree and the packages are kept
-//! from one row to the next.
-#![tactic(auto)]
+//! Answers questions about `own_core`: what a change of packages does with files. The tree and the
+//! packages are kept from one row to the next.
 
 mod answer;
 mod change;
 mod package;
 
+use crate::plans::change::{PackageAfter, ToldChange, add_plan};
+use crate::plans::package::{added_package, number_in};
 use adb_schema::ReadFault;
 use base_core::{Name, Words};
-use change::{PackageAfter, ToldChange, add_plan};
 use db_core::Db;
-use package::{added_package, number_in};
-use row_lines::{Answer, Subject, run_program, value_named, word_at, words_behind};
+use row_lines::{Answer, Subject, value_named, word_at, words_behind};
 use std::alloc::{AllocError, Global};
-use std::io;
-use std::process::ExitCode;
 use tree_memory::MemoryTree;
 
 /// The questions of rows; the README of this crate says what each question answers.
@@ -63,7 +58,7 @@ const QUESTIONS: [(&[u8], Question); 10] = [
 
 /// The change and the tree that earlier rows describe, and the results of the last plan.
 #[derive(Drop)]
-struct Planned {
+pub(crate) struct Planned {
     /// The change that earlier rows describe.
     change: ToldChange,
     /// The tree, with the files that earlier rows have put there.
@@ -76,7 +71,7 @@ struct Planned {
 
 impl Planned {
     /// The values before the first row: no packages, an empty tree, and no plan.
-    fn new(alloc: Global) -> Planned {
+    pub(crate) fn new(alloc: Global) -> Planned {
         Planned {
             change: ToldChange {
                 before: Vec::new(alloc),
@@ -167,11 +162,4 @@ fn add_owner(
         Err(ReadFault::Memory) => return Err(AllocError),
     }
     Ok(())
-}
-
-/// Answers the rows of standard input, one after another.
-fn main(rt: HostRuntime) -> io::Result<ExitCode> {
-    let alloc = rt.alloc();
-    let mut planned = Planned::new(alloc);
-    run_program(&rt, alloc, &mut planned)
 }
