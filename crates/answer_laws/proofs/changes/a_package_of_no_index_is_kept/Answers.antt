@@ -1,5 +1,0 @@
-use Rattle.answer_laws.proofs.Unindexed.{again_itself, kept_itself}
-use Rattle.answer_laws.proofs.changes.a_package_of_no_index_is_kept.Goals as goal
-
-pub returns : goal.returns
-returns c = record { reinstall = again_itself; kept = kept_itself }

@@ -1,5 +1,0 @@
-use Rattle.answer_laws.proofs.Deciding.{downgrades, keeps, reinstalls, replaces, upgrades}
-use Rattle.answer_laws.proofs.changes.the_order_of_versions_decides_the_change.Goals as goal
-
-pub returns : goal.returns
-returns c = record { upgrade = upgrades; downgrade = downgrades; replace = replaces; reinstall = reinstalls; kept = keeps }

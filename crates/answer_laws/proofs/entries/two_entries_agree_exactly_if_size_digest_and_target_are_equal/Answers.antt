@@ -1,5 +1,0 @@
-use Rattle.answer_laws.proofs.EntryFields.{entries_agree}
-use Rattle.answer_laws.proofs.entries.two_entries_agree_exactly_if_size_digest_and_target_are_equal.Goals as goal
-
-pub returns : goal.returns
-returns c = entries_agree

@@ -1,5 +1,0 @@
-use Rattle.answer_laws.proofs.Places.{below, top}
-use Rattle.answer_laws.proofs.found.a_package_is_found_in_the_folder_of_its_index.Goals as goal
-
-pub returns : goal.returns
-returns c = record { below = below; top = top }

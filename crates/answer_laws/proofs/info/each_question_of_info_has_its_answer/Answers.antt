@@ -1,5 +1,0 @@
-use Rattle.answer_laws.proofs.Sections.{contents, depends, description, listed_paths, owner}
-use Rattle.answer_laws.proofs.info.each_question_of_info_has_its_answer.Goals as goal
-
-pub returns : goal.returns
-returns c = record { contents = contents; listed = listed_paths; depends = depends; description = description; owner = owner }

@@ -1,5 +1,0 @@
-use Rattle.answer_laws.proofs.Needing.{kept_lines}
-use Rattle.answer_laws.proofs.kept.a_name_stays_if_it_is_still_selected.Goals as goal
-
-pub returns : goal.returns
-returns c = kept_lines

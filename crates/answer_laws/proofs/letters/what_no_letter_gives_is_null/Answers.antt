@@ -1,5 +1,0 @@
-use Rattle.answer_laws.proofs.DroppedLines.{no_info, no_scripts, no_size}
-use Rattle.answer_laws.proofs.letters.what_no_letter_gives_is_null.Goals as goal
-
-pub returns : goal.returns
-returns c = record { scripts = no_scripts; info = no_info; file = no_size }

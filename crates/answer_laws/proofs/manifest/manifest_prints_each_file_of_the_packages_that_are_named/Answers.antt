@@ -1,5 +1,0 @@
-use Rattle.answer_laws.proofs.ManifestLines.{manifest_told}
-use Rattle.answer_laws.proofs.manifest.manifest_prints_each_file_of_the_packages_that_are_named.Goals as goal
-
-pub returns : goal.returns
-returns c = manifest_told

@@ -1,5 +1,0 @@
-use Rattle.answer_laws.proofs.QueryLines.{places_told, policy_named}
-use Rattle.answer_laws.proofs.queries.policy_prints_where_each_version_is.Goals as goal
-
-pub returns : goal.returns
-returns c = record { names = policy_named; places = places_told }

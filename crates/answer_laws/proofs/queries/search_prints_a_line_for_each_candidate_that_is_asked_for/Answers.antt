@@ -1,7 +1,0 @@
-use Rattle.answer_laws.proofs.QueryLines.{searched}
-use Rattle.answer_laws.proofs.queries.search_prints_a_line_for_each_candidate_that_is_asked_for.Goals as goal
-
-pub returns : goal.returns
-returns c =
-    searched c.a_query_selects_what_passes_its_test.ensures.those c.a_query_selects_what_passes_its_test.ensures.each c.a_query_selects_what_passes_its_test.ensures.order
-    c.search_prints_what_is_asked_for.ensures

@@ -1,5 +1,0 @@
-use Rattle.answer_laws.proofs.Replacing.{alone, later, priority, unnamed}
-use Rattle.answer_laws.proofs.replaces.of_two_packages_that_name_each_other_one_is_preferred.Goals as goal
-
-pub returns : goal.returns
-returns c = record { unnamed = unnamed; alone = alone; priority = priority; later = later }

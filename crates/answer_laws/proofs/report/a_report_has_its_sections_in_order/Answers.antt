@@ -1,5 +1,0 @@
-use Rattle.answer_laws.proofs.ReportParts.{made_sections, simulated_sections}
-use Rattle.answer_laws.proofs.report.a_report_has_its_sections_in_order.Goals as goal
-
-pub returns : goal.returns
-returns c = record { simulated = simulated_sections; made = made_sections }

@@ -1,5 +1,0 @@
-use Rattle.answer_laws.proofs.ScriptTexts.{first_taken, none_taken}
-use Rattle.answer_laws.proofs.scripts.the_first_script_that_has_text_is_taken.Goals as goal
-
-pub returns : goal.returns
-returns c = record { first = first_taken; none = none_taken }

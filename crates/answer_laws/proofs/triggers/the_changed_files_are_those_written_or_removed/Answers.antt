@@ -1,5 +1,0 @@
-use Rattle.answer_laws.proofs.TouchedPaths.{touched_are}
-use Rattle.answer_laws.proofs.triggers.the_changed_files_are_those_written_or_removed.Goals as goal
-
-pub returns : goal.returns
-returns c = touched_are c.the_lists_of_a_plan_hold_just_its_names.ensures.written c.the_lists_of_a_plan_hold_just_its_names.ensures.removed

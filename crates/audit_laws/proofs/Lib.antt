@@ -1,6 +1,0 @@
--- Lemmas of this crate.
-mod AfterFiles
-mod AfterRecords
-mod TestedContents
-mod FoundContents
-mod LeftDifferent

@@ -1,2 +1,0 @@
--- the module that the law of this crate cites
-pub mod AfterChange

@@ -1,3 +1,0 @@
-pub mod FirstHeader
-pub mod FirstTests
-pub mod EveryTest

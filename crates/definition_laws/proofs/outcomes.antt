@@ -1,0 +1,7 @@
+-- lemmas of the laws of `src/outcomes/`
+mod DemoLine
+mod Dumped
+mod DumpFaults
+mod Verified
+mod Versions
+mod MadeFiles

@@ -1,0 +1,2 @@
+-- cited by the law of `src/audits.rt`
+pub mod AfterChange

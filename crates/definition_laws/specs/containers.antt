@@ -1,0 +1,3 @@
+-- cited by the laws of `src/containers.rt`
+pub mod HeaderFaults
+pub mod TestsInOrder

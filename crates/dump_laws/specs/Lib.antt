@@ -1,1 +1,0 @@
--- This crate has no definitions of its own: its laws cite those of `outcome` and `gen_core`.

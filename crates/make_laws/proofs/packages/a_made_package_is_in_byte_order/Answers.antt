@@ -1,8 +1,0 @@
-use Rattle.make_laws.proofs.MadeFrom.{made_from}
-use Rattle.make_laws.proofs.NamesRising.{in_byte_order}
-use Rattle.make_laws.specs.MadePackages.{package_in_container}
-use Rattle.make_laws.proofs.packages.a_made_package_is_in_byte_order.Goals as goal
-
-pub returns : goal.returns
-returns c = λ command names read bytes made.
-    in_byte_order command names read (package_in_container bytes) made.below (made_from c.a_made_package_is_read_back.ensures command names read bytes made)

@@ -1,5 +1,0 @@
-use Rattle.make_laws.proofs.OptionTexts.{script_parts}
-use Rattle.make_laws.proofs.values.a_script_is_given_as_its_type_and_its_file.Goals as goal
-
-pub returns : goal.returns
-returns c = script_parts

@@ -1,5 +1,0 @@
-use Rattle.outcome_laws.proofs.DemoLine.{number_read}
-use Rattle.outcome_laws.proofs.demo.demo_makes_as_many_packages_as_its_operand_says.Goals as goal
-
-pub returns : goal.returns
-returns c = number_read

@@ -1,5 +1,0 @@
-use Rattle.outcome_laws.proofs.DemoLine.{line_printed}
-use Rattle.outcome_laws.proofs.demo.demo_prints_the_last_line_of_a_report.Goals as goal
-
-pub returns : goal.returns
-returns c = line_printed

@@ -1,5 +1,0 @@
-use Rattle.outcome_laws.proofs.MadeFiles.{reserved_first, too_large}
-use Rattle.outcome_laws.proofs.make.a_reserved_output_is_reported_before_a_result_that_is_too_large.Goals as goal
-
-pub returns : goal.returns
-returns c = record { reserved = reserved_first; too_large = too_large }

@@ -1,5 +1,0 @@
-use Rattle.outcome_laws.proofs.Verified.{nothing_printed, ok_printed}
-use Rattle.outcome_laws.proofs.verify.verify_prints_ok_for_each_file.Goals as goal
-
-pub returns : goal.returns
-returns c = record { printed = ok_printed; refused = nothing_printed }

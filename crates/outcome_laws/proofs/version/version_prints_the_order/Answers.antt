@@ -1,5 +1,0 @@
-use Rattle.outcome_laws.proofs.Versions.{accepted, shows_equal, shows_greater, shows_less, silent}
-use Rattle.outcome_laws.proofs.version.version_prints_the_order.Goals as goal
-
-pub returns : goal.returns
-returns c = record { less = shows_less; equal = shows_equal; greater = shows_greater; refused = silent; accepted = accepted }

@@ -1,8 +1,0 @@
-use Rattle.world_laws.proofs.CommandSelections.{each_needed, satisfies}
-use Rattle.world_laws.proofs.the_selected_packages_satisfy_the_new_world.Goals as goal
-
-pub returns-clause-satisfied : goal.returns-clause-satisfied
-returns-clause-satisfied c = satisfies
-
-pub returns-clause-needed : goal.returns-clause-needed
-returns-clause-needed c = each_needed
