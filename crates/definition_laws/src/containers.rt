@@ -2,7 +2,8 @@
 //! the order in which the format lists the tests. The order is in `docs/formats.md`, "Container"
 //! and "Tests of a container".
 //!
-//! The laws cite the definitions of `specs/containers/`, and those of the crates that read containers.
+//! The laws cite the definitions of `specs/containers/`, and those of the crates that read
+//! containers.
 
 ghost use Rattle.adb_block.specs.Header.{schema_of_header};
 ghost use Rattle.adb_view.specs.declared.tables.Which.{Which};
