@@ -20,7 +20,7 @@ use Rattle.package_changes.proofs.own_core.Untouched.{changed_so, is_gone, takes
 use Rattle.change_inputs.specs.Inputs.{Inputs}
 use Rattle.change_inputs.specs.World.{found_text_or_empty}
 use Rattle.change_outcome.specs.ChangeOutcome.{intent_of_change, has_actions, is_absent_or_different, name_if_needed, database_and_world_after_change, names_of_written_database_and_world}
-use Rattle.db_core.specs.db_core.Members.{Listing}
+use Rattle.db_core.specs.Members.{Listing}
 use Rattle.journal_core.specs.Staged.{HasNoStagedNames}
 use Rattle.journal_core.specs.journal_intent.FreeNames.{IsNoneOf, IsOneOf}
 use Rattle.journal_core.specs.journal_intent.Intent.{Intent}

@@ -12,7 +12,7 @@ use Rattle.package_changes.specs.own_core.FilesAfter.{database_name, listing_wri
 use Rattle.package_changes.specs.own_core.NamesAfter.{added_paths, counts_as_written, name_change}
 use Rattle.package_changes.proofs.own_core.InOrder.{in_left, in_map, in_right}
 use Rattle.package_changes.proofs.own_core.OwnedFiles.{aside_found, beside_is, in_coming_paths}
-use Rattle.db_core.specs.db_core.Members.{Listing}
+use Rattle.db_core.specs.Members.{Listing}
 use Rattle.package_changes.specs.path_clashes.Clash.{IsClash, NameChange, NamePair, is_present_after_change, is_pair_before_by_first_then_second_name}
 use Rattle.package_changes.specs.path_clashes.FirstClash.{IsFirstClashOrNone}
 use Rattle.package_changes.specs.path_clashes.NearName.{IsClashIfSome, IsNoEarlierClash}

@@ -10,7 +10,7 @@ use Rattle.change_inputs.specs.Inputs.{Inputs}
 use Rattle.change_outcome.specs.ChangeOutcome.{ChangeDone, ChangeWishes, IsFirstClashUnlessMembersRefused, IsFirstClashOfChange, intent_of_change, change_done, members_after_change, change_or_refusal, change_with_members, packages_before_and_after_with_purge, database_and_world_after_change, touched_paths, unless_clash, unless_contested, or_result_too_large, unless_overflow, unless_reserved_path, change_done_unless_over_writer_limits}
 use Rattle.change_outcome.specs.MembersAfter.{MemberFound}
 use Rattle.change_outcome.specs.Triggers.{unless_trigger_due}
-use Rattle.db_core.specs.db_core.Members.{Member}
+use Rattle.db_core.specs.Members.{Member}
 use Rattle.db_core.specs.NewDatabase.{database_of}
 use Rattle.package_changes.specs.file_owners.Owners.{first_contested_member_path_in_byte_order, owned_flags_of}
 use Rattle.journal_core.specs.Staged.{HasEmptyStageAndFreeJournalPaths}

@@ -18,7 +18,7 @@ use Rattle.package_changes.specs.own_core.Touched.{is_old_or_new_database_or_wor
 use Rattle.package_changes.proofs.own_core.AfterNames.{names_after}
 use Rattle.package_changes.proofs.own_core.Reserved.{unreserved_path, written_unreserved}
 use Rattle.package_changes.proofs.own_core.Untouched.{changed_so}
-use Rattle.db_core.specs.db_core.Members.{Listing}
+use Rattle.db_core.specs.Members.{Listing}
 use Rattle.journal_core.specs.Staged.{AreIntentAndStagedPathsFree, HasEmptyStageAndFreeJournalPaths, HasNoStagedNames, IsPresentOrOfJournal}
 use Rattle.journal_core.specs.journal_intent.FreeNames.{IsIntentNameOrNumberedStageName}
 use Rattle.journal_core.specs.journal_intent.Intent.{intent_name, is_staged, stage_name}

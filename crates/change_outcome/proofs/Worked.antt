@@ -2,7 +2,7 @@
 use Rattle.std.proofs.Common.{◌≡◌, refl, true, false, ℕ, List, [], ◌∷◌, codes}
 use Rattle.adb_view.specs.Plain.{Plains, arr, blob, blob_or_null, more, none, null, obj}
 use Rattle.package_changes.specs.own_core.PlanLists.{sorted_distinct_names}
-use Rattle.db_core.specs.db_core.Members.{Member, member_of_kept}
+use Rattle.db_core.specs.Members.{Member, member_of_kept}
 use Rattle.change_outcome.specs.ConfigurationLines.{lines_of_apk_new_and_kept_paths}
 use Rattle.change_inputs.specs.package_files.Folders.{folder_of}
 use Rattle.change_outcome.specs.Triggers.{is_folder_matched_by_pattern, trigger_lines}

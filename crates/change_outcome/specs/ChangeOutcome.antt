@@ -12,7 +12,7 @@ use Rattle.package_changes.specs.own_core.NamesAfter.{name_change}
 use Rattle.package_changes.specs.own_core.PlanLists.{paths_with_apk_new_file, file_writes_of, first_reserved_added_path_in_byte_order, kept_left_over_paths_of, sorted_distinct_names, removals_of}
 use Rattle.change_inputs.specs.Chains.{and_then}
 use Rattle.change_inputs.specs.Inputs.{Inputs}
-use Rattle.db_core.specs.db_core.Members.{Member, member_name}
+use Rattle.db_core.specs.Members.{Member, member_name}
 use Rattle.db_core.specs.NewDatabase.{database_of}
 use Rattle.dep_core.specs.World.{world_text}
 use Rattle.package_changes.specs.file_owners.Owners.{first_contested_member_path_in_byte_order, owned_flags_of}

@@ -7,8 +7,8 @@ use Rattle.std.specs.List.{cons_option, find}
 use Rattle.adb_view.specs.Plain.{Plain}
 use Rattle.change_inputs.specs.Chains.{and_then}
 use Rattle.change_inputs.specs.Inputs.{first_index_read_number}
-use Rattle.db_core.specs.db_core.Members.{Member, member_of_added, member_of_kept}
-use Rattle.db_core.specs.db_core.Packages.{is_package_named}
+use Rattle.db_core.specs.Members.{Member, member_of_added, member_of_kept}
+use Rattle.db_core.specs.Packages.{is_package_named}
 use Rattle.dep_core.specs.Repositories.{Repository}
 use Rattle.change_inputs.specs.make_info.Reads.{Reads}
 use Rattle.package_changes.specs.Changes.{Replacement, change_of_name, is_candidate_named, names_before_and_selected}

@@ -8,7 +8,7 @@ use Rattle.adb_view.specs.FieldIndexes.{PACKAGE_TRIGGERS_INDEX}
 use Rattle.adb_view.specs.Values.{text_in}
 use Rattle.adb_view.specs.Plain.{Plain}
 use Rattle.package_changes.specs.own_core.PlanLists.{sorted_distinct_names}
-use Rattle.db_core.specs.db_core.Members.{Member, member_name}
+use Rattle.db_core.specs.Members.{Member, member_name}
 use Rattle.dep_core.specs.LeadingSlash.{without_leading_slash}
 use Rattle.change_inputs.specs.package_files.Folders.{folder_of}
 use Rattle.report_core.specs.Reports.{report_line, trigger_due_for_folder_text}

@@ -10,7 +10,7 @@ ghost use Rattle.package_changes.specs.own_core.FilesAfter.{DatabaseAndWorldAfte
 ghost use Rattle.change_inputs.specs.Inputs.{Inputs, inputs_of};
 ghost use Rattle.change_outcome.specs.ChangeOutcome.{ChangeDone, ChangeWishes, IsFirstClashOfChange, intent_of_change, bytes_or_empty_under, change_or_refusal, has_actions, database_and_world_after_change};
 ghost use Rattle.command_core.specs.Command.{CommandLine};
-ghost use Rattle.db_core.specs.db_core.Members.{Listing};
+ghost use Rattle.db_core.specs.Members.{Listing};
 ghost use Rattle.journal_core.specs.Recovery.{files_after_actions};
 ghost use Rattle.journal_core.specs.Staged.{HasEmptyStageAndFreeJournalPaths, HasNoStagedNames, files_with_staged};
 ghost use Rattle.journal_core.specs.journal_intent.Intent.{AreDistinctNamesAllowedInIntent, intent_name};
