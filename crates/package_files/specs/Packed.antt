@@ -1,5 +1,5 @@
 -- Packed folders and files as values of the program, and their plain values.
--- No document has a rule for this: it serves the contracts of `src/packing.rt` and of `make_package`;
+-- No document has a rule for this: it serves the contracts of `src/packing.rt` and of `make_core`;
 -- *Package* defines the same of what was read.
 use Rattle.std.specs.Prelude.{◌≡◌, ℕ, List, [], ◌∷◌, ◌++◌, map, sum_by, Vec}
 use Rattle.std.specs.declared.alloc.Global.{Global}
