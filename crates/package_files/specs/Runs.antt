@@ -1,6 +1,6 @@
 -- How the result of a call that reads a tree relates to what it found.
--- No document has a rule for this: it serves the contracts of the calls of `make_core`
--- and this crate that read; *Sources* says which read finds what.
+-- No document has a rule for this: it serves the contracts of the calls of `make_core` and this crate
+-- that read; *Sources* says which read finds what.
 use Rattle.std.specs.Prelude.{◌≡◌, ℕ, List, Result, Ok, Err}
 use Rattle.base_core.specs.Calls.{IfObservable}
 use Rattle.base_core.specs.Tree.{TreeState, files_of}
