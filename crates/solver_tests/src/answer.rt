@@ -2,13 +2,13 @@
 //! questions; the rules for right answers are in `docs/selection.md`.
 ghost use Rattle.std.specs.Prelude.{◌≡◌, IfOk};
 
+use crate::row::{Row, split_word};
 use adb_schema::{Checked, IndexView, Which, shape};
 use adb_view::Adb;
 use base_core::Words;
 use dep_core::{World, read_dep};
 use pool_core::{CandId, Need, Pool, PoolFault, Sealed, Upgrade};
 use row_lines::value_named;
-use row_packages::{Row, split_word};
 use solve_core::solve;
 use std::alloc::{AllocError, Global};
 
