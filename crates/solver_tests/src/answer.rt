@@ -204,13 +204,8 @@ fn add_two_counts(
     text: &mut Vec<u8>,
 ) -> Result<(), RowFault> {
     let first = sealed(alloc, row, command.world, command.upgrade)?;
-    let second = candidate_count(alloc, row, command)?;
-    Ok(add_counts(alloc, first.len(), second, text)?)
-}
-
-// How many candidates the pool of the row has.
-fn candidate_count(alloc: Global, row: &Row<'_>, command: Command<'_>) -> Result<usize, RowFault> {
-    Ok(sealed(alloc, row, command.world, command.upgrade)?.len())
+    let second = sealed(alloc, row, command.world, command.upgrade)?;
+    Ok(add_counts(alloc, first.len(), second.len(), text)?)
 }
 
 // Appends two numbers in decimal digits, with a space between them.
