@@ -23,12 +23,19 @@ use std::marker::Model;
 /// Candidates under construction. Add all indexes before the first installed package: the packages
 /// of a later index come after it in the list, and are not marked as installed. After an error the
 /// pool is empty.
-#[derive(Drop)]
 pub struct Pool<'a> {
     /// The allocator.
     alloc: Global,
     /// The candidates so far; None before the first one is added, and after an error.
     list: Option<CandidateList<'a>>,
+}
+
+/// Drops the parts in one call, so that a function that gives up has one drop and not many.
+impl Drop for Pool<'_> {
+    // Drops each field.
+    fn drop(self) {
+        let Pool { alloc: _, list: _ } = self;
+    }
 }
 
 impl<'a> Model for Pool<'a> {

@@ -29,7 +29,6 @@ use version_core::order_is_total;
 
 /// The candidates with a world. What is often needed of candidates is computed once, as marks. Each
 /// list of marks has one mark for each candidate, in the order of the list of candidates.
-#[derive(Drop)]
 pub struct Sealed<'a> {
     /// The packages that the candidates are.
     packages: Packages<'a>,
@@ -47,6 +46,23 @@ pub struct Sealed<'a> {
     kept: Vec<bool>,
     /// The places of the candidates whose install-if can apply, in rising order.
     install_ifs: Vec<CandId>,
+}
+
+/// Drops the parts in one call, so that a function that gives up has one drop and not many.
+impl Drop for Sealed<'_> {
+    // Drops each field.
+    fn drop(self) {
+        let Sealed {
+            packages: _,
+            table: _,
+            world: _,
+            upgrade: _,
+            eligible: _,
+            pinned: _,
+            kept: _,
+            install_ifs: _,
+        } = self;
+    }
 }
 
 impl<'a> Model for Sealed<'a> {

@@ -2,13 +2,13 @@
 //! questions; the rules for right answers are in `docs/selection.md`.
 ghost use Rattle.std.specs.Prelude.{◌≡◌, IfOk};
 
+use crate::row::{Row, split_word};
 use adb_schema::{Checked, IndexView, Which, shape};
 use adb_view::Adb;
 use base_core::Words;
 use dep_core::{World, read_dep};
 use pool_core::{CandId, Need, Pool, PoolFault, Sealed, Upgrade};
 use row_lines::value_named;
-use row_packages::{Row, split_word};
 use solve_core::solve;
 use std::alloc::{AllocError, Global};
 
@@ -204,13 +204,8 @@ fn add_two_counts(
     text: &mut Vec<u8>,
 ) -> Result<(), RowFault> {
     let first = sealed(alloc, row, command.world, command.upgrade)?;
-    let second = candidate_count(alloc, row, command)?;
-    Ok(add_counts(alloc, first.len(), second, text)?)
-}
-
-// How many candidates the pool of the row has.
-fn candidate_count(alloc: Global, row: &Row<'_>, command: Command<'_>) -> Result<usize, RowFault> {
-    Ok(sealed(alloc, row, command.world, command.upgrade)?.len())
+    let second = sealed(alloc, row, command.world, command.upgrade)?;
+    Ok(add_counts(alloc, first.len(), second.len(), text)?)
 }
 
 // Appends two numbers in decimal digits, with a space between them.

@@ -4,6 +4,8 @@
 #![tactic(auto)]
 
 mod answer;
+mod package;
+mod row;
 mod rows;
 
 use std::io;

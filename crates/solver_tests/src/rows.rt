@@ -1,8 +1,8 @@
 //! Runs all rows of a text, compares their answers with the expected ones, and makes the printed
 //! report. The README of this crate describes the lines of rows.
 use crate::answer::{add_parts, answer};
+use crate::row::{Row, number_of, split_word};
 use row_lines::value_named;
-use row_packages::{Row, number_of, split_word};
 use std::alloc::{AllocError, Global};
 
 /// Runs all rows of a text, and returns whether none failed. Adds a line to the report for each

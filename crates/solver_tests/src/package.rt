@@ -8,7 +8,7 @@
 //! - `h:` and the id, which is empty after a bare `h:`; all packages without an `h:` have the same
 //!   id.
 //!
-//! The README of `solver_tests` describes the same form. The fields are those of `docs/formats.md`,
+//! The README of this crate describes the same form. The fields are those of `docs/formats.md`,
 //! "Schemas", table 3 (package information); their numbers count from 0 here.
 use crate::row::number_of;
 use adb_view::Val;
