@@ -1,5 +1,4 @@
 -- By its values, and then by its files.
-use Rattle.std.proofs.Common.{rules}
 use Rattle.pkg_core.proofs.Steps.{files_good, files_refused, values_refused}
 use Rattle.pkg_core.proofs.checks.verify_package.Goals as goal
 
