@@ -1,5 +1,5 @@
 -- A header that was read holds what a header takes.
-use Rattle.std.proofs.Common.{◌≡◌, ℕ, ◌/◌, ◌^◌, ◌<◌, ◌≤◌, Bool, true, false, ltb, ◌==◌, if◌then◌else◌, List, [], ◌++◌, length, take, refl, ap, sym, ◌∙◌, arith}
+use Rattle.std.proofs.Common.{◌≡◌, ℕ, ◌/◌, ◌^◌, ◌<◌, ◌≤◌, ◌⊎◌, inl, inr, Bool, true, false, ltb, ◌==◌, if◌then◌else◌, List, [], ◌++◌, length, take, refl, ap, sym, ◌∙◌, arith}
 use Rattle.std.specs.Int.{w32, from_le_bytes}
 use Rattle.std.proofs.lemmas.Bool.{le-ltb}
 use Rattle.std.proofs.lemmas.List.{length-append, take_at}
@@ -22,7 +22,22 @@ holds_short first left four some short = record { within = omega arith; whole = 
 pub holds_cut : (first : List ℕ) (left : ℕ) → length first ≡ 4 → 4 ≤ left → left < head_len first → IsHeadPrefix first left
 holds_cut first left four some cut = record { within = omega arith; whole = λ room. absurd (omega (arith, room)) }
 
+-- four bytes are enough of a header that is short or is not whole
+pub holds_four : (first : List ℕ) (left n : ℕ) → length first ≡ 4 → 4 ≤ left → n ≡ head_len first → (n ≡ 4) ⊎ ((n ≡ 4 → ⊥) × (left < n)) → IsHeadPrefix first left
+holds_four first left n four some is (inl short) = holds_short first left four some (sym is ∙ short)
+holds_four first left n four some is (inr cut) = holds_cut first left four some (omega (arith, is, cut.1))
+
+-- no header is shorter than four bytes
+pub short_four : (first : List ℕ) (n : ℕ) → length first ≡ 4 → n ≡ head_len first → (n ≡ 4) ⊎ (n ≡ 16) → length first ≤ head_len first
+short_four first n four is (inl short) = omega arith
+short_four first n four is (inr long) = omega arith
+
 -- ---- sixteen bytes
+
+-- a header that is not short has sixteen bytes
+pub not_short : (n : ℕ) → (n ≡ 4) ⊎ (n ≡ 16) → (n ≡ 4 → ⊥) → n ≡ 16
+not_short n (inl four) other = absurd (other four)
+not_short n (inr sixteen) other = sixteen
 
 abbrev by_kind : ℕ → ℕ
 by_kind kind = if kind == 3 then 16 else 4

@@ -14,6 +14,7 @@ pub mod BlockRuns
 pub mod Placed
 pub mod Heads
 pub mod SeenBytes
+pub mod ReadCalls
 pub mod HeaderFront
 pub mod FrontSteps
 pub mod FrontSeen

@@ -66,6 +66,10 @@ pub seen_by_read : (history : List TreeState) (name : List ℕ) (len at n : ℕ)
 seen_by_read [] name len at n bytes h e = h
 seen_by_read (v ∷ earlier) name len at n bytes h e = read_in (files_of v name) len at n bytes e h
 
+-- one read, which gave all the bytes
+pub seen_by_one : (history : List TreeState) (name : List ℕ) (len at n : ℕ) (bytes all : List ℕ) → all ≡ bytes → length bytes ≡ n → IfObservable history (λ v. IfSome (files_of v name) (λ file. bytes ≡ take n (drop at file))) → AreBytesRead history name len at all
+seen_by_one history name len at n bytes all is long h = subst (λ (xs : List ℕ). AreBytesRead history name len at xs) (sym is) (seen_by_read history name len at n bytes h long)
+
 -- two reads, of which the second begins where the first ended
 pub seen_by_two : (history later : List TreeState) (name : List ℕ) (len at n m : ℕ) (xs ys all : List ℕ) → later ≡ history → all ≡ xs ++ ys → length xs ≡ n → length ys ≡ m → IfObservable history (λ v. IfSome (files_of v name) (λ file. xs ≡ take n (drop at file))) → IfObservable later (λ v. IfSome (files_of v name) (λ file. ys ≡ take m (drop (at + n) file))) → AreBytesRead history name len at all
 seen_by_two history later name len at n m xs ys all same is first second h g =

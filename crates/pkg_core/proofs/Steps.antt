@@ -1,5 +1,6 @@
 -- The tests of a whole container, by those of its values and those after them.
-use Rattle.std.proofs.Common.{◌≡◌, ◌≢◌, ℕ, List, Option, Some, None, Result, Ok, Err, refl}
+use Rattle.std.proofs.Common.{◌≡◌, ◌≢◌, ℕ, List, Option, Some, None, Result, Ok, Err, refl, ap, sym, ◌∙◌}
+use Rattle.std.specs.Prelude.{IfErr, IsErrAnd}
 use Rattle.base_core.specs.declared.cause.Cause.{Cause}
 use Rattle.adb_block.specs.Header.{schema_of_header}
 use Rattle.adb_block.specs.Reading.{Reading, done, fault, more, block_stream_from}
@@ -9,6 +10,9 @@ use Rattle.adb_schema.specs.Soundness.{blocks_fault, file_fault_by_header_schema
 use Rattle.adb_view.specs.declared.tables.Which.{Which}
 use Rattle.adb_view.specs.declared.tables.Which.TheVariants.{Dep, Acl, PkgInfo, File, Dir, Scripts, Package, Index, Idb, Intent}
 use Rattle.pkg_core.specs.Contents.{FilesRead, fault_of_files_read}
+use Rattle.pkg_core.specs.Refusals.{IsFaultOf}
+use Rattle.pkg_core.specs.declared.pack.PackageFault.{PackageFault}
+use Rattle.pkg_core.specs.declared.pack.PackageFault.TheVariants.{Bad, Memory}
 use Rattle.pkg_core.specs.Whole.{fault_of_contents_blocks_by_root_table, files_after_first_block, files_after_header, files_read_from_package, package_fault, container_fault_of_table}
 
 -- a container without contents is tested whole as its values are read
@@ -76,3 +80,22 @@ package_steps file = by_values (container_fault_except_contents Package file) re
     by_values : (o : Option Cause) → container_fault_except_contents Package file ≡ o → package_fault file ≡ option_or o (fault_of_files_read (files_read_from_package file))
     by_values None e = files_then file e
     by_values (Some c) e = values_first file c e
+
+-- ---- what the test of a package returns
+
+-- a fault of its values is that of the package
+pub values_refused : {A : Type 0} (file : List ℕ) (reported : PackageFault) (r : Result A PackageFault) → IsErrAnd r (λ other. other ≡ reported) → IsFaultOf reported (container_fault_except_contents Package file) → IfErr r (λ other. IsFaultOf other (package_fault file))
+values_refused file reported (Ok value) is h = absurd is
+values_refused file (Bad c) (Err (Bad d)) is h = let e : Bad d ≡ Bad c = is in let same : c ≡ d = (cc) in values_first file c h ∙ (λ k. Some (same k))
+values_refused file Memory (Err (Bad d)) is h = absurd (let e : Bad d ≡ Memory = is in (cc))
+values_refused file reported (Err Memory) is h = tt
+
+-- if its values are good, a fault of its files is that of the package
+pub files_refused : {A : Type 0} (file : List ℕ) (c : Cause) (files : FilesRead) (r : Result A PackageFault) → IsErrAnd r (λ other. other ≡ Bad c) → container_fault_except_contents Package file ≡ None → files ≡ files_read_from_package file → Some c ≡ fault_of_files_read files → IfErr r (λ other. IsFaultOf other (package_fault file))
+files_refused file c files (Ok value) is good same told = absurd is
+files_refused file c files (Err (Bad d)) is good same told = let e : Bad d ≡ Bad c = is in let alike : c ≡ d = (cc) in files_then file good ∙ (ap fault_of_files_read (sym same) ∙ (sym told ∙ (λ k. Some (alike k))))
+files_refused file c files (Err Memory) is good same told = tt
+
+-- if its values and its files are good, the package is
+pub files_good : (file : List ℕ) (files : FilesRead) → container_fault_except_contents Package file ≡ None → files ≡ files_read_from_package file → None ≡ fault_of_files_read files → package_fault file ≡ None
+files_good file files good same told = files_then file good ∙ (ap fault_of_files_read (sym same) ∙ sym told)

@@ -81,7 +81,6 @@ fn verify_as(alloc: Global, bytes: &[u8], which: Which) -> Result<(), PackageFau
 }
 
 /// Tests a package, with the contents of its files.
-#[tactic(auto, using(crate::proofs::Steps::files_then, crate::proofs::Steps::values_first))]
 fn verify_package(alloc: Global, bytes: &[u8]) -> Result<(), PackageFault>
     // The error is the first failed test, or out of memory.
     ensures bad { IfErr result (λ fault. IsFaultOf fault (package_fault bytes.now)) }

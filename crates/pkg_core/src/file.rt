@@ -58,7 +58,6 @@ impl<'a> FileCheck<'a> {
     /// # Errors
     ///
     /// `HashDiffers`, after the last piece, if all bytes together do not have the file's digest.
-    #[tactic(auto, using(crate::proofs::Taken::more_left, crate::proofs::Taken::last_good, crate::proofs::Taken::last_bad))]
     pub fn take(self, bytes: &[u8]) -> Result<(Part, Option<FileCheck<'a>>), Cause>
         // The piece has the length that the reader expects next.
         requires { length bytes.now ≡ next_piece_len self }

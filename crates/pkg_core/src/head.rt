@@ -46,7 +46,6 @@ impl HeadBytes {
     /// # Errors
     ///
     /// `Disk` if the tree failed.
-    #[tactic(auto, using(crate::proofs::Heads::holds_none, crate::proofs::Heads::holds_short, crate::proofs::Heads::holds_cut, crate::proofs::Heads::holds_both, crate::proofs::Heads::short_both, crate::proofs::SeenBytes::seen_both, crate::proofs::SeenBytes::seen_by_read, crate::proofs::SeenBytes::proper_where_long))]
     pub fn read<T: Tree>(tree: &mut T, name: &Name, at: u64, left: u64) -> Result<HeadBytes, Disk>
         // Offsets have 64 bits.
         requires { at + left < 2 ^ 64 }

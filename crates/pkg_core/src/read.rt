@@ -84,7 +84,6 @@ impl Model for Header {
 
 impl Header {
     /// Reads the first bytes of a file of this length.
-    #[tactic(auto, using(crate::proofs::SeenBytes::seen_by_read, crate::proofs::SeenBytes::proper_where_long))]
     fn read<T: Tree>(tree: &mut T, name: &Name, len: u64) -> Result<Header, FrontFault>
         // Eight bytes are read, or all bytes of a shorter file.
         ensures len { IfOk result (λ header. length header ≡ min len 8) }
@@ -115,7 +114,6 @@ impl Header {
 }
 
 /// Reads this many bytes of a file, from an offset on.
-#[tactic(auto, using(crate::proofs::SeenBytes::seen_by_read, crate::proofs::SeenBytes::proper_where_long))]
 fn read_payload<T: Tree>(
     alloc: Global,
     tree: &mut T,

@@ -1,13 +1,13 @@
 -- What was seen read by read is the witness.
 use Rattle.std.proofs.Common.{◌≡◌, ◌≤◌, ◌+◌, ◌-◌, ℕ, ◌++◌, ◌∙◌, sym, ap, refl, subst, length, drop, min, None, arith}
-use Rattle.std.proofs.lemmas.List.{length-append, length-drop}
+use Rattle.std.proofs.lemmas.List.{length-drop}
 use Rattle.adb_block.specs.Framing.{next_block_result_at_offset}
 use Rattle.adb_block.specs.BlockWithoutOffset.{padding_of}
 use Rattle.adb_view.specs.Head.{payload_head_fault}
 use Rattle.adb_block.specs.Frames.{IsFrameOfBlockResult}
 use Rattle.pkg_core.specs.Seen.{HasBytesAtOffset, tree_fault}
 use Rattle.pkg_core.specs.declared.front.FrontFault.TheVariants.{Bad, Disk as DiskFault}
-use Rattle.pkg_core.proofs.FrontSeen.{bad_not_disk, head_seen, header_is, header_seen, padded, payload_seen, present_bad, present_disk}
+use Rattle.pkg_core.proofs.FrontSeen.{bad_not_disk, disk_no_test, eight_last, front_ends, further_fits, head_fits, head_seen, header_fits, header_is, header_seen, header_whole, padded, padding_fits, part_fits, payload_fits, payload_seen, payload_start, present_bad, present_unseen, rest_fits}
 use Rattle.pkg_core.proofs.FrontSteps.{first_bad, first_blocks, first_failed, first_head_bad, header_bad, header_eight, schema_bad}
 use Rattle.pkg_core.proofs.HeaderFront.{header_front}
 use Rattle.pkg_core.proofs.SeenBytes.{has_front, has_rest, reads_bad, reads_err, reads_failed, reads_in_a_row, reads_ok}
@@ -16,11 +16,20 @@ use Rattle.pkg_core.proofs.read.read_present.Goals as goal
 zero_and : {n m : ℕ} → n ≡ m → 0 + n ≡ m
 zero_and {n} {m} e = omega (arith, e)
 
+pub returns-in_err-header-clause-front : goal.returns-in_err-header-clause-front
+returns-in_err-header-clause-front g c = present_unseen _ _ _ c.args.schema _ c.in_err-header.field-0.0 c.from_residual.ensures.1 (disk_no_test _ c.in_err-header.ensures.disk)
+
+pub returns-in_err-header-clause-tree : goal.returns-in_err-header-clause-tree
+returns-in_err-header-clause-tree g c = reads_err _ _ DiskFault _ _ _ _ c.in_err-header.field-0.0 _ c.from_residual.ensures.1 c.in_err-header.ensures.tree
+
 pub returns-in_err-found-clause-front : goal.returns-in_err-found-clause-front
 returns-in_err-found-clause-front g c =
     let header = c.in_ok-header.header in
     let n = c.in_ok-header.ensures.len in
     (header, header_seen _ _ header c.args.len n (c.in_ok-header.ensures.seen c.args.len), λ file long has. present_bad c.args.schema c.from_residual-in_err-found.result (length header) file c.in_err-found.field-0.0 c.from_residual-in_err-found.ensures.1 (header_bad file c.args.schema c.in_err-found.field-0.0 (sym (header_front file header c.args.len n long has) ∙ (sym c.schema.ensures ∙ c.in_err-found.was))))
+
+pub returns-in_err-found-clause-tree : goal.returns-in_err-found-clause-tree
+returns-in_err-found-clause-tree g c = reads_bad _ _ DiskFault DiskFault _ _ _ _ c.in_ok-header.header (Bad c.in_err-found.field-0.0) _ c.from_residual-in_err-found.ensures.1 (bad_not_disk _) c.in_ok-header.ensures.tree
 
 pub returns-then-found-schema-clause-front : goal.returns-then-found-schema-clause-front
 returns-then-found-schema-clause-front g c =
@@ -28,36 +37,36 @@ returns-then-found-schema-clause-front g c =
     let n = c.in_ok-header.ensures.len in
     (header, header_seen _ _ header c.args.len n (c.in_ok-header.ensures.seen c.args.len), λ file long has. schema_bad file c.args.schema c.in_ok-found.found (sym (header_front file header c.args.len n long has) ∙ (sym c.schema.ensures ∙ c.in_ok-found.was)) c.if-found-schema.true)
 
+pub returns-then-found-schema-clause-tree : goal.returns-then-found-schema-clause-tree
+returns-then-found-schema-clause-tree g c = reads_bad _ _ DiskFault DiskFault _ _ _ _ c.in_ok-header.header _ _ refl (bad_not_disk _) c.in_ok-header.ensures.tree
+
 pub overflow_sub-len : goal.overflow_sub-len
 overflow_sub-len g c =
     let n = c.in_ok-header.ensures.len in
     let eight = header_eight c.in_ok-header.header c.in_ok-found.found (sym c.schema.ensures ∙ c.in_ok-found.was) in
-    omega (arith, n, eight)
+    header_fits _ c.args.len n eight
 
 pub returns-in_err-head-clause-front : goal.returns-in_err-head-clause-front
-returns-in_err-head-clause-front g c =
-    let header = c.in_ok-header.header in
-    let n = c.in_ok-header.ensures.len in
-    (header, header_seen _ _ header c.args.len n (c.in_ok-header.ensures.seen c.args.len), λ file long has. present_disk c.args.schema c.from_residual-in_err-head.result (length header) file DiskFault c.from_residual-in_err-head.ensures.1 refl)
+returns-in_err-head-clause-front g c = present_unseen _ _ _ c.args.schema _ DiskFault c.from_residual-in_err-head.ensures.1 tt
 
 pub returns-in_err-head-clause-tree : goal.returns-in_err-head-clause-tree
 returns-in_err-head-clause-tree g c =
     let n = c.in_ok-header.ensures.len in
     let eight = header_eight c.in_ok-header.header c.in_ok-found.found (sym c.schema.ensures ∙ c.in_ok-found.was) in
-    let fits : 8 + (c.args.len - 8) ≤ c.args.len = omega (arith, n, eight) in
+    let fits = rest_fits _ c.args.len n eight in
     reads_in_a_row _ _ DiskFault DiskFault _ _ _ _ _ _ _ _ c.in_ok-header.ensures.tree (reads_failed _ _ DiskFault _ _ _ _ c.in_err-head.field-0.0 _ c.from_residual-in_err-head.ensures.1 (c.in_err-head.ensures.tree c.args.len fits))
 
 pub overflow_sub-len-2 : goal.overflow_sub-len-2
 overflow_sub-len-2 g c =
     let n = c.in_ok-header.ensures.len in
     let eight = header_eight c.in_ok-header.header c.in_ok-found.found (sym c.schema.ensures ∙ c.in_ok-found.was) in
-    omega (arith, n, eight)
+    header_fits _ c.args.len n eight
 
 pub overflow_sub-len-3 : goal.overflow_sub-len-3
 overflow_sub-len-3 g c =
     let n = c.in_ok-header.ensures.len in
     let eight = header_eight c.in_ok-header.header c.in_ok-found.found (sym c.schema.ensures ∙ c.in_ok-found.was) in
-    omega (arith, n, eight)
+    header_fits _ c.args.len n eight
 
 pub returns-in_err-framed-clause-front : goal.returns-in_err-framed-clause-front
 returns-in_err-framed-clause-front g c =
@@ -65,9 +74,9 @@ returns-in_err-framed-clause-front g c =
     let head = c.in_ok-head.head in
     let n = c.in_ok-header.ensures.len in
     let eight = header_eight header c.in_ok-found.found (sym c.schema.ensures ∙ c.in_ok-found.was) in
-    let long_header : length header ≡ 8 = omega (arith, n, eight) in
+    let long_header = header_whole _ c.args.len n eight in
     let short : length head ≤ c.args.len - 8 = c.in_ok-head.ensures.holds.within in
-    let fits : 8 + length head ≤ c.args.len = omega (arith, n, eight, short) in (
+    let fits = part_fits _ c.args.len (length head) n eight short in (
       header ++ head,
       head_seen _ _ _ header head c.args.len c.in_ok-header.ensures.tree.same long_header fits (c.in_ok-header.ensures.seen c.args.len) (c.in_ok-head.ensures.seen c.args.len),
       λ file long has.
@@ -82,16 +91,19 @@ pub returns-in_err-framed-clause-tree : goal.returns-in_err-framed-clause-tree
 returns-in_err-framed-clause-tree g c =
     let n = c.in_ok-header.ensures.len in
     let eight = header_eight c.in_ok-header.header c.in_ok-found.found (sym c.schema.ensures ∙ c.in_ok-found.was) in
-    let fits : 8 + (c.args.len - 8) ≤ c.args.len = omega (arith, n, eight) in
+    let fits = rest_fits _ c.args.len n eight in
     reads_in_a_row _ _ DiskFault DiskFault _ _ _ _ _ _ _ _ c.in_ok-header.ensures.tree (reads_bad _ _ tree_fault DiskFault _ _ _ _ c.in_ok-head.head (Bad c.in_err-framed.field-0.0) _ c.from_residual-in_err-framed.ensures.1 (bad_not_disk c.in_err-framed.field-0.0) (c.in_ok-head.ensures.tree c.args.len fits))
+
+pub returns-in_err-payload-clause-front : goal.returns-in_err-payload-clause-front
+returns-in_err-payload-clause-front g c = present_unseen _ _ _ c.args.schema _ c.in_err-payload.field-0.0 c.from_residual-in_err-payload.ensures.1 c.in_err-payload.ensures.good
 
 pub returns-in_err-payload-clause-tree : goal.returns-in_err-payload-clause-tree
 returns-in_err-payload-clause-tree g c =
     let n = c.in_ok-header.ensures.len in
     let eight = header_eight c.in_ok-header.header c.in_ok-found.found (sym c.schema.ensures ∙ c.in_ok-found.was) in
     let room = c.in_ok-framed.ensures.within.0 in
-    let fits : 8 + (c.args.len - 8) ≤ c.args.len = omega (arith, n, eight) in
-    let ends : 8 + c.in_ok-framed.framed.head_len + c.in_ok-framed.framed.payload_len ≤ c.args.len = omega (arith, n, eight, room) in
+    let fits = rest_fits _ c.args.len n eight in
+    let ends = payload_fits _ c.args.len c.in_ok-framed.framed.head_len c.in_ok-framed.framed.payload_len c.in_ok-framed.framed.payload_len n eight room refl in
     reads_in_a_row _ _ DiskFault DiskFault _ _ _ _ _ _ _ _ c.in_ok-header.ensures.tree (reads_in_a_row _ _ tree_fault DiskFault _ _ _ _ _ _ _ _ (c.in_ok-head.ensures.tree c.args.len fits) (reads_err _ _ DiskFault _ _ _ _ c.in_err-payload.field-0.0 _ c.from_residual-in_err-payload.ensures.1 (c.in_err-payload.ensures.tree c.args.len ends)))
 
 pub returns-in_err-new-clause-front : goal.returns-in_err-new-clause-front
@@ -102,16 +114,15 @@ returns-in_err-new-clause-front g c =
     let framed = c.in_ok-framed.framed in
     let n = c.in_ok-header.ensures.len in
     let eight = header_eight header c.in_ok-found.found (sym c.schema.ensures ∙ c.in_ok-found.was) in
-    let long_header : length header ≡ 8 = omega (arith, n, eight) in
+    let long_header = header_whole _ c.args.len n eight in
     let room = c.in_ok-framed.ensures.within.0 in
     let pad = c.padding_after-padding.ensures in
     let head_len : framed.head_len ≡ length head = c.in_ok-framed.ensures.within.1 in
     let payload_len : length payload ≡ framed.payload_len = c.in_ok-payload.ensures.len in
-    let both = length-append header head in
-    let whole : 8 + (c.args.len - 8) ≤ c.args.len = omega (arith, n, eight) in
-    let fits : 8 + length head ≤ c.args.len = omega (arith, n, eight, room, head_len) in
-    let starts : 8 + framed.head_len ≡ length (header ++ head) = omega (arith, long_header, head_len, both) in
-    let ends : 8 + framed.head_len + length payload ≤ c.args.len = omega (arith, n, eight, room, payload_len) in (
+    let whole = rest_fits _ c.args.len n eight in
+    let fits = head_fits _ c.args.len framed.head_len framed.payload_len (length head) n eight room head_len in
+    let starts = payload_start header head framed.head_len long_header head_len in
+    let ends = payload_fits _ c.args.len framed.head_len framed.payload_len (length payload) n eight room payload_len in (
       (header ++ head) ++ payload,
       payload_seen _ _ _ (header ++ head) payload c.args.len (8 + framed.head_len) ((c.in_ok-head.ensures.tree c.args.len whole).same ∙ c.in_ok-header.ensures.tree.same) starts ends (head_seen _ _ _ header head c.args.len c.in_ok-header.ensures.tree.same long_header fits (c.in_ok-header.ensures.seen c.args.len) (c.in_ok-head.ensures.seen c.args.len)) (c.in_ok-payload.ensures.seen c.args.len),
       λ file long has.
@@ -130,8 +141,8 @@ returns-in_err-new-clause-tree g c =
     let n = c.in_ok-header.ensures.len in
     let eight = header_eight c.in_ok-header.header c.in_ok-found.found (sym c.schema.ensures ∙ c.in_ok-found.was) in
     let room = c.in_ok-framed.ensures.within.0 in
-    let fits : 8 + (c.args.len - 8) ≤ c.args.len = omega (arith, n, eight) in
-    let ends : 8 + c.in_ok-framed.framed.head_len + c.in_ok-framed.framed.payload_len ≤ c.args.len = omega (arith, n, eight, room) in
+    let fits = rest_fits _ c.args.len n eight in
+    let ends = payload_fits _ c.args.len c.in_ok-framed.framed.head_len c.in_ok-framed.framed.payload_len c.in_ok-framed.framed.payload_len n eight room refl in
     reads_in_a_row _ _ DiskFault DiskFault _ _ _ _ _ _ _ _ c.in_ok-header.ensures.tree (reads_in_a_row _ _ tree_fault DiskFault _ _ _ _ _ _ _ _ (c.in_ok-head.ensures.tree c.args.len fits) (reads_bad _ _ DiskFault DiskFault _ _ _ _ c.in_ok-payload.payload (Bad c.in_err-new.field-0.0) _ c.from_residual-in_err-new.ensures.1 (bad_not_disk c.in_err-new.field-0.0) (c.in_ok-payload.ensures.tree c.args.len ends)))
 
 pub returns-clause-front : goal.returns-clause-front
@@ -143,23 +154,20 @@ returns-clause-front g c =
     let padding = c.padding_after-padding.result in
     let n = c.in_ok-header.ensures.len in
     let eight = header_eight header c.in_ok-found.found (sym c.schema.ensures ∙ c.in_ok-found.was) in
-    let long_header : length header ≡ 8 = omega (arith, n, eight) in
+    let long_header = header_whole _ c.args.len n eight in
     let room = c.in_ok-framed.ensures.within.0 in
     let pad = c.padding_after-padding.ensures in
     let head_len : framed.head_len ≡ length head = c.in_ok-framed.ensures.within.1 in
     let payload_len : length payload ≡ framed.payload_len = c.in_ok-payload.ensures.len in
-    let both = length-append header head in
-    let whole : 8 + (c.args.len - 8) ≤ c.args.len = omega (arith, n, eight) in
-    let all = length-append (header ++ head) payload in
-    let fits : 8 + length head ≤ c.args.len = omega (arith, n, eight, room, head_len) in
-    let starts : 8 + framed.head_len ≡ length (header ++ head) = omega (arith, long_header, head_len, both) in
-    let ends : 8 + framed.head_len + length payload ≤ c.args.len = omega (arith, n, eight, room, payload_len) in
+    let whole = rest_fits _ c.args.len n eight in
+    let fits = head_fits _ c.args.len framed.head_len framed.payload_len (length head) n eight room head_len in
+    let starts = payload_start header head framed.head_len long_header head_len in
+    let ends = payload_fits _ c.args.len framed.head_len framed.payload_len (length payload) n eight room payload_len in
     let seen = payload_seen _ _ _ (header ++ head) payload c.args.len (8 + framed.head_len) ((c.in_ok-head.ensures.tree c.args.len whole).same ∙ c.in_ok-header.ensures.tree.same) starts ends (head_seen _ _ _ header head c.args.len c.in_ok-header.ensures.tree.same long_header fits (c.in_ok-header.ensures.seen c.args.len) (c.in_ok-head.ensures.seen c.args.len)) (c.in_ok-payload.ensures.seen c.args.len) in
-    let padding_fits : length ((header ++ head) ++ payload) + padding ≤ c.args.len = omega (arith, n, eight, room, pad, starts, payload_len, all) in
-    let last = padded _ _ c.args.len padding ((header ++ head) ++ payload) seen padding_fits in
-    let full = length-append ((header ++ head) ++ payload) last.further in (
+    let within = padding_fits _ c.args.len framed.head_len framed.payload_len _ padding (header ++ head) payload n eight room pad starts payload_len in
+    let last = padded _ _ c.args.len padding ((header ++ head) ++ payload) seen within in (
       ((header ++ head) ++ payload) ++ last.further,
-      record { seen = last.seen; within = omega (arith, full, last.long, padding_fits) },
+      record { seen = last.seen; within = further_fits ((header ++ head) ++ payload) last.further padding c.args.len last.long within },
       λ file long has.
           let whole = has_front file 0 ((header ++ head) ++ payload) last.further has in
           let before = has_front file 0 (header ++ head) payload whole in
@@ -168,9 +176,9 @@ returns-clause-front g c =
           let here : HasBytesAtOffset file 8 head = subst (λ (k : ℕ). HasBytesAtOffset file k head) (zero_and long_header) (has_rest file 0 header head before) in
           let there : HasBytesAtOffset file (8 + framed.head_len) payload = subst (λ (k : ℕ). HasBytesAtOffset file k payload) (zero_and (sym starts)) (has_rest file 0 (header ++ head) payload whole) in
           let step = subst (λ r. IsFrameOfBlockResult r (drop 8 file) (next_block_result_at_offset None 8 (drop 8 file))) c.in_ok-framed.was (c.first_framed.ensures.exact (drop 8 file) left here) in
-          let at_is : 8 + framed.head_len + framed.payload_len + padding ≡ 8 + (framed.head_len + framed.payload_len + padding) = omega arith in
+          let at_is = eight_last framed.head_len framed.payload_len padding in
           let blocks = first_blocks file payload framed padding (8 + framed.head_len + framed.payload_len + padding) step c.in_ok-framed.ensures.order (subst (λ (k : ℕ). framed.head_len + framed.payload_len ≤ k) (sym left) room) (pad ∙ ap (λ (k : ℕ). min (padding_of (framed.head_len + framed.payload_len)) (k - (framed.head_len + framed.payload_len))) (sym left)) payload_len there at_is in
-          (record { header = front; same_schema = refl; long = long; blocks = blocks c.args.schema; head = sym (c.in_ok-new.ensures.exact ∙ ap payload_head_fault c.deref.ensures.value) }, omega (arith, starts, payload_len, all, full, last.long)),
+          (record { header = front; same_schema = refl; long = long; blocks = blocks c.args.schema; head = sym (c.in_ok-new.ensures.exact ∙ ap payload_head_fault c.deref.ensures.value) }, front_ends (header ++ head) payload last.further framed.head_len framed.payload_len padding starts payload_len last.long),
     )
 
 pub returns-clause-tree : goal.returns-clause-tree
@@ -178,6 +186,6 @@ returns-clause-tree g c =
     let n = c.in_ok-header.ensures.len in
     let eight = header_eight c.in_ok-header.header c.in_ok-found.found (sym c.schema.ensures ∙ c.in_ok-found.was) in
     let room = c.in_ok-framed.ensures.within.0 in
-    let fits : 8 + (c.args.len - 8) ≤ c.args.len = omega (arith, n, eight) in
-    let ends : 8 + c.in_ok-framed.framed.head_len + c.in_ok-framed.framed.payload_len ≤ c.args.len = omega (arith, n, eight, room) in
+    let fits = rest_fits _ c.args.len n eight in
+    let ends = payload_fits _ c.args.len c.in_ok-framed.framed.head_len c.in_ok-framed.framed.payload_len c.in_ok-framed.framed.payload_len n eight room refl in
     reads_in_a_row _ _ DiskFault DiskFault _ _ _ _ _ _ _ _ c.in_ok-header.ensures.tree (reads_in_a_row _ _ tree_fault DiskFault _ _ _ _ _ _ _ _ (c.in_ok-head.ensures.tree c.args.len fits) (reads_ok _ _ DiskFault _ _ _ _ c.in_ok-payload.payload _ (c.in_ok-payload.ensures.tree c.args.len ends)))
