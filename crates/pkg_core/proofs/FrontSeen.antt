@@ -1,5 +1,5 @@
 -- What was seen of a front, read by read, and what it says of each file that has these bytes.
-use Rattle.std.proofs.Common.{◌≡◌, ℕ, ◌+◌, ◌-◌, ◌≤◌, min, List, [], ◌∷◌, ◌++◌, length, Option, Some, None, Result, Ok, Err, refl, ap, sym, subst, ◌∙◌, arith}
+use Rattle.std.proofs.Common.{◌≡◌, ℕ, ◌+◌, ◌-◌, ◌^◌, ◌<◌, ◌≤◌, min, List, [], ◌∷◌, ◌++◌, length, Option, Some, None, Result, Ok, Err, refl, ap, sym, subst, ◌∙◌, arith}
 use Rattle.std.specs.Prelude.{IfSome, IsErrAnd}
 use Rattle.std.proofs.lemmas.List.{length-append}
 use Rattle.base_core.specs.declared.cause.Cause.{Cause}
@@ -136,3 +136,14 @@ front_ends front payload further size k padding starts long behind =
 
 pub eight_last : (a b c : ℕ) → 8 + a + b + c ≡ 8 + (a + b + c)
 eight_last a b c = omega arith
+
+-- ---- in a file whose length has 64 bits, each of these offsets has 64 bits
+
+pub start_64 : (len size k : ℕ) → len < 2 ^ 64 → size + k ≤ len - 8 → 8 + size < 2 ^ 64
+start_64 len size k short fits = omega arith
+
+pub end_64 : (len size k : ℕ) → len < 2 ^ 64 → size + k ≤ len - 8 → 8 + size + k < 2 ^ 64
+end_64 len size k short fits = omega arith
+
+pub padded_64 : (len size k most padding : ℕ) → len < 2 ^ 64 → size + k ≤ len - 8 → padding ≡ min most (len - 8 - (size + k)) → 8 + size + k + padding < 2 ^ 64
+padded_64 len size k most padding short fits pad = omega arith

@@ -7,7 +7,7 @@ use Rattle.adb_view.specs.Head.{payload_head_fault}
 use Rattle.adb_block.specs.Frames.{IsFrameOfBlockResult}
 use Rattle.pkg_core.specs.Seen.{HasBytesAtOffset, tree_fault}
 use Rattle.pkg_core.specs.declared.front.FrontFault.TheVariants.{Bad, Disk as DiskFault}
-use Rattle.pkg_core.proofs.FrontSeen.{bad_not_disk, disk_no_test, eight_last, front_ends, further_fits, head_fits, head_seen, header_fits, header_is, header_seen, header_whole, padded, padding_fits, part_fits, payload_fits, payload_seen, payload_start, present_bad, present_unseen, rest_fits}
+use Rattle.pkg_core.proofs.FrontSeen.{bad_not_disk, disk_no_test, eight_last, end_64, front_ends, further_fits, head_fits, head_seen, header_fits, header_is, header_seen, header_whole, padded, padded_64, padding_fits, part_fits, payload_fits, payload_seen, payload_start, present_bad, present_unseen, rest_fits, start_64}
 use Rattle.pkg_core.proofs.FrontSteps.{first_bad, first_blocks, first_failed, first_head_bad, header_bad, header_eight, schema_bad}
 use Rattle.pkg_core.proofs.HeaderFront.{header_front}
 use Rattle.pkg_core.proofs.SeenBytes.{has_front, has_rest, reads_bad, reads_err, reads_failed, reads_in_a_row, reads_ok}
@@ -189,3 +189,18 @@ returns-clause-tree g c =
     let fits = rest_fits _ c.args.len n eight in
     let ends = payload_fits _ c.args.len c.in_ok-framed.framed.head_len c.in_ok-framed.framed.payload_len c.in_ok-framed.framed.payload_len n eight room refl in
     reads_in_a_row _ _ DiskFault DiskFault _ _ _ _ _ _ _ _ c.in_ok-header.ensures.tree (reads_in_a_row _ _ tree_fault DiskFault _ _ _ _ _ _ _ _ (c.in_ok-head.ensures.tree c.args.len fits) (reads_ok _ _ DiskFault _ _ _ _ c.in_ok-payload.payload _ (c.in_ok-payload.ensures.tree c.args.len ends)))
+
+pub first_framed-requires : goal.first_framed-requires
+first_framed-requires g c = record { holds = c.in_ok-head.ensures.holds; short = c.in_ok-head.ensures.short }
+
+pub padding_after-padding-requires : goal.padding_after-padding-requires
+padding_after-padding-requires g c = c.in_ok-framed.ensures.within.0
+
+pub overflow_add-start : goal.overflow_add-start
+overflow_add-start g c = record { fits = start_64 c.args.len c.in_ok-framed.framed.head_len c.in_ok-framed.framed.payload_len c.ranges.len.fits c.in_ok-framed.ensures.within.0 }
+
+pub overflow_add-result : goal.overflow_add-result
+overflow_add-result g c = record { fits = end_64 c.args.len c.in_ok-framed.framed.head_len c.in_ok-framed.framed.payload_len c.ranges.len.fits c.in_ok-framed.ensures.within.0 }
+
+pub overflow_add-result-2 : goal.overflow_add-result-2
+overflow_add-result-2 g c = record { fits = padded_64 c.args.len c.in_ok-framed.framed.head_len c.in_ok-framed.framed.payload_len _ c.padding_after-padding.result c.ranges.len.fits c.in_ok-framed.ensures.within.0 c.padding_after-padding.ensures }
