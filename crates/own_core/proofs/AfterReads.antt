@@ -1,0 +1,77 @@
+-- What a function that only reads the tree ensures at its returns, of the tree and of the fault.
+use Rattle.std.proofs.Common.{◌≡◌, List, [], ◌∷◌, Option, Some, None, Result, Ok, Err, ap, subst}
+use Rattle.std.specs.Prelude.{IsErrAnd, option_map}
+use Rattle.base_core.specs.Calls.{IfObservable}
+use Rattle.base_core.specs.Faults.{Counts}
+use Rattle.base_core.specs.Read.{OnlyReads}
+use Rattle.base_core.specs.Tree.{TreeState, files_of}
+use Rattle.base_core.proofs.Counting.{readings_none}
+use Rattle.change_files.specs.db_core.Members.{Member}
+use Rattle.change_files.specs.NamesAfter.{name_change}
+use Rattle.change_files.specs.FileChange.{FileChange}
+use Rattle.change_files.specs.PlanLists.{first_reserved_added_path_in_byte_order}
+use Rattle.path_claim_lists.specs.path_clashes.ClashSeen.{clash_seen}
+use Rattle.path_claim_lists.specs.path_clashes.FirstClash.{IsFirstClashOrNone}
+use Rattle.path_claim_lists.specs.path_clashes.declared.clash.Clash.{Clash}
+use Rattle.own_core.specs.Planned.{IsContestedPathFaultWithRivals, IsRefusalForMembersAlone}
+use Rattle.own_core.specs.declared.fault.PlanFault.{PlanFault}
+use Rattle.own_core.specs.declared.fault.PlanFault.TheVariants.{Disk, Memory, Owned, PathClash, Reserved}
+
+-- a read that succeeds, followed by a success
+pub read_as : {A B D E : Type 0} (disk : D) (fault : E) (old new : List TreeState) (a b : Counts) (value : A) (other : B)
+    → OnlyReads disk old new a b (Ok value) → OnlyReads fault old new a b (Ok other)
+read_as disk fault old new a b value other h = record {
+  same = h.same;
+  goes_on = h.goes_on;
+  disk = λ off. absurd (cc);
+  kept = h.kept;
+  others = tt;
+  proper = h.proper;
+}
+
+-- a read that succeeds, followed by a failure that is not that of the tree
+pub read_then_fails : {A B D E : Type 0} (disk : D) (fault other : E) (old new : List TreeState) (a b : Counts) (value : A) (r : Result B E)
+    → IsErrAnd r (λ e. e ≡ other) → (other ≡ fault → ⊥) → OnlyReads disk old new a b (Ok value) → OnlyReads fault old new a b r
+read_then_fails disk fault other old new a b value (Ok x) is not_disk h = absurd is
+read_then_fails disk fault other old new a b value (Err e) is not_disk h = record {
+  same = h.same;
+  goes_on = h.goes_on;
+  disk = λ off. absurd (not_disk (cc));
+  kept = tt;
+  others = λ e. h.kept;
+  proper = h.proper;
+}
+
+-- a failure without a read, which is not that of the tree
+pub fails_unread : {B E : Type 0} (fault other : E) (h : List TreeState) (a : Counts) (r : Result B E) → IsErrAnd r (λ e. e ≡ other) → (other ≡ fault → ⊥) → OnlyReads fault h h a a r
+fails_unread fault other h a r is not_disk = read_then_fails fault fault other h h a a fault r is not_disk (readings_none fault h a fault)
+
+-- the fault that a result has
+pub fault_is : {A E : Type 0} (other : E) (r : Result A E) → IsErrAnd r (λ e. e ≡ other) → r ≡ Err other
+fault_is other (Ok x) is = absurd is
+fault_is other (Err e) is = ap Err is
+
+-- what says nothing of a tree holds of each history
+pub says_nothing : (h : List TreeState) → IfObservable h (λ v. Unit {0})
+says_nothing [] = tt
+says_nothing (v ∷ h) = tt
+
+-- a clash that was found is the first one over the files of the tree
+pub first_found : (change : FileChange) (old new : List TreeState) (found : Option Clash) (clash : Clash) → new ≡ old → found ≡ Some clash
+    → IfObservable new (λ v. IsFirstClashOrNone (name_change change (files_of v)) (files_of v) (option_map clash_seen found))
+    → IfObservable old (λ v. IsFirstClashOrNone (name_change change (files_of v)) (files_of v) (Some (clash_seen clash)))
+first_found change old new found clash same is told =
+    subst (λ (o : Option Clash). IfObservable old (λ v. IsFirstClashOrNone (name_change change (files_of v)) (files_of v) (option_map clash_seen o))) is
+    (subst (λ (h : List TreeState). IfObservable h (λ v. IsFirstClashOrNone (name_change change (files_of v)) (files_of v) (option_map clash_seen found))) same told)
+
+-- a reported contested path is a refusal for the members, if no added member lists a reserved path
+pub contest_refuses : (members : List Member) (fault : PlanFault) → first_reserved_added_path_in_byte_order members ≡ None → IsContestedPathFaultWithRivals members fault → IsRefusalForMembersAlone members fault
+contest_refuses members (Reserved path) none is = absurd is
+contest_refuses members (PathClash path other) none is = absurd is
+contest_refuses members (Owned path first second) none is = (none, is)
+contest_refuses members Disk none is = absurd is
+contest_refuses members Memory none is = absurd is
+
+-- a reported contested path is no failure of the tree
+pub contest_not_disk : (members : List Member) (fault : PlanFault) → IsContestedPathFaultWithRivals members fault → fault ≡ Disk → ⊥
+contest_not_disk members fault is off = subst (IsContestedPathFaultWithRivals members) off is
