@@ -1,10 +1,11 @@
 -- What a function that only reads the tree ensures at its returns, of the tree and of the fault.
-use Rattle.std.proofs.Common.{◌≡◌, List, [], ◌∷◌, Option, Some, None, Result, Ok, Err, ap, subst}
-use Rattle.std.specs.Prelude.{IsErrAnd, option_map}
+use Rattle.std.proofs.Common.{◌≡◌, List, [], ◌∷◌, Option, Some, None, Result, Ok, Err, ap, subst, ℕ}
+use Rattle.std.specs.Prelude.{IsErrAnd, IsErrOf, option_map}
 use Rattle.base_core.specs.Calls.{IfObservable}
 use Rattle.base_core.specs.Faults.{Counts}
 use Rattle.base_core.specs.Read.{OnlyReads}
 use Rattle.base_core.specs.Tree.{TreeState, files_of}
+use Rattle.base_core.specs.declared.tree.TreeFault.TheVariants as TreeFaults
 use Rattle.base_core.proofs.Counting.{readings_none}
 use Rattle.change_files.specs.db_core.Members.{Member}
 use Rattle.change_files.specs.NamesAfter.{name_change}
@@ -75,3 +76,35 @@ contest_refuses members Memory none is = absurd is
 -- a reported contested path is no failure of the tree
 pub contest_not_disk : (members : List Member) (fault : PlanFault) → IsContestedPathFaultWithRivals members fault → fault ≡ Disk → ⊥
 contest_not_disk members fault is off = subst (IsContestedPathFaultWithRivals members) off is
+
+-- a lack of memory is no failure of the tree
+pub memory_not_disk : Memory ≡ Disk → ⊥
+memory_not_disk off = cc
+
+-- nor is it one among the faults of a call of the tree
+pub tree_memory_not_disk : TreeFaults.Memory ≡ TreeFaults.Disk → ⊥
+tree_memory_not_disk off = cc
+
+-- a reported reserved path is no failure of the tree
+pub reserved_not_disk : (path : List ℕ) → Reserved path ≡ Disk → ⊥
+reserved_not_disk path off = cc
+
+-- a reported clash is no failure of the tree
+pub clash_not_disk : (path other : List ℕ) → PathClash path other ≡ Disk → ⊥
+clash_not_disk path other off = cc
+
+-- a read that fails, as a failure that another function tells
+pub read_fails : {A B D E : Type 0} (disk : D) (fault : E) (old new : List TreeState) (a b : Counts) (off : D) (r : Result B E)
+    → off ≡ disk → IsErrAnd r (λ e. e ≡ fault) → OnlyReads {A = A} disk old new a b (Err off) → OnlyReads {A = B} fault old new a b r
+read_fails disk fault old new a b off (Ok x) same is h = absurd is
+read_fails disk fault old new a b off (Err e) same is h = record {
+  same = h.same;
+  goes_on = h.goes_on;
+  disk = λ failed. h.disk (as_err off disk same);
+  kept = tt;
+  others = λ not_disk. absurd (not_disk is);
+  proper = h.proper;
+}
+  where
+    as_err : {X Y : Type 0} (x y : Y) → x ≡ y → IsErrOf {T = X} {E = Y} (Err x) y
+    as_err x y same = λ j. Err (same j)

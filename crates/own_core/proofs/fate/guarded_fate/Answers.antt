@@ -1,4 +1,4 @@
-use Rattle.std.proofs.Common.{◌∙◌, ℕ, List, ap, subst, sym}
+use Rattle.std.proofs.Common.{◌∙◌, ℕ, List, ap, subst, sym, refl}
 use Rattle.change_files.specs.Fate.{fate_if_user_modified_file}
 use Rattle.change_files.specs.db_core.Seen.{members_of}
 use Rattle.path_claim_lists.specs.path_claims.Seen.{claim_seen}
@@ -8,7 +8,7 @@ use Rattle.own_core.specs.Sides.{file_change_of}
 use Rattle.own_core.proofs.OneFile.{changed_fate}
 use Rattle.base_core.specs.declared.tree.TreeFault.TheVariants.{Disk, Memory}
 use Rattle.change_files.specs.FileChange.{old_file_entry}
-use Rattle.own_core.proofs.AfterReads.{read_as, read_then_fails}
+use Rattle.own_core.proofs.AfterReads.{read_as, read_fails, read_then_fails, tree_memory_not_disk}
 use Rattle.own_core.proofs.fate.guarded_fate.Goals as goal
 
 pub returns-then-is_present_and_modified_from_entry-clause-fate : goal.returns-then-is_present_and_modified_from_entry-clause-fate
@@ -23,7 +23,7 @@ returns-clause-tree g c = read_as (record {}) Disk _ _ _ _ c.in_ok-found.found _
 
 pub returns-in_err-fate-clause-tree : goal.returns-in_err-fate-clause-tree
 returns-in_err-fate-clause-tree g c =
-    read_then_fails (record {}) Disk Memory _ _ _ _ c.in_ok-found.found c.from_residual-in_err-fate.result c.from_residual-in_err-fate.ensures.1 (λ off. cc) c.in_ok-found.ensures.tree
+    read_then_fails (record {}) Disk Memory _ _ _ _ c.in_ok-found.found c.from_residual-in_err-fate.result c.from_residual-in_err-fate.ensures.1 tree_memory_not_disk c.in_ok-found.ensures.tree
 
 pub returns-then-is_present_and_modified_from_entry-clause-tree : goal.returns-then-is_present_and_modified_from_entry-clause-tree
 returns-then-is_present_and_modified_from_entry-clause-tree g c = read_as (record {}) Disk _ _ _ _ c.in_ok-found.found _ c.in_ok-found.ensures.tree
@@ -34,3 +34,7 @@ fate_if_user_modified_file-requires-clause-old g c =
 
 pub name_of_path-requires : goal.name_of_path-requires
 name_of_path-requires g c = c.requires.file.name
+
+pub returns-in_err-found-clause-tree : goal.returns-in_err-found-clause-tree
+returns-in_err-found-clause-tree g c =
+    read_fails (record {}) Disk _ _ _ _ c.in_err-found.field-0.0 c.from_residual-in_err-found.result refl c.from_residual-in_err-found.ensures.1 c.in_err-found.ensures.tree

@@ -16,7 +16,7 @@ use Rattle.own_core.proofs.OwnNames.{names_if_planned, sources_if_planned}
 use Rattle.own_core.proofs.PlanParts.{has_claims}
 use Rattle.own_core.proofs.WholePlan.{firsts_over}
 use Rattle.own_core.specs.declared.fault.PlanFault.TheVariants.{Disk, Memory, Reserved}
-use Rattle.own_core.proofs.AfterReads.{fails_unread, fault_is, says_nothing}
+use Rattle.own_core.proofs.AfterReads.{fails_unread, fault_is, memory_not_disk, reserved_not_disk, says_nothing}
 use Rattle.own_core.proofs.planning.plan.Goals as goal
 
 pub first_reserved_added_path_in_byte_order-requires-clause-files : goal.first_reserved_added_path_in_byte_order-requires-clause-files
@@ -111,7 +111,7 @@ returns-in_err-found g c = rw (fault_is Memory c.from_residual.result c.from_res
   refusal = says_nothing _;
   may = tt;
   cause = tt;
-  tree = fails_unread Disk Memory _ _ (Err Memory) refl (λ off. cc);
+  tree = fails_unread Disk Memory _ _ (Err Memory) refl memory_not_disk;
 })
 
 pub returns-in_err-reserved : goal.returns-in_err-reserved
@@ -123,7 +123,7 @@ returns-in_err-reserved g c = rw (fault_is Memory c.from_residual-in_err-reserve
   refusal = says_nothing _;
   may = tt;
   cause = tt;
-  tree = fails_unread Disk Memory _ _ (Err Memory) refl (λ off. cc);
+  tree = fails_unread Disk Memory _ _ (Err Memory) refl memory_not_disk;
 })
 
 pub returns-in_err-listed : goal.returns-in_err-listed
@@ -135,7 +135,7 @@ returns-in_err-listed g c = rw (fault_is Memory c.from_residual-in_err-listed.re
   refusal = says_nothing _;
   may = tt;
   cause = tt;
-  tree = fails_unread Disk Memory _ _ (Err Memory) refl (λ off. cc);
+  tree = fails_unread Disk Memory _ _ (Err Memory) refl memory_not_disk;
 })
 
 pub returns-in_err-before : goal.returns-in_err-before
@@ -147,7 +147,7 @@ returns-in_err-before g c = rw (fault_is Memory c.from_residual-in_err-before.re
   refusal = says_nothing _;
   may = tt;
   cause = tt;
-  tree = fails_unread Disk Memory _ _ (Err Memory) refl (λ off. cc);
+  tree = fails_unread Disk Memory _ _ (Err Memory) refl memory_not_disk;
 })
 
 pub returns-in_err-coming : goal.returns-in_err-coming
@@ -159,7 +159,7 @@ returns-in_err-coming g c = rw (fault_is Memory c.from_residual-in_err-coming.re
   refusal = says_nothing _;
   may = tt;
   cause = tt;
-  tree = fails_unread Disk Memory _ _ (Err Memory) refl (λ off. cc);
+  tree = fails_unread Disk Memory _ _ (Err Memory) refl memory_not_disk;
 })
 
 pub returns-in-Some : goal.returns-in-Some
@@ -171,5 +171,5 @@ returns-in-Some g c = record {
   refusal = says_nothing _;
   may = tt;
   cause = sym c.in_ok-reserved.ensures ∙ c.in-Some.is;
-  tree = fails_unread Disk (Reserved c.in-Some.path) _ _ (Err (Reserved c.in-Some.path)) refl (λ off. cc);
+  tree = fails_unread Disk (Reserved c.in-Some.path) _ _ (Err (Reserved c.in-Some.path)) refl (reserved_not_disk c.in-Some.path);
 }

@@ -8,7 +8,7 @@ use Rattle.std.specs.Prelude.{option_map}
 use Rattle.change_files.specs.db_core.Seen.{members_of}
 use Rattle.path_claim_lists.specs.path_claims.ContestedSeen.{contested_seen}
 use Rattle.own_core.specs.Sides.{file_change_of}
-use Rattle.own_core.proofs.AfterReads.{contest_not_disk, contest_refuses, fault_is, first_found, read_then_fails, says_nothing}
+use Rattle.own_core.proofs.AfterReads.{clash_not_disk, contest_not_disk, contest_refuses, fault_is, first_found, memory_not_disk, read_then_fails, says_nothing}
 use Rattle.own_core.proofs.planning.plan_of_claims.Goals as goal
 
 pub parts_of-requires-clause-files : goal.parts_of-requires-clause-files
@@ -79,7 +79,7 @@ returns-in_err-fault g c = rw (fault_is Memory c.from_residual-in_err-fault.resu
   refusal = says_nothing _;
   may = tt;
   cause = tt;
-  tree = read_then_fails TreeFaults.Disk Disk Memory _ _ _ _ c.in_ok-clash.clash (Err Memory) refl (λ off. cc)
+  tree = read_then_fails TreeFaults.Disk Disk Memory _ _ _ _ c.in_ok-clash.clash (Err Memory) refl memory_not_disk
       (both_read TreeFaults.Disk TreeFaults.Disk _ _ _ _ _ _ c.in_ok-parts.parts c.in_ok-clash.clash c.in_ok-clash.clash c.in_ok-parts.ensures.tree c.in_ok-clash.ensures.tree);
 })
 
@@ -90,13 +90,13 @@ returns-in_err-plan g c = rw (fault_is Memory c.from_residual-in_err-plan.result
   refusal = says_nothing _;
   may = tt;
   cause = tt;
-  tree = read_then_fails TreeFaults.Disk Disk Memory _ _ _ _ c.in_ok-clash.clash (Err Memory) refl (λ off. cc)
+  tree = read_then_fails TreeFaults.Disk Disk Memory _ _ _ _ c.in_ok-clash.clash (Err Memory) refl memory_not_disk
       (both_read TreeFaults.Disk TreeFaults.Disk _ _ _ _ _ _ c.in_ok-parts.parts c.in_ok-clash.clash c.in_ok-clash.clash c.in_ok-parts.ensures.tree c.in_ok-clash.ensures.tree);
 })
 
 pub returns-in-Some-clause-tree : goal.returns-in-Some-clause-tree
 returns-in-Some-clause-tree g c =
-    read_then_fails TreeFaults.Disk Disk (PathClash c.in-Some.clash.path c.in-Some.clash.other) _ _ _ _ c.in_ok-clash.clash (Err (PathClash c.in-Some.clash.path c.in-Some.clash.other)) refl (λ off. cc)
+    read_then_fails TreeFaults.Disk Disk (PathClash c.in-Some.clash.path c.in-Some.clash.other) _ _ _ _ c.in_ok-clash.clash (Err (PathClash c.in-Some.clash.path c.in-Some.clash.other)) refl (clash_not_disk c.in-Some.clash.path c.in-Some.clash.other)
     (both_read TreeFaults.Disk TreeFaults.Disk _ _ _ _ _ _ c.in_ok-parts.parts c.in_ok-clash.clash c.in_ok-clash.clash c.in_ok-parts.ensures.tree c.in_ok-clash.ensures.tree)
 
 pub returns-in-Some-contested-clause-tree : goal.returns-in-Some-contested-clause-tree
