@@ -5,6 +5,7 @@ use Rattle.base_core.specs.Calls.{IfObservable}
 use Rattle.base_core.specs.Faults.{Counts}
 use Rattle.base_core.specs.Read.{OnlyReads}
 use Rattle.base_core.specs.Tree.{TreeState, files_of}
+use Rattle.base_core.specs.declared.tree.TreeFault.{TreeFault}
 use Rattle.base_core.specs.declared.tree.TreeFault.TheVariants as TreeFaults
 use Rattle.base_core.proofs.Counting.{readings_none}
 use Rattle.change_files.specs.db_core.Members.{Member}
@@ -14,7 +15,8 @@ use Rattle.change_files.specs.PlanLists.{first_reserved_added_path_in_byte_order
 use Rattle.path_claim_lists.specs.path_clashes.ClashSeen.{clash_seen}
 use Rattle.path_claim_lists.specs.path_clashes.FirstClash.{IsFirstClashOrNone}
 use Rattle.path_claim_lists.specs.path_clashes.declared.clash.Clash.{Clash}
-use Rattle.own_core.specs.Planned.{IsContestedPathFaultWithRivals, IsRefusalForMembersAlone}
+use Rattle.own_core.specs.Planned.{IsContestedPathFaultWithRivals, IsRefusalForMembersAlone, IsRefusalOverFiles, MayBeRefusalOf}
+use Rattle.own_core.specs.FaultsSeen.{fault_of_tree}
 use Rattle.own_core.specs.declared.fault.PlanFault.{PlanFault}
 use Rattle.own_core.specs.declared.fault.PlanFault.TheVariants.{Disk, Memory, Owned, PathClash, Reserved}
 
@@ -108,3 +110,19 @@ read_fails disk fault old new a b off (Err e) same is h = record {
   where
     as_err : {X Y : Type 0} (x y : Y) → x ≡ y → IsErrOf {T = X} {E = Y} (Err x) y
     as_err x y same = λ j. Err (same j)
+
+-- a fault of the tree says nothing of its files
+pub tree_over_files : (change : FileChange) (h : List TreeState) (failed : TreeFault) → IfObservable h (λ v. IsRefusalOverFiles change (files_of v) (fault_of_tree failed))
+tree_over_files change [] failed = tt
+tree_over_files change (v ∷ h) TreeFaults.Disk = tt
+tree_over_files change (v ∷ h) TreeFaults.Memory = tt
+
+-- nor does it over any tree
+pub tree_over_any : (change : FileChange) (h : List TreeState) (failed : TreeFault) → MayBeRefusalOf change h (fault_of_tree failed)
+tree_over_any change h TreeFaults.Disk = tt
+tree_over_any change h TreeFaults.Memory = tt
+
+-- of the members it says at most that no added member lists a reserved path
+pub tree_of_members : (members : List Member) (failed : TreeFault) → first_reserved_added_path_in_byte_order members ≡ None → IsRefusalForMembersAlone members (fault_of_tree failed)
+tree_of_members members TreeFaults.Disk none = none
+tree_of_members members TreeFaults.Memory none = tt

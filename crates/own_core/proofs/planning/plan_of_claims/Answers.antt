@@ -7,8 +7,9 @@ use Rattle.own_core.proofs.WholePlan.{both_read, clash_may_be, contest_may_be, p
 use Rattle.std.specs.Prelude.{option_map}
 use Rattle.change_files.specs.db_core.Seen.{members_of}
 use Rattle.path_claim_lists.specs.path_claims.ContestedSeen.{contested_seen}
+use Rattle.own_core.specs.FaultsSeen.{fault_of_tree}
 use Rattle.own_core.specs.Sides.{file_change_of}
-use Rattle.own_core.proofs.AfterReads.{clash_not_disk, contest_not_disk, contest_refuses, fault_is, first_found, memory_not_disk, read_then_fails, says_nothing}
+use Rattle.own_core.proofs.AfterReads.{clash_not_disk, contest_not_disk, contest_refuses, fault_is, first_found, memory_not_disk, read_then_fails, says_nothing, tree_of_members, tree_over_any, tree_over_files}
 use Rattle.own_core.proofs.planning.plan_of_claims.Goals as goal
 
 pub parts_of-requires-clause-files : goal.parts_of-requires-clause-files
@@ -103,3 +104,21 @@ pub returns-in-Some-contested-clause-tree : goal.returns-in-Some-contested-claus
 returns-in-Some-contested-clause-tree g c =
     read_then_fails TreeFaults.Disk Disk c.in_ok-fault.fault _ _ _ _ c.in_ok-clash.clash (Err c.in_ok-fault.fault) refl (contest_not_disk (members_of c.args.change.now.members.now) c.in_ok-fault.fault c.in_ok-fault.ensures)
     (both_read TreeFaults.Disk TreeFaults.Disk _ _ _ _ _ _ c.in_ok-parts.parts c.in_ok-clash.clash c.in_ok-clash.clash c.in_ok-parts.ensures.tree c.in_ok-clash.ensures.tree)
+
+pub returns-in_err-parts-clause-refusal : goal.returns-in_err-parts-clause-refusal
+returns-in_err-parts-clause-refusal g c = rw (fault_is (fault_of_tree c.in_err-parts.field-0.0) c.from_residual.result c.from_residual.ensures.1) (tree_over_files (file_change_of c.args.change.now) _ c.in_err-parts.field-0.0)
+
+pub returns-in_err-parts-clause-may : goal.returns-in_err-parts-clause-may
+returns-in_err-parts-clause-may g c = rw (fault_is (fault_of_tree c.in_err-parts.field-0.0) c.from_residual.result c.from_residual.ensures.1) (tree_over_any (file_change_of c.args.change.now) _ c.in_err-parts.field-0.0)
+
+pub returns-in_err-parts-clause-cause : goal.returns-in_err-parts-clause-cause
+returns-in_err-parts-clause-cause g c = rw (fault_is (fault_of_tree c.in_err-parts.field-0.0) c.from_residual.result c.from_residual.ensures.1) (tree_of_members (members_of c.args.change.now.members.now) c.in_err-parts.field-0.0 c.requires.unreserved)
+
+pub returns-in_err-clash-clause-refusal : goal.returns-in_err-clash-clause-refusal
+returns-in_err-clash-clause-refusal g c = rw (fault_is (fault_of_tree c.in_err-clash.field-0.0) c.from_residual-in_err-clash.result c.from_residual-in_err-clash.ensures.1) (tree_over_files (file_change_of c.args.change.now) _ c.in_err-clash.field-0.0)
+
+pub returns-in_err-clash-clause-may : goal.returns-in_err-clash-clause-may
+returns-in_err-clash-clause-may g c = rw (fault_is (fault_of_tree c.in_err-clash.field-0.0) c.from_residual-in_err-clash.result c.from_residual-in_err-clash.ensures.1) (tree_over_any (file_change_of c.args.change.now) _ c.in_err-clash.field-0.0)
+
+pub returns-in_err-clash-clause-cause : goal.returns-in_err-clash-clause-cause
+returns-in_err-clash-clause-cause g c = rw (fault_is (fault_of_tree c.in_err-clash.field-0.0) c.from_residual-in_err-clash.result c.from_residual-in_err-clash.ensures.1) (tree_of_members (members_of c.args.change.now.members.now) c.in_err-clash.field-0.0 c.requires.unreserved)
