@@ -28,6 +28,7 @@ pub mod PlanParts
 pub mod Refusals
 pub mod WholePlan
 pub mod Endings
+pub mod AfterReads
 pub mod Kept
 pub mod Listings
 pub mod ChangeClaims

@@ -57,7 +57,6 @@ fn listed_in<'a>(pkg: &PackageView<'a>, claim: &Claim<'_>) -> ListedFile<'a>
 }
 
 /// The entry of the file of the claim, which is that of a member after the change.
-#[tactic(auto, unfolding(crate::specs::ClaimEntries::claim_entry))]
 pub(crate) fn listed_after<'a>(members: &Members<'a>, claim: &Claim<'_>) -> ListedFile<'a>
     // The claim is of a file of one of the members.
     requires { IsClaimOf (members_of members.now) (claim_seen claim.now) }
@@ -69,7 +68,6 @@ pub(crate) fn listed_after<'a>(members: &Members<'a>, claim: &Claim<'_>) -> List
 /// The entry of the file of the claim, which is that of a package of the database. The argument
 /// `_mark` has no effect at run time: it names the type of the view of the package, which is made
 /// here, for the borrow checker.
-#[tactic(auto, unfolding(crate::specs::ClaimEntries::claim_entry))]
 pub(crate) fn listed_before<'a>(
     db: &Db<'a>,
     claim: &Claim<'_>,

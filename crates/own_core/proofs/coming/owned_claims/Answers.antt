@@ -1,4 +1,5 @@
-use Rattle.std.proofs.Common.{◌∙◌, ap, arith}
+use Rattle.std.proofs.Common.{◌≡◌, ◌<◌, ◌∙◌, ℕ, ap, arith, length, map, subst, sym}
+use Rattle.std.proofs.lemmas.List.{length-map}
 use Rattle.file_owners.specs.db_core.Seen.{members_of}
 use Rattle.file_owners.specs.Owners.{owner_of_path}
 use Rattle.path_claim_lists.specs.path_claims.Seen.{claim_seen}
@@ -28,3 +29,9 @@ loop-i-preserved c = elim c.if-is_of_added_owner.branch [
 
 pub returns : goal.returns
 returns c = kept_whole (is_of_added_owner (members_of c.args.members.now)) c.args.claims.now c.loop-i.owned.items c.loop-i.i (omega (arith, c.loop-i-test.false)) c.loop-i.invariant
+
+pub bounds-owners-i : goal.bounds-owners-i
+bounds-owners-i c =
+    let same : length c.args.owners.now ≡ length c.args.claims.now =
+    ap length c.requires.owners ∙ (length-map (map claim_seen c.args.claims.now) (λ d. owner_of_path (members_of c.args.members.now) d.path) ∙ length-map c.args.claims.now claim_seen) in
+    subst (λ (n : ℕ). c.loop-i.i < n) (sym same) c.loop-i-test.true
