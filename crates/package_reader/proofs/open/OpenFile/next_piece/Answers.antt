@@ -3,8 +3,11 @@ use Rattle.std.proofs.Common.{◌≡◌, ◌≤◌, ◌+◌, ◌-◌, ℕ, List,
 use Rattle.std.specs.Prelude.{IfSome}
 use Rattle.pkg_core.specs.Pieces.{PiecesRead}
 use Rattle.pkg_core.specs.Taking.{HasTaken, IsTakeResult, file_bytes_left}
-use Rattle.package_reader.proofs.FileDue.{refused_whole}
-use Rattle.package_reader.proofs.PieceRead.{all_long, before_is, behind_piece, disk_piece, next_further, not_disk}
+use Rattle.package_reader.proofs.FileDue.{refused_whole, taken_whole}
+use Rattle.package_reader.proofs.PieceRead.{all_long, before_is, behind_piece, disk_piece, next_further, not_disk, disk_tested}
+use Rattle.package_reader.proofs.BlockSeen.{not_ok}
+use Rattle.pkg_core.proofs.SeenBytes.{reads_err}
+use Rattle.package_reader.specs.declared.piece.PieceFault.TheVariants.{Disk as DiskFault}
 use Rattle.package_reader.proofs.open.OpenFile.next_piece.Goals as goal
 
 pub returns-in_err-read-clause-seen : goal.returns-in_err-read-clause-seen
@@ -46,3 +49,27 @@ returns-in-Err-clause-digest g c = λ so_far has some.
     let o = c.args.self in
     let taken = subst (λ (xs : List ℕ). (so_far left : List ℕ) (further : PiecesRead) → HasTaken o.file so_far → length (so_far ++ (xs ++ left)) ≡ o.file.wanted.size → IsTakeResult o.file so_far xs left further (Err c.in-Err.cause)) c.bytes.ensures.bytes c.in-Err.ensures.taken in
     refused_whole o.file so_far c.read.new.self c.in-Err.cause has some (c.in_ok-read.ensures.len ∙ c.next_piece_len-len.ensures) taken
+
+pub returns-in-Ok-default-None-clause-digest : goal.returns-in-Ok-default-None-clause-digest
+returns-in-Ok-default-None-clause-digest g c = λ so_far has some. taken_whole c.args.self.file so_far c.bytes.result.now c.read.new.self c.in-Ok-default-None.field-0-1 c.bytes.ensures.bytes c.in-Ok-default-None.field-0-1-is has some c.in-Ok-default-None.ensures.all (c.in-Ok-default-None.ensures.digest so_far has)
+
+pub returns-in_err-read-clause-len : goal.returns-in_err-read-clause-len
+returns-in_err-read-clause-len g c = λ other. absurd (not_disk _ c.in_err-read.field-0.0 c.from_residual.ensures.1 c.in_err-read.ensures.disk other)
+
+pub returns-in_err-read-clause-part : goal.returns-in_err-read-clause-part
+returns-in_err-read-clause-part g c = not_ok _ _ c.in_err-read.field-0.0 c.from_residual.ensures.1
+
+pub returns-in_err-read-clause-more : goal.returns-in_err-read-clause-more
+returns-in_err-read-clause-more g c = not_ok _ _ c.in_err-read.field-0.0 c.from_residual.ensures.1
+
+pub returns-in_err-read-clause-all : goal.returns-in_err-read-clause-all
+returns-in_err-read-clause-all g c = not_ok _ _ c.in_err-read.field-0.0 c.from_residual.ensures.1
+
+pub returns-in_err-read-clause-room : goal.returns-in_err-read-clause-room
+returns-in_err-read-clause-room g c = not_ok _ _ c.in_err-read.field-0.0 c.from_residual.ensures.1
+
+pub returns-in_err-read-clause-digest : goal.returns-in_err-read-clause-digest
+returns-in_err-read-clause-digest g c = λ so_far has some. disk_tested c.args.self _ _ c.in_err-read.field-0.0 c.from_residual.ensures.1 c.in_err-read.ensures.disk
+
+pub returns-in_err-read-clause-tree : goal.returns-in_err-read-clause-tree
+returns-in_err-read-clause-tree g c = λ file_len room. reads_err _ _ DiskFault _ _ _ _ c.in_err-read.field-0.0 _ c.from_residual.ensures.1 (c.in_err-read.ensures.tree file_len (omega (arith, room, c.next_piece_len-len.ensures)))
