@@ -14,7 +14,8 @@ use Rattle.pkg_core.specs.Contents.{ExpectedFile, expected_file_if_with_contents
 use Rattle.pkg_core.specs.Opened.{expected_file_at, expected_of, is_expected_at}
 use Rattle.pkg_core.specs.declared.walk.Wanted.{Wanted}
 use Rattle.pkg_core.specs.Pieces.{PiecesRead, no_piece, pieces_of_one_file, refusal, piece_count_before_last}
-use Rattle.pkg_core.specs.Taking.{HasTaken, IsTakeResult, file_bytes_left, next_piece_len, HasTakenOrPassedDigest}
+use Rattle.pkg_core.specs.Taking.{HasTaken, IsTakeResult, file_bytes_left, next_piece_len, HasTakenOrPassedDigest, IsPartOfCheckedFile}
+use Rattle.pkg_core.specs.declared.file.Part.{Part}
 use Rattle.pkg_core.specs.declared.file.FileCheck.{FileCheck}
 
 -- ---- a file with contents has a size above 0
@@ -87,3 +88,11 @@ taken_whole f so_far given bytes rest same none has some all passed =
     let long : length given ≡ length bytes = ap length same in
     let good : fault_if_digest_is_not_of_bytes f.wanted.hash.now (so_far ++ given) ≡ None = subst (λ (r : Option FileCheck). HasTakenOrPassedDigest f.wanted.hash.now (so_far ++ given) r) none passed in
     (omega (arith, a, many, whole, long, some), ap (λ (xs : List ℕ). fault_if_digest_is_not_of_bytes f.wanted.hash.now (so_far ++ xs)) (sym same) ∙ good)
+
+-- the check of the rest of a file has taken the bytes to the end of the piece. `given` are the bytes of the piece
+pub taken_further : (f : FileCheck) (so_far given bytes : List ℕ) (further : FileCheck) (rest : Option FileCheck) (part : Part) → given ≡ bytes → rest ≡ Some further → IsPartOfCheckedFile f (part, rest) → HasTakenOrPassedDigest f.wanted.hash.now (so_far ++ given) rest
+    → HasTaken further (so_far ++ bytes) × (further.wanted ≡ f.wanted)
+taken_further f so_far given bytes further rest part same some is taken =
+    let of = subst (λ (r : Option FileCheck). IsPartOfCheckedFile f (part, r)) some is in
+    let here = subst (λ (r : Option FileCheck). HasTakenOrPassedDigest f.wanted.hash.now (so_far ++ given) r) some taken in
+    (subst (λ (xs : List ℕ). HasTaken further (so_far ++ xs)) same here, of.1)

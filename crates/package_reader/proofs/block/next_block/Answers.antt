@@ -1,12 +1,12 @@
 -- The contents of a file begin after the header and the positions.
-use Rattle.std.proofs.Common.{◌≡◌, None, Ok, length, subst}
+use Rattle.std.proofs.Common.{◌≡◌, None, Ok, length, subst, refl}
 use Rattle.std.specs.Prelude.{IfSome}
 use Rattle.pkg_core.specs.Places.{HasWholeFileLeft, IsStepResult, IsWalkAfterStep}
 use Rattle.pkg_core.specs.declared.place.Step.{Step}
 use Rattle.pkg_core.specs.declared.place.Step.TheVariants.{End as EndStep}
 use Rattle.package_reader.proofs.BlockStepped.{ends, opened_ends, opens, opens_within, passed_ends, passes, walks_on}
-use Rattle.pkg_core.proofs.SeenBytes.{reads_err, reads_ok}
-use Rattle.package_reader.specs.declared.piece.PieceFault.TheVariants.{Disk as DiskFault}
+use Rattle.pkg_core.proofs.SeenBytes.{reads_err, reads_ok, reads_bad}
+use Rattle.package_reader.specs.declared.piece.PieceFault.TheVariants.{Disk as DiskFault, Bad}
 use Rattle.package_reader.proofs.BlockSeen.{not_ok}
 use Rattle.package_reader.proofs.FilesFound.{next_failed}
 use Rattle.package_reader.proofs.block.next_block.Goals as goal
@@ -100,3 +100,6 @@ returns-in-Ok-Passed-clause-tree g c = reads_ok _ _ DiskFault _ _ _ _ _ _ c.in_o
 
 pub returns-in-Ok-Opened-clause-tree : goal.returns-in-Ok-Opened-clause-tree
 returns-in-Ok-Opened-clause-tree g c = reads_ok _ _ DiskFault _ _ _ _ _ _ c.in_ok-read.ensures.tree
+
+pub returns-in-Err-clause-tree : goal.returns-in-Err-clause-tree
+returns-in-Err-clause-tree g c = reads_bad _ _ DiskFault DiskFault _ _ _ _ _ (Bad c.in-Err.cause) _ refl (λ e. (cc)) c.in_ok-read.ensures.tree

@@ -88,30 +88,3 @@ returns-clause-bytes g c =
     let b = rw c.in-Some.is at c.in_ok-file.ensures.file in
     let ends = b.2 in
     λ more. behind_part c.open_next.new.self.place c.in-Some.file c.in_ok-part.rest c.in_ok-part.part (length c.next_piece.new.piece) (offset_of c.args.self.now) (omega (arith, ends)) c.in_ok-part.ensures.part more
-
-pub returns-in_err-file-clause-order : goal.returns-in_err-file-clause-order
-returns-in_err-file-clause-order g c = not_ok _ _ c.in_err-file.field-0.0 c.from_residual.ensures.1
-
-pub returns-in_err-file-clause-bytes : goal.returns-in_err-file-clause-bytes
-returns-in_err-file-clause-bytes g c = not_ok _ _ c.in_err-file.field-0.0 c.from_residual.ensures.1
-
-pub returns-in_err-file-clause-start : goal.returns-in_err-file-clause-start
-returns-in_err-file-clause-start g c = not_ok _ _ c.in_err-file.field-0.0 c.from_residual.ensures.1
-
-pub returns-in_err-file-clause-open : goal.returns-in_err-file-clause-open
-returns-in_err-file-clause-open g c = not_ok _ _ c.in_err-file.field-0.0 c.from_residual.ensures.1
-
-pub returns-in_err-part-clause-order : goal.returns-in_err-part-clause-order
-returns-in_err-part-clause-order g c = not_ok _ _ c.in_err-part.field-0.0 c.from_residual-in_err-part.ensures.1
-
-pub returns-in_err-part-clause-bytes : goal.returns-in_err-part-clause-bytes
-returns-in_err-part-clause-bytes g c = not_ok _ _ c.in_err-part.field-0.0 c.from_residual-in_err-part.ensures.1
-
-pub returns-in_err-part-clause-start : goal.returns-in_err-part-clause-start
-returns-in_err-part-clause-start g c = not_ok _ _ c.in_err-part.field-0.0 c.from_residual-in_err-part.ensures.1
-
-pub returns-in_err-part-clause-open : goal.returns-in_err-part-clause-open
-returns-in_err-part-clause-open g c = not_ok _ _ c.in_err-part.field-0.0 c.from_residual-in_err-part.ensures.1
-
-pub returns-in_err-file-clause-tree : goal.returns-in_err-file-clause-tree
-returns-in_err-file-clause-tree g c = reads_err _ _ DiskFault _ _ _ _ c.in_err-file.field-0.0 _ c.from_residual.ensures.1 c.in_err-file.ensures.tree
