@@ -112,3 +112,12 @@ start_kept old o is =
       located = omega (arith, returned, begun);
       same = subst (λ (x : Option OpenFile). IfSome x (λ file. old.start ≡ start_of_file old)) (sym is) refl;
     }
+
+-- the file that was found begins at its next byte, as no file was open before
+pub start_found : (old : PieceReader) (o : OpenFile) → old.opened ≡ None → IsStartOf old o o.at
+start_found old o is =
+    let returned : returned_len old ≡ 0 = ap (returned_len_from old.start) is in
+    record {
+      located = omega (arith, returned);
+      same = subst (λ (x : Option OpenFile). IfSome x (λ file. o.at ≡ start_of_file old)) (sym is) tt;
+    }

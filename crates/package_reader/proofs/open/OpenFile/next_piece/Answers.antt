@@ -1,8 +1,8 @@
 -- The bytes that were read are the next piece.
-use Rattle.std.proofs.Common.{◌≡◌, ◌≤◌, ◌+◌, ◌-◌, ℕ, List, ◌++◌, length, Ok, Err, ap, sym, subst, ◌∙◌, arith, refl, Option, Some, None}
+use Rattle.std.proofs.Common.{◌≡◌, ◌≤◌, ◌+◌, ◌-◌, ℕ, List, ◌++◌, length, Ok, Err, ap, sym, subst, ◌∙◌, arith, refl, Option}
 use Rattle.std.specs.Prelude.{IfSome, IfNone}
 use Rattle.pkg_core.specs.Pieces.{PiecesRead}
-use Rattle.pkg_core.specs.Taking.{HasTaken, IsTakeResult, file_bytes_left, HasTakenOrPassedDigest, IsPartOfCheckedFile}
+use Rattle.pkg_core.specs.Taking.{HasTaken, IsTakeResult, file_bytes_left, IsPartOfCheckedFile}
 use Rattle.package_reader.proofs.FileDue.{refused_whole, taken_whole, taken_further}
 use Rattle.package_reader.proofs.PieceRead.{all_long, before_is, behind_piece, disk_piece, next_further, not_disk, disk_tested}
 use Rattle.package_reader.proofs.BlockSeen.{not_ok}
