@@ -1,6 +1,6 @@
 -- What the bytes of a file are compared with.
 use Rattle.std.proofs.Common.{◌≡◌, ℕ, zero, suc, ◌+◌, ◌-◌, ◌<◌, ◌==◌, nat_lt, Bool, true, false, cond, List, [], ◌∷◌, ◌++◌, length, Option, Some, None, Result, Ok, Err, refl, ap, sym, subst, ◌∙◌, append-nil, arith}
-use Rattle.std.specs.Prelude.{option_map, replicate}
+use Rattle.std.specs.Prelude.{option_map, replicate, IfNone}
 use Rattle.std.specs.List.{find}
 use Rattle.std.proofs.lemmas.Bool.{ltb-true}
 use Rattle.std.proofs.lemmas.List.{length-append, length-replicate}
@@ -14,7 +14,8 @@ use Rattle.pkg_core.specs.Contents.{ExpectedFile, expected_file_if_with_contents
 use Rattle.pkg_core.specs.Opened.{expected_file_at, expected_of, is_expected_at}
 use Rattle.pkg_core.specs.declared.walk.Wanted.{Wanted}
 use Rattle.pkg_core.specs.Pieces.{PiecesRead, no_piece, pieces_of_one_file, refusal, piece_count_before_last}
-use Rattle.pkg_core.specs.Taking.{HasTaken, IsTakeResult, file_bytes_left, next_piece_len}
+use Rattle.pkg_core.specs.Taking.{HasTaken, IsTakeResult, file_bytes_left, next_piece_len, HasTakenOrPassedDigest, IsPartOfCheckedFile}
+use Rattle.pkg_core.specs.declared.file.Part.{Part}
 use Rattle.pkg_core.specs.declared.file.FileCheck.{FileCheck}
 
 -- ---- a file with contents has a size above 0
@@ -76,3 +77,22 @@ refused_whole f so_far bytes c has some len taken =
     let no_more : left ≡ [] = ap (λ (n : ℕ). replicate {A = ℕ} n 0) (let e : file_bytes_left f - length bytes ≡ 0 = omega (arith, all) in e) in
     let same : so_far ++ (bytes ++ left) ≡ so_far ++ bytes = ap (λ (xs : List ℕ). so_far ++ (bytes ++ xs)) no_more ∙ ap (λ (xs : List ℕ). so_far ++ xs) (append-nil bytes) in
     (ap length (sym same) ∙ whole, ap (fault_if_digest_is_not_of_bytes f.wanted.hash.now) (sym same) ∙ is.1)
+
+-- the bytes that were taken before, and then the last piece, are the whole file. `given` are the bytes of the piece
+pub taken_whole : (f : FileCheck) (so_far given bytes : List ℕ) (rest : Option FileCheck) → given ≡ bytes → rest ≡ None → HasTaken f so_far → 0 < file_bytes_left f → IfNone rest (length given ≡ file_bytes_left f) → HasTakenOrPassedDigest f.wanted.hash.now (so_far ++ given) rest
+    → (length (so_far ++ bytes) ≡ f.wanted.size) × (fault_if_digest_is_not_of_bytes f.wanted.hash.now (so_far ++ bytes) ≡ None)
+taken_whole f so_far given bytes rest same none has some all passed =
+    let many = has.long in
+    let a = length-append so_far bytes in
+    let whole : length given ≡ file_bytes_left f = subst (λ (r : Option FileCheck). IfNone r (length given ≡ file_bytes_left f)) none all in
+    let long : length given ≡ length bytes = ap length same in
+    let good : fault_if_digest_is_not_of_bytes f.wanted.hash.now (so_far ++ given) ≡ None = subst (λ (r : Option FileCheck). HasTakenOrPassedDigest f.wanted.hash.now (so_far ++ given) r) none passed in
+    (omega (arith, a, many, whole, long, some), ap (λ (xs : List ℕ). fault_if_digest_is_not_of_bytes f.wanted.hash.now (so_far ++ xs)) (sym same) ∙ good)
+
+-- the check of the rest of a file has taken the bytes to the end of the piece. `given` are the bytes of the piece
+pub taken_further : (f : FileCheck) (so_far given bytes : List ℕ) (further : FileCheck) (rest : Option FileCheck) (part : Part) → given ≡ bytes → rest ≡ Some further → IsPartOfCheckedFile f (part, rest) → HasTakenOrPassedDigest f.wanted.hash.now (so_far ++ given) rest
+    → HasTaken further (so_far ++ bytes) × (further.wanted ≡ f.wanted)
+taken_further f so_far given bytes further rest part same some is taken =
+    let of = subst (λ (r : Option FileCheck). IsPartOfCheckedFile f (part, r)) some is in
+    let here = subst (λ (r : Option FileCheck). HasTakenOrPassedDigest f.wanted.hash.now (so_far ++ given) r) some taken in
+    (subst (λ (xs : List ℕ). HasTaken further (so_far ++ xs)) same here, of.1)

@@ -1,6 +1,6 @@
 -- The bytes of a single file, piece by piece.
-use Rattle.std.proofs.Common.{◌≡◌, ℕ, zero, suc, ◌+◌, ◌-◌, ◌<◌, ◌≤◌, min, Bool, true, false, List, [], ◌∷◌, ◌++◌, length, take, drop, Option, Some, None, Result, Ok, Err, refl, ap, sym, subst, ◌∙◌, append_assoc, append-nil, length-drop, length-take, arith}
-use Rattle.std.specs.Prelude.{IfNone, IfSome, IsErrAnd}
+use Rattle.std.proofs.Common.{◌≡◌, ℕ, zero, suc, ◌+◌, ◌-◌, ◌<◌, ◌≤◌, min, Bool, true, false, List, [], ◌∷◌, ◌++◌, length, take, drop, Option, Some, None, Result, Ok, Err, refl, ap, sym, subst, ◌∙◌, append_assoc, append-nil, length-drop, length-take, arith, inr}
+use Rattle.std.specs.Prelude.{IfNone, IfSome, IsErrAnd, option_map}
 use Rattle.std.proofs.lemmas.List.{drop-drop, length-append}
 use Rattle.base_core.specs.Calls.{IfObservable}
 use Rattle.base_core.specs.Tree.{TreeState, files_of}
@@ -10,10 +10,10 @@ use Rattle.pkg_core.specs.Opened.{expected_of}
 use Rattle.pkg_core.specs.declared.walk.Wanted.{Wanted}
 use Rattle.pkg_core.specs.Seen.{AreBytesRead, HasBytesAtOffset}
 use Rattle.pkg_core.specs.Pieces.{PiecesRead, no_piece, pieces_of_one_file, refusal, piece_count_before_last}
-use Rattle.pkg_core.specs.Taking.{file_bytes_left, pieces_in}
+use Rattle.pkg_core.specs.Taking.{file_bytes_left, pieces_in, HasTaken}
 use Rattle.pkg_core.specs.declared.file.Part.{Part}
-use Rattle.package_reader.specs.FileReading.{ReturnsNextBytes, HasUnreadBytes, package_name_of_file}
-use Rattle.package_reader.specs.Opened.{AreLeftOf, AreUnreadBytes, IsResultOfNextPiece, IsOpenFile, IsPieceOf, IsNotDiskResult, unread_bytes, open_file_end}
+use Rattle.package_reader.specs.FileReading.{ReturnsNextBytes, HasUnreadBytes, package_name_of_file, HaveBeenReturned, HaveBeenReturnedInState, HaveOtherDigest, IsTestedReturn, expected_file_of}
+use Rattle.package_reader.specs.Opened.{AreLeftOf, AreUnreadBytes, IsResultOfNextPiece, IsOpenFile, IsPieceOf, IsNotDiskResult, unread_bytes, open_file_end, AreTestedSoFar}
 use Rattle.package_reader.specs.declared.piece.PieceFault.{PieceFault}
 use Rattle.package_reader.specs.declared.piece.PieceFault.TheVariants.{Bad, Disk}
 use Rattle.package_reader.specs.declared.one_file.FilePieces.{FilePieces}
@@ -135,3 +135,40 @@ gives_fault (v ∷ earlier) old Then o bytes (Bad d) (Err (Bad c)) is some answe
     let this = next pkg left_of.so_far no_piece _ has (room_for o pkg left some left_of) (as_open o pkg left left_of) in
     never_refused (piece_count_before_last (length left)) (expected_of o.file.wanted) left no_piece d
     (ap (λ (x : Option Cause). pieces_of_one_file (piece_count_before_last (length left)) (expected_of o.file.wanted) x left no_piece) (sym left_of.good) ∙ this)
+
+-- ---- the tests
+
+-- the check of an open file has taken the bytes that were returned
+taken_so_far : (old : FilePieces) (o : OpenFile) (so_far : List ℕ) → old.refused ≡ None → old.opened ≡ Some o → HaveBeenReturned old so_far → HasTaken o.file so_far
+taken_so_far old o so_far good is returned =
+    let here = subst (λ (r : Option Cause). HaveBeenReturnedInState r old.opened (expected_file_of old) so_far) good returned in
+    subst (λ (x : Option OpenFile). HaveBeenReturnedInState None x (expected_file_of old) so_far) is here
+
+state_after : (o : OpenFile) (rest : Option OpenFile) (bytes : List ℕ) (part : Part) → AreTestedSoFar o bytes (Ok (part, rest)) → HaveBeenReturnedInState None rest (Some (expected_of o.file.wanted)) bytes
+state_after o None bytes part tested = tested
+state_after o (Some further) bytes part tested = tested.0
+
+-- what a call says of all bytes so far
+abbrev pub TestsBytes : OpenFile → List ℕ → Result (Part × Option OpenFile) PieceFault → Type 0
+TestsBytes o bytes result = (so_far : List ℕ) → HasTaken o.file so_far → 0 < file_bytes_left o.file → AreTestedSoFar o (so_far ++ bytes) result
+
+-- after a piece, this piece too counts as returned
+pub tested_piece : (old : FilePieces) (o : OpenFile) (rest : Option OpenFile) (so_far bytes : List ℕ) (part : Part) → old.refused ≡ None → old.opened ≡ Some o → old.due ≡ Some o.file.wanted → 0 < file_bytes_left o.file → TestsBytes o bytes (Ok (part, rest)) → HaveBeenReturned old so_far
+    → HaveBeenReturnedInState old.refused rest (expected_file_of old) (so_far ++ bytes)
+tested_piece old o rest so_far bytes part good is due some tested returned =
+    let here = state_after o rest (so_far ++ bytes) part (tested so_far (taken_so_far old o so_far good is returned) some) in
+    let listed = subst (λ (e : Option ExpectedFile). HaveBeenReturnedInState None rest e (so_far ++ bytes)) (sym (ap (option_map expected_of) due)) here in
+    subst (λ (r : Option Cause). HaveBeenReturnedInState r rest (expected_file_of old) (so_far ++ bytes)) (sym good) listed
+
+-- the only test of a piece that fails is that of the digest
+pub tested_fault : (old new : FilePieces) (o : OpenFile) (so_far bytes : List ℕ) (fault : PieceFault) (r : Result Bool PieceFault) → old.refused ≡ None → old.opened ≡ Some o → old.due ≡ Some o.file.wanted → 0 < file_bytes_left o.file → IsErrAnd r (λ other. other ≡ fault) → TestsBytes o bytes (Err fault) → HaveBeenReturned old so_far
+    → IsTestedReturn old so_far bytes r new
+tested_fault old new o so_far bytes fault (Ok value) good is due some answer tested returned = absurd answer
+tested_fault old new o so_far bytes fault (Err Disk) good is due some answer tested returned = tt
+tested_fault old new o so_far bytes Disk (Err (Bad c)) good is due some answer tested returned = absurd (let e : Bad c ≡ Disk = answer in (cc))
+tested_fault old new o so_far bytes (Bad d) (Err (Bad c)) good is due some answer tested returned =
+    let e : Bad c ≡ Bad d = answer in
+    let same : d ≡ c = (cc) in
+    let here = tested so_far (taken_so_far old o so_far good is returned) some in
+    let listed = subst (λ (x : Option ExpectedFile). HaveOtherDigest x (so_far ++ bytes) d) (sym (ap (option_map expected_of) due)) here in
+    inr (subst (λ (x : Cause). HaveOtherDigest (expected_file_of old) (so_far ++ bytes) x) same listed)

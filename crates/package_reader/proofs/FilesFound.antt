@@ -11,7 +11,7 @@ use Rattle.pkg_core.proofs.SeenBytes.{filled, has_front, has_rest, seen_then}
 use Rattle.pkg_core.specs.Pieces.{PiecesRead, no_piece, refusal}
 use Rattle.pkg_core.specs.Places.{pieces_at}
 use Rattle.pkg_core.specs.declared.place.BlockPlace.{BlockPlace}
-use Rattle.package_reader.specs.Blocks.{IsNextBlock}
+use Rattle.package_reader.specs.Blocks.{IsNextBlock, IsBlockRead}
 use Rattle.package_reader.specs.Opened.{IsOpenFile}
 use Rattle.package_reader.specs.Readers.{IsFileFound}
 use Rattle.package_reader.specs.declared.block.BlockStep.{BlockStep}
@@ -114,3 +114,10 @@ found_file h later name len before now after seen o same long room passed is_see
       λ pkg is has.
           moved o [] pkg (pieces_at after pkg) (pieces_at now pkg) (pieces_at before pkg) (passed.same pkg is (to.has_first pkg has)) (step pkg (is ∙ sym long) (to.has_second pkg has)),
     )
+
+-- a block that was not read is the fault of the step
+pub next_failed : (place after : BlockPlace) (file : List ℕ) (fault : PieceFault) (r : Result BlockStep PieceFault) → IsErrAnd r (λ other. other ≡ fault) → IsBlockRead place file (Err fault) → IsNextBlock place file r after
+next_failed place after file fault (Ok step) is read = absurd is
+next_failed place after file (Bad d) (Err (Bad c)) is read = let e : Bad c ≡ Bad d = is in let cause : d ≡ c = (cc) in read ∙ ap refusal cause
+next_failed place after file Disk (Err (Bad c)) is read = absurd (let e : Bad c ≡ Disk = is in (cc))
+next_failed place after file fault (Err Disk) is read = tt

@@ -1,16 +1,19 @@
 -- The bytes of a piece, and those after them.
-use Rattle.std.proofs.Common.{◌≡◌, ℕ, ◌+◌, ◌-◌, ◌≤◌, List, ◌++◌, length, take, drop, Option, Some, Result, Ok, Err, ap, sym, ◌∙◌, arith}
-use Rattle.std.specs.Prelude.{IsErrAnd}
+use Rattle.std.proofs.Common.{◌≡◌, ℕ, ◌+◌, ◌-◌, ◌≤◌, List, ◌++◌, length, take, drop, Option, Some, Result, Ok, Err, ap, sym, ◌∙◌, arith, subst}
+use Rattle.std.specs.Prelude.{IsErrAnd, IfSome}
 use Rattle.std.proofs.lemmas.List.{length-append}
-use Rattle.pkg_core.specs.Seen.{HasBytesAtOffset}
-use Rattle.pkg_core.proofs.SeenBytes.{drop_further, take_more}
+use Rattle.pkg_core.specs.Seen.{HasBytesAtOffset, AreBytesRead}
+use Rattle.pkg_core.proofs.SeenBytes.{drop_further, take_more, seen_by_read}
 use Rattle.pkg_core.specs.Pieces.{PiecesRead}
 use Rattle.pkg_core.specs.Taking.{IsTakeResult, file_bytes_left, pieces_in}
 use Rattle.pkg_core.specs.declared.file.FileCheck.{FileCheck}
 use Rattle.pkg_core.specs.declared.file.Part.{Part}
-use Rattle.package_reader.specs.Opened.{IsResultOfNextPiece, IsOpenFile, IsNotDiskResult, unread_bytes}
+use Rattle.package_reader.specs.Opened.{IsResultOfNextPiece, IsOpenFile, IsNotDiskResult, unread_bytes, AreTestedSoFar}
 use Rattle.package_reader.specs.declared.piece.PieceFault.{PieceFault}
 use Rattle.package_reader.specs.declared.piece.PieceFault.TheVariants.{Bad, Disk}
+use Rattle.std.proofs.Math.Seq.{take-append_seam}
+use Rattle.base_core.specs.Calls.{IfObservable}
+use Rattle.base_core.specs.Tree.{TreeState, files_of}
 use Rattle.package_reader.specs.declared.open.OpenFile.{OpenFile}
 
 -- ---- the tree failed
@@ -70,3 +73,24 @@ next_further o g at so_far file bytes part further before few has is taken locat
         come = ap (λ (xs : List ℕ). pieces_in g (so_far ++ bytes) xs further) come;
       },
     )
+
+-- ---- the buffer
+
+-- the first bytes of a buffer are those that were read into it
+read_front : (n : ℕ) (bytes rest : List ℕ) → length bytes ≡ n → take n (bytes ++ rest) ≡ bytes
+read_front n bytes rest long = ap (λ (k : ℕ). take k (bytes ++ rest)) (sym long) ∙ take-append_seam bytes rest
+
+-- a piece has as many bytes as were read
+pub read_len : (n : ℕ) (bytes rest : List ℕ) → length bytes ≡ n → length (take n (bytes ++ rest)) ≡ n
+read_len n bytes rest long = ap length (read_front n bytes rest long) ∙ long
+
+-- a piece has the bytes that were read
+pub read_seen : (h : List TreeState) (name : List ℕ) (len at n m : ℕ) (bytes rest : List ℕ) → IfObservable h (λ v. IfSome (files_of v name) (λ file. bytes ≡ take m (drop at file))) → length bytes ≡ m → length bytes ≡ n → AreBytesRead h name len at (take n (bytes ++ rest))
+read_seen h name len at n m bytes rest value many long =
+    subst (λ (xs : List ℕ). AreBytesRead h name len at xs) (sym (read_front n bytes rest long)) (seen_by_read h name len at m bytes value many)
+
+-- if the tree failed, nothing is stated of the bytes
+pub disk_tested : (o : OpenFile) (bytes : List ℕ) (r : Result (Part × Option OpenFile) PieceFault) (fault : PieceFault) → IsErrAnd r (λ other. other ≡ fault) → fault ≡ Disk → AreTestedSoFar o bytes r
+disk_tested o bytes (Ok value) fault is disk = absurd is
+disk_tested o bytes (Err (Bad c)) fault is disk = absurd (let e : Bad c ≡ Disk = is ∙ disk in (cc))
+disk_tested o bytes (Err Disk) fault is disk = tt

@@ -1,6 +1,6 @@
 -- Where a reader of pieces stands.
-use Rattle.std.proofs.Common.{◌≡◌, ℕ, ◌+◌, ◌≤◌, min, false, List, [], ◌++◌, length, Option, Some, None, Result, Ok, Err, drop, refl, ap, sym, subst, ◌∙◌, arith}
-use Rattle.std.specs.Prelude.{IsErrAnd}
+use Rattle.std.proofs.Common.{◌≡◌, ℕ, ◌+◌, ◌≤◌, min, false, List, [], ◌++◌, length, Option, Some, None, Result, Ok, Err, drop, refl, ap, sym, subst, ◌∙◌, arith, ◌-◌}
+use Rattle.std.specs.Prelude.{IsErrAnd, IfSome}
 use Rattle.std.proofs.lemmas.Bool.{false≢true}
 use Rattle.base_core.specs.declared.cause.Cause.{Cause}
 use Rattle.base_core.specs.Faults.{Counts}
@@ -15,13 +15,15 @@ use Rattle.pkg_core.specs.declared.file.Part.{Part}
 use Rattle.pkg_core.specs.Places.{pieces_at}
 use Rattle.pkg_core.specs.declared.place.BlockPlace.{BlockPlace}
 use Rattle.package_reader.specs.Opened.{IsResultOfNextPiece, IsOpenFile, IsPieceOf, IsNotDiskResult}
-use Rattle.package_reader.specs.Readers.{AreUnreadPieces, ArePiecesFrom, IsFileOpened, IsPieceRead, IsReading, next_read_offset}
+use Rattle.package_reader.specs.Readers.{AreUnreadPieces, ArePiecesFrom, IsFileOpened, IsPieceRead, IsReading, next_read_offset, IsStartOf, name_in_tree, offset_of, package_len, returned_len, returned_len_from, start_of_file}
 use Rattle.package_reader.specs.declared.piece.PieceFault.{PieceFault}
 use Rattle.package_reader.specs.declared.piece.PieceFault.TheVariants.{Bad, Disk}
 use Rattle.package_reader.specs.declared.open.OpenFile.{OpenFile}
 use Rattle.package_reader.specs.declared.reader.Due.{Due}
 use Rattle.package_reader.specs.declared.reader.Due.TheVariants.{Files}
 use Rattle.package_reader.specs.declared.reader.PieceReader.{PieceReader}
+use Rattle.package_reader.proofs.BlockSeen.{nothing_seen}
+use Rattle.package_reader.proofs.FileRead.{ends_within}
 use Rattle.package_reader.proofs.FilesFound.{seen_up_to}
 
 -- the schema of a file plays no part after its first block
@@ -89,3 +91,33 @@ read_some old mid o None pkg bytes before part opened next =
 read_some old mid o (Some further) pkg bytes before part opened next =
     let p = next opened.0 (pieces_at mid.place pkg) before opened.1 in
     (p.0, p.1, (opened.0 ++ bytes, p.2))
+
+-- ---- a file that is open
+
+-- the file that is open is the next one, and nothing is read to find it
+pub open_already : (h : List TreeState) (old : PieceReader) (o : OpenFile) → old.opened ≡ Some o
+    → (seen : List ℕ) × IsSeenIn h (name_in_tree old) (package_len old) (offset_of old) seen × (offset_of old + length seen ≡ o.at) × ((pkg : List ℕ) → length pkg ≡ package_len old → HasBytesAtOffset pkg (offset_of old) seen → (before : PiecesRead) → ArePiecesFrom old.place old.opened pkg before → (so_far : List ℕ) × IsOpenFile o so_far pkg (pieces_at old.place pkg) before)
+open_already h old o is =
+    let located : offset_of old ≡ o.at = ap (next_read_offset old.place) is in
+    let room = ends_within old.opened o old.place.at is old.behind in
+    let within : offset_of old ≤ package_len old = omega (arith, room, located, old.within) in
+    ([], nothing_seen h (name_in_tree old) (package_len old) (offset_of old) within, omega (arith, located), λ pkg long has before are. subst (λ (x : Option OpenFile). ArePiecesFrom old.place x pkg before) is are)
+
+-- the file that is open keeps its start
+pub start_kept : (old : PieceReader) (o : OpenFile) → old.opened ≡ Some o → IsStartOf old o old.start
+start_kept old o is =
+    let returned : returned_len old ≡ o.at - old.start = ap (returned_len_from old.start) is in
+    let begun : old.start ≤ o.at = old.begun o is in
+    record {
+      located = omega (arith, returned, begun);
+      same = subst (λ (x : Option OpenFile). IfSome x (λ file. old.start ≡ start_of_file old)) (sym is) refl;
+    }
+
+-- the file that was found begins at its next byte, as no file was open before
+pub start_found : (old : PieceReader) (o : OpenFile) → old.opened ≡ None → IsStartOf old o o.at
+start_found old o is =
+    let returned : returned_len old ≡ 0 = ap (returned_len_from old.start) is in
+    record {
+      located = omega (arith, returned);
+      same = subst (λ (x : Option OpenFile). IfSome x (λ file. o.at ≡ start_of_file old)) (sym is) tt;
+    }

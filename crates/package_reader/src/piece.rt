@@ -55,7 +55,6 @@ impl Piece {
 
     /// Reads this many bytes of a file, from an offset on, into the piece. After an error the bytes
     /// of the piece are unspecified.
-    #[tactic(auto, using(pkg_core::proofs::SeenBytes::seen_by_read, pkg_core::proofs::SeenBytes::proper_where_long))]
     pub(crate) fn read<T: Tree>(
         &mut self,
         tree: &mut T,

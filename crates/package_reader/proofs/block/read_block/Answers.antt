@@ -5,8 +5,8 @@ use Rattle.std.proofs.lemmas.List.{length-drop}
 use Rattle.adb_block.specs.Frames.{IsFrameOrEndOfBlockResult, head_len}
 use Rattle.pkg_core.specs.Seen.{HasBytesAtOffset, tree_fault}
 use Rattle.pkg_core.specs.Places.{block_step_at}
-use Rattle.pkg_core.proofs.SeenBytes.{has_front, reads_err, reads_failed, reads_in_a_row, reads_ok}
-use Rattle.package_reader.specs.declared.piece.PieceFault.TheVariants.{Disk as DiskFault}
+use Rattle.pkg_core.proofs.SeenBytes.{has_front, reads_err, reads_failed, reads_in_a_row, reads_ok, reads_bad}
+use Rattle.package_reader.specs.declared.piece.PieceFault.TheVariants.{Disk as DiskFault, Bad}
 use Rattle.package_reader.proofs.BlockSeen.{block_failed, block_seen, fits_in, head_in, in_block, not_ok, nothing_seen, positions_in, read_bad, read_failed}
 use Rattle.package_reader.proofs.block.read_block.Goals as goal
 
@@ -63,3 +63,27 @@ returns-clause-tree g c =
     let place = c.args.place.now in
     let fits : place.at + (place.len - place.at) ≤ place.len = omega (arith, c.requires) in
     reads_in_a_row _ _ tree_fault DiskFault _ _ _ _ _ _ _ _ (c.in_ok-head.ensures.tree place.len fits) (reads_ok _ _ DiskFault _ _ _ _ c.in_ok-positions.positions _ (c.in_ok-positions.ensures.tree place.len c.requires (fits_in c.in_ok-framing.framing place.at place.len c.requires c.in_ok-framing.ensures.fits)))
+
+pub returns-in_err-head-clause-fits : goal.returns-in_err-head-clause-fits
+returns-in_err-head-clause-fits g c = not_ok _ _ _ c.from_residual.ensures.1
+
+pub returns-in_err-head-clause-small : goal.returns-in_err-head-clause-small
+returns-in_err-head-clause-small g c = not_ok _ _ _ c.from_residual.ensures.1
+
+pub returns-in_err-framing-clause-fits : goal.returns-in_err-framing-clause-fits
+returns-in_err-framing-clause-fits g c = not_ok _ _ _ c.from_residual-in_err-framing.ensures.1
+
+pub returns-in_err-framing-clause-small : goal.returns-in_err-framing-clause-small
+returns-in_err-framing-clause-small g c = not_ok _ _ _ c.from_residual-in_err-framing.ensures.1
+
+pub returns-in_err-positions-clause-fits : goal.returns-in_err-positions-clause-fits
+returns-in_err-positions-clause-fits g c = not_ok _ _ _ c.from_residual-in_err-positions.ensures.1
+
+pub returns-in_err-positions-clause-small : goal.returns-in_err-positions-clause-small
+returns-in_err-positions-clause-small g c = not_ok _ _ _ c.from_residual-in_err-positions.ensures.1
+
+pub returns-in_err-framing-clause-tree : goal.returns-in_err-framing-clause-tree
+returns-in_err-framing-clause-tree g c =
+    let place = c.args.place.now in
+    let fits : place.at + (place.len - place.at) ≤ place.len = omega (arith, c.requires) in
+    reads_bad _ _ tree_fault DiskFault _ _ _ _ _ (Bad c.in_err-framing.field-0.0) _ c.from_residual-in_err-framing.ensures.1 (λ e. (cc)) (c.in_ok-head.ensures.tree place.len fits)
