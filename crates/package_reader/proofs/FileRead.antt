@@ -144,6 +144,7 @@ taken_so_far old o so_far good is returned =
     let here = subst (λ (r : Option Cause). HaveBeenReturnedInState r old.opened (expected_file_of old) so_far) good returned in
     subst (λ (x : Option OpenFile). HaveBeenReturnedInState None x (expected_file_of old) so_far) is here
 
+-- the state of a file behind a piece, whether more of the file is left or not
 state_after : (o : OpenFile) (rest : Option OpenFile) (bytes : List ℕ) (part : Part) → AreTestedSoFar o bytes (Ok (part, rest)) → HaveBeenReturnedInState None rest (Some (expected_of o.file.wanted)) bytes
 state_after o None bytes part tested = tested
 state_after o (Some further) bytes part tested = tested.0
