@@ -10,7 +10,7 @@ use Rattle.engine_core.specs.Preparing.{IsRootRead}
 use Rattle.engine_core.specs.Runs.{IsRunCounted, IsRunOnSelection}
 use Rattle.engine_core.specs.SelectionSeen.{replacement_seen, selection_seen}
 use Rattle.engine_core.specs.Wishes.{names_to_remove}
-use Rattle.engine_core.proofs.Counted.{counted_after, counted_fault, counted_report, memory_no_disk}
+use Rattle.engine_core.proofs.Counted.{counted_after, counted_error, counted_fault, counted_report, memory_no_disk}
 use Rattle.engine_core.proofs.Early.{HaveClash, nothing_read, only_read, selected_failure}
 use Rattle.engine_core.proofs.SelectedRuns.{not_disk, run_failure, selected_run, simulated_run, unselected_run, with_error}
 use Rattle.engine_core.proofs.WholeRuns.{HaveOwnReads, joined, root_read, unread}
@@ -93,3 +93,36 @@ returns-clause-run g c =
 
 pub returns-clause-counts : goal.returns-clause-counts
 returns-clause-counts g c = counted_after _ _ _ c.make_change.result c.in_ok-loaded.ensures.tree.goes_on c.in_ok-loaded.ensures.tree.kept c.counts_of_consecutive_calls_compose.ensures.cause_after c.make_change.ensures.counts
+
+pub returns-in_err-loaded-clause-counts : goal.returns-in_err-loaded-clause-counts
+returns-in_err-loaded-clause-counts g c = with_error (IsRunCounted _ _) c.from_residual.result _ c.from_residual.ensures.1 (counted_error _ _ _ _ _ c.in_err-loaded.ensures.tree)
+
+pub returns-in_err-loaded-clause-promised : goal.returns-in_err-loaded-clause-promised
+returns-in_err-loaded-clause-promised g c = c.runs_with_accepted_targets_begin_with_reads.ensures.same _ _ c.in_err-loaded.ensures.tree.same
+
+pub returns-in_err-upgraded-clause-promised : goal.returns-in_err-upgraded-clause-promised
+returns-in_err-upgraded-clause-promised g c = c.runs_with_accepted_targets_begin_with_reads.ensures.same _ _ c.in_ok-loaded.ensures.tree.same
+
+pub returns-in_err-selection-clause-promised : goal.returns-in_err-selection-clause-promised
+returns-in_err-selection-clause-promised g c = c.runs_with_accepted_targets_begin_with_reads.ensures.same _ _ c.in_ok-loaded.ensures.tree.same
+
+pub returns-in_err-report-clause-promised : goal.returns-in_err-report-clause-promised
+returns-in_err-report-clause-promised g c = c.runs_with_accepted_targets_begin_with_reads.ensures.same _ _ c.in_ok-loaded.ensures.tree.same
+
+pub returns-then-flags-clause-promised : goal.returns-then-flags-clause-promised
+returns-then-flags-clause-promised g c = c.runs_with_accepted_targets_begin_with_reads.ensures.same _ _ c.in_ok-loaded.ensures.tree.same
+
+pub choose-requires : goal.choose-requires
+choose-requires g c = c.in_ok-upgraded.ensures
+
+pub simulate-requires : goal.simulate-requires
+simulate-requires g c = c.in_ok-selection.ensures.parts.database
+
+pub make_change-requires-clause-database : goal.make_change-requires-clause-database
+make_change-requires-clause-database g c = c.in_ok-selection.ensures.parts.database
+
+pub make_change-requires-clause-pool : goal.make_change-requires-clause-pool
+make_change-requires-clause-pool g c = c.in_ok-selection.ensures.parts.pool
+
+pub returns-clause-promised : goal.returns-clause-promised
+returns-clause-promised g c = c.runs_with_accepted_targets_begin_with_reads.ensures.later _ _ _ c.in_ok-loaded.ensures.tree.same c.make_change.ensures.promised
