@@ -1,9 +1,9 @@
-use Rattle.std.proofs.Common.{◌≡◌, Option, Err, ap, refl, subst}
+use Rattle.std.proofs.Common.{Option, Err, ap, refl, subst}
 use Rattle.journal_staging.specs.Spoiled.{IsSpoiledForEachTested}
 use Rattle.package_verifier.specs.package_reader.FileReading.{AreAsExpected}
 use Rattle.file_guard.specs.pkg_core.Contents.{ExpectedFile}
 use Rattle.journal_staging.proofs.Counted.{ok_counts}
-use Rattle.journal_staging.proofs.Files.{source_reading, spoiled_since}
+use Rattle.journal_staging.proofs.Files.{bad_not_disk, bad_parts, not_disk, source_reading, spoiled_since}
 use Rattle.journal_staging.proofs.writes.stage_packaged.Goals as goal
 
 pub returns-in-Ok-clause-source : goal.returns-in-Ok-clause-source
@@ -28,14 +28,14 @@ returns-in-Err-Bad-clause-source g c = record {
   staging = λ contents v first bytes staging source. tt;
   good =
       λ contents v first bytes staging source.
-      cc (c.in-Err-Bad.ensures.source.good contents v first bytes staging
-      (source_reading _ _ _ _ c.file-file.ensures.name c.file-file.ensures.len c.file-file.ensures.reading source));
+      absurd (not_disk _ _ c.in-Err-Bad.field-0-is (c.in-Err-Bad.ensures.source.good contents v first bytes staging
+      (source_reading _ _ _ _ c.file-file.ensures.name c.file-file.ensures.len c.file-file.ensures.reading source)));
   view = tt;
   counts = record {
     goes_on = c.in-Err-Bad.ensures.source.counts.goes_on;
-    disk = λ off. absurd (cc);
+    disk = λ off. absurd (bad_not_disk _ _ off);
     kept = tt;
-    others = λ off. c.in-Err-Bad.ensures.source.counts.others (λ same. cc (same, c.in-Err-Bad.field-0-is));
+    others = λ off. c.in-Err-Bad.ensures.source.counts.others (not_disk _ _ c.in-Err-Bad.field-0-is);
   };
   proper =
       λ contents v first bytes staging source room.
@@ -68,8 +68,7 @@ returns-in-Ok-clause-listed g c = λ contents v first staging.
 
 pub returns-in-Err-Bad-clause-bad : goal.returns-in-Err-Bad-clause-bad
 returns-in-Err-Bad-clause-bad g c = λ member cause is.
-    let place : c.args.f.now.member ≡ member = cc in
-    let same : c.in-Err-Bad.cause ≡ cause = cc in (
+    let (place, same) = bad_parts _ _ _ _ is in (
       place,
       subst (IsSpoiledForEachTested c.args.f.now) same
           (spoiled_since c.args.f.now c.file-file.result c.in-Err-Bad.cause c.file-file.ensures.due c.file-file.ensures.reading
