@@ -6,6 +6,7 @@ use Rattle.base_core.specs.Faults.{Counts, CountsOnlyRise, CountsNewFaultWithCau
 use Rattle.journal_core.specs.CallCounts.{IsResultExplainedByCounts}
 use Rattle.journal_core.specs.Staged.{Staging}
 
+-- true is not false
 not_both : true ≡ false → ⊥
 not_both is = cc
 
