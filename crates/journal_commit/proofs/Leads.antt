@@ -9,7 +9,7 @@ use Rattle.base_core.specs.Tree.{TreeState, File, bytes_of_file_number, files_of
 use Rattle.journal_core.specs.Kept.{ReadsOldOrNewBytesOutsideJournal, IsAbsentAfterEachCrash, KeepsFilesExcept, KeepsCrashMapsExcept, KeepsOldOrNewBytes, RecoversTo, NamesOutsideJournalAreDurable}
 use Rattle.journal_core.specs.Quiet.{StateIsUnchanged}
 use Rattle.journal_core.specs.Recovery.{Intent, EachCrashLeavesStateOf, StateDependsOn, files_after_actions, intent_in_file, intent_name, stage_name}
-use Rattle.journal_core.specs.Staged.{HasMomentOfIntentFileNumberedAtLeastForFiles, IsCarryingOutActions, HasNoStagedNames, IsOldUntilCommit, HasStagedContents, IsHistoryThatPublishesIntentForFiles, Staging}
+use Rattle.journal_core.specs.Staged.{AreIntentAndStagedPathsFree, HasMomentOfIntentFileNumberedAtLeastForFiles, IsCarryingOutActions, HasNoStagedNames, IsOldUntilCommit, HasStagedContents, IsHistoryThatPublishesIntentForFiles, Staging}
 use Rattle.journal_core.proofs.Between.{no_intent_read}
 use Rattle.journal_core.proofs.Chain.{by_now, now_both}
 use Rattle.journal_core.proofs.History.{History, now_map, now_since, observable_at, observable_map, on_observable, since_on, since_weaker}
@@ -122,6 +122,10 @@ module _ (stage : Staging) (contents : List (List ℕ)) (v : TreeState) (first m
 
       settled_at : (ignored : List ℕ → Bool) (u : TreeState) → W u → HoldsNow now (EachCrashLeavesStateOf ignored (files_after_actions stage.intent (files_of u))) → HoldsNow now (EachCrashLeavesStateOf ignored H)
       settled_at ignored u waits here = subst (λ (F : Files). HoldsNow now (EachCrashLeavesStateOf ignored F)) (same u waits) here
+
+      -- if the paths are free among the new files, the actions are no misuse
+      pub enact_proper : (a b : ℕ) → IfObservable now (λ x. (files : Files) → IsCarryingOutActions next files x → AreIntentAndStagedPathsFree files → b ≡ a) → AreIntentAndStagedPathsFree H → b ≡ a
+      enact_proper a b told room = by_now now Acts (b ≡ a) acts_now (observable_map now _ (λ x. Acts x → b ≡ a) told (λ x k acts. k H acts room))
 
       enact_way : EnactMoments → Way stage contents v first mid s new
       enact_way moments = both mid _ _ (λ u. (ignored : List ℕ → Bool) → IsDurable (StateDependsOn ignored) u → W u → SinceGivenEarlierAddedMoments (IsOldUntilCommit ignored H u) mid new) published settled (λ u p h ignored is_durable waits.

@@ -8,7 +8,7 @@ use Rattle.base_core.specs.Tree.{TreeState, files_of}
 use Rattle.journal_core.specs.Kept.{KeepsFilesExcept, KeepsCrashMapsExcept, NamesOutsideJournalAreDurable}
 use Rattle.journal_core.specs.Quiet.{StateIsUnchanged}
 use Rattle.journal_core.specs.Recovery.{StateDependsOn, intent_name, is_staged, stage_name}
-use Rattle.journal_core.specs.Staged.{IsOnlyNameOfFile, HasStagedContents, Staging}
+use Rattle.journal_core.specs.Staged.{AreIntentAndStagedPathsFree, HasEmptyStageAndFreeJournalPaths, IsOnlyNameOfFile, HasStagedContents, Staging}
 use Rattle.journal_core.proofs.Acts.{still_on}
 use Rattle.journal_core.proofs.Chain.{by_now}
 use Rattle.journal_core.proofs.History.{History, observable_map, since_weaker}
@@ -103,6 +103,13 @@ module _ (stage : Staging) (contents : List (List ℕ)) (v : TreeState) (mid new
       → IfObservable mid (λ u. (cs : List (List ℕ)) (base : Files) → HasStagedContents stage cs None base u → OnOk r (HoldsNow new (HasStagedContents next (more cs) open_file base)))
       → IfObservable mid (λ u. HasStagedContents stage contents None (files_of v) u → OnOk r (HoldsNow new (HasStagedContents next (more contents) open_file (files_of v))))
   closed_staged r more open_file next told = observable_map mid _ _ told (λ u t waits. t contents (files_of v) waits)
+
+  -- if the paths are free, a call between two files is no misuse
+  pub closed_proper : (first : History) (a b : ℕ) → IsRunThatStagedAndBeganFiles stage contents None v first mid → AreIntentAndStagedPathsFree (files_of v)
+      → IfObservable mid (λ u. (cs : List (List ℕ)) (base : Files) → HasStagedContents stage cs None base u → HasEmptyStageAndFreeJournalPaths base → b ≡ a) → b ≡ a
+  closed_proper first a b s room told =
+      by_now mid (HasStagedContents stage contents None (files_of v)) (b ≡ a) s.waiting
+      (observable_map mid _ (λ u. HasStagedContents stage contents None (files_of v) u → b ≡ a) told (λ u t waits. t contents (files_of v) waits (record { empty = s.empty; beside = room })))
 
   module _ (so_far : List ℕ) where
     pub open_moments : IfObservable mid (λ u. (ignored : List ℕ → Bool) (cs : List (List ℕ)) (bytes : List ℕ) (base : Files) → IsDurable (StateDependsOn ignored) u → HasStagedContents stage cs (Some bytes) base u → Since (StateIsUnchanged ignored u) mid new)

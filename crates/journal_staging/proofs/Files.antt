@@ -1,6 +1,6 @@
 -- A file of a package is read while others come to wait.
 use Rattle.std.proofs.Common.{◌≡◌, ℕ, List, Option, Some, None, Result, Ok, Err, refl, ap, sym, subst, ◌∙◌, Bor}
-use Rattle.std.specs.Prelude.{◌∷◌, drop, OnOk}
+use Rattle.std.specs.Prelude.{◌∷◌, drop, IsErrOf, OnOk}
 use Rattle.file_guard.specs.adb_schema.Soundness.{payload_in, root_value_of_payload}
 use Rattle.adb_view.specs.declared.tables.Which.TheVariants.{Package}
 use Rattle.adb_view.specs.Plain.{Plain}
@@ -19,6 +19,9 @@ use Rattle.journal_staging.specs.declared.writes.PackagedFile.{PackagedFile}
 use Rattle.journal_staging.specs.declared.writes.Source.{Source}
 use Rattle.journal_staging.specs.declared.writes.Source.TheVariants.{Bytes, File, Link}
 use Rattle.file_guard.specs.AsListed.{link_file_bytes_of_target}
+use Rattle.journal_staging.specs.declared.writes.StageFault.TheVariants.{Bad, Disk}
+use Rattle.package_verifier.specs.package_reader.declared.piece.PieceFault.{PieceFault}
+use Rattle.package_verifier.specs.package_reader.declared.piece.PieceFault.TheVariants.{Bad as PieceBad, Disk as PieceDisk}
 use Rattle.journal_staging.proofs.OtherContents.{spoiled}
 
 pub source_reading : (files : Files) (f : PackagedFile) (bytes : List ℕ) (file : FilePieces)
@@ -73,3 +76,17 @@ spoiled_since f file cause due reading bad name tested is =
     let (bytes, other) = bad (reading name tested is).0 in
     spoiled_by_due tested f cause bytes (expected_file_of file) is.sound
     (sym (due ∙ ap (λ (v : Plain). expected_file_at f.folder f.file (expected_files_of_package v)) is.value)) other
+
+-- ---- errors
+
+-- a test that failed is no fault of the tree
+pub not_disk : (fault : PieceFault) (cause : Cause) → fault ≡ PieceBad cause → fault ≡ PieceDisk → ⊥
+not_disk fault cause is off = cc
+
+-- the same of a change
+pub bad_not_disk : (member : ℕ) (cause : Cause) → IsErrOf {T = Unit {0}} (Err (Bad member cause)) Disk → ⊥
+bad_not_disk member cause is = cc
+
+-- two errors `Bad` that are equal name one member and one cause
+pub bad_parts : (m n : ℕ) (a b : Cause) → IsErrOf {T = Unit {0}} (Err (Bad m a)) (Bad n b) → (m ≡ n) × (a ≡ b)
+bad_parts m n a b is = (cc, cc)

@@ -3,3 +3,4 @@ pub mod Each
 pub mod OtherContents
 pub mod Files
 pub mod Carried
+pub mod Counted

@@ -12,7 +12,7 @@ use Rattle.journal_staging.proofs.Carried.{carried, carried_from, carried_on, of
 use Rattle.journal_staging.proofs.OneFile.{same_fault, if_disk, not_ok, on_err}
 use Rattle.journal_commit.specs.Asked.{RecoveryChangesOnlyAcceptedNames}
 use Rattle.journal_commit.specs.StageRun.{IsRunOfStagedChange, IsStagedChangeComplete, IsStagingRun}
-use Rattle.journal_commit.proofs.Asked.{change_promises, staging_promises}
+use Rattle.journal_commit.proofs.Asked.{asked_same, change_promises, staging_promises}
 use Rattle.journal_staging.proofs.carrying.carry_out.Goals as goal
 
 pub returns-in_err-stage_each-clause-run : goal.returns-in_err-stage_each-clause-run
@@ -169,3 +169,22 @@ returns-clause-promised g c =
     change_promises g.T.Tree.accepts v unread empty c.args.stage.now.intent found.0 c.names_are_free.ensures.free c.in_ok-check_targets.ensures.accepted _ _
     (subst (λ (s : Staging). IsRunOfStagedChange (files_after_actions s.intent (files_with_staged 1 found.0 (files_of v))) v (g.T.Tree.history c.args.tree.now) (g.T.Tree.history c.carry_through.new.tree)) c.in_ok-stage_each.ensures.view
     (c.in_ok-carry_through.ensures.run found.0 v (g.T.Tree.history c.args.tree.now) found.2)))
+
+pub returns-in_err-check_targets-clause-run : goal.returns-in_err-check_targets-clause-run
+returns-in_err-check_targets-clause-run g c =
+    carried c.a_new_stage_is_staging.ensures (g.T.Tree.history c.args.tree.now) (g.T.Tree.history c.check_targets.new.tree) c.args.stage.now _ _ c.args.writes.now c.requires.new c.check_targets.ensures.tree.same
+    (λ v contents. IsCarriedTo {A = Unit {0}} (files_after_actions c.args.stage.now.intent (files_with_staged 1 contents (files_of v))) v (g.T.Tree.history c.args.tree.now) (g.T.Tree.history c.check_targets.new.tree) c.from_residual.result)
+    (λ v contents staging stand. record {
+      run = c.a_staging_run_is_a_stage_run.ensures _ v _ _ staging.run;
+      ok = not_ok (λ e. e ≡ Disk) c.from_residual.result _ c.from_residual.ensures.1;
+      err = if_disk c.from_residual.result Disk c.from_residual.ensures.1 refl;
+    })
+
+pub returns-in_err-check_targets-clause-promised : goal.returns-in_err-check_targets-clause-promised
+returns-in_err-check_targets-clause-promised g c = asked_same g.T.Tree.accepts _ _ c.check_targets.ensures.tree.same
+
+pub returns-in_err-check_targets-clause-proper : goal.returns-in_err-check_targets-clause-proper
+returns-in_err-check_targets-clause-proper g c =
+    carried c.a_new_stage_is_staging.ensures (g.T.Tree.history c.args.tree.now) (g.T.Tree.history c.check_targets.new.tree) c.args.stage.now _ _ c.args.writes.now c.requires.new c.check_targets.ensures.tree.same
+    (λ v contents. AreIntentAndStagedPathsFree (files_of v) → AreIntentAndStagedPathsFree (files_after_actions c.args.stage.now.intent (files_with_staged 1 contents (files_of v))) → (g.T.Tree.counts c.check_targets.new.tree).misuses ≡ (g.T.Tree.counts c.args.tree.now).misuses)
+    (λ v contents staging stand room more. where_seen (g.T.Tree.history c.args.tree.now) v _ staging.start c.check_targets.ensures.tree.proper)
