@@ -13,8 +13,8 @@ ghost use Rattle.change_report.specs.package_changes.Report.{simulated_report};
 use crate::choosing::{Selection, a_choice_exists, choose};
 use crate::making::make_change;
 use crate::wishes::{names_of_upgrade, names_to_remove};
-use change_outcome::packages_after_a_change_depend_on_their_reads;
 use base_core::{Text, Tree, counts_of_consecutive_calls_compose};
+use change_outcome::packages_after_a_change_depend_on_their_reads;
 use change_report::{
     Changes, Loaded, Refused, a_change_has_a_first_clash_or_none, inputs_depend_on_their_own_reads,
     simulated_report, what_is_read_of_a_root_is_in_the_tree,

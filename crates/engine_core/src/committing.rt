@@ -10,8 +10,8 @@ ghost use Rattle.std.specs.Prelude.{◌<◌, IfOk, Ok, length};
 
 use crate::planning::Plan;
 use crate::rendering::Rendered;
-use change_outcome::a_package_that_was_read_is_that_of_its_file;
 use base_core::{Cause, Text, Tree};
+use change_outcome::a_package_that_was_read_is_that_of_its_file;
 use change_report::{Members, Refused};
 use journal_staging::{Piece, StageFault, carry_out, runs_with_accepted_targets_begin_with_reads};
 use report_core::Refusal;

@@ -12,8 +12,8 @@ ghost use Rattle.engine_core.specs.SelectionSeen.{HasDatabaseOfInputs, HasPoolOf
 ghost use Rattle.std.specs.Prelude.{IfOk};
 
 use crate::choosing::Selection;
-use change_outcome::{Arrivals, read_arrivals};
 use base_core::Tree;
+use change_outcome::{Arrivals, read_arrivals};
 use change_report::{PlacedNames, Refused};
 use std::alloc::Global;
 

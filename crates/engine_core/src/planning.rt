@@ -17,8 +17,8 @@ ghost use Rattle.engine_core.specs.Runs.{IsRunOnFoundPackages};
 ghost use Rattle.std.specs.Prelude.{◌≡◌, ◌<◌, true, Err, IfErr, IfOk, List, length};
 
 use crate::packages::ReadPackages;
-use change_outcome::{members_of_change, packages_that_were_read_are_those_found};
 use base_core::{Text, Tree};
+use change_outcome::{members_of_change, packages_that_were_read_are_those_found};
 use change_report::{
     Db, FilePlan, Members, PlanFault, Refused, a_change_has_a_first_clash_or_none, first_due, plan,
     touched_folders,

@@ -12,8 +12,8 @@ ghost use Rattle.change_report.specs.journal_intent.IntentValue.{intent_of_lists
 ghost use Rattle.std.specs.Option.{option_copied};
 ghost use Rattle.std.specs.Prelude.{◌≡◌, ◌++◌, true, IfOk};
 
-use change_outcome::WriteFault;
 use base_core::Names;
+use change_outcome::WriteFault;
 use change_report::{Members, Owned, Refused, Stage, write_db};
 use report_core::Refusal;
 use std::alloc::Global;

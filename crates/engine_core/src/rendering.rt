@@ -23,8 +23,8 @@ use crate::records::{begin_stage, is_absent_or_different, new_database};
 use crate::removals::removals_of;
 use crate::wishes::names_to_remove;
 use crate::writes::{RecordWrites, names_of, writes_of};
-use change_outcome::a_package_that_was_read_is_that_of_its_file;
 use base_core::{Name, Names, Text};
+use change_outcome::a_package_that_was_read_is_that_of_its_file;
 use change_report::{
     Changes, Loaded, Refused, ReportedChange, Stage, change_report,
     places_lead_to_packages_and_candidates,

@@ -14,8 +14,8 @@ ghost use Rattle.std.specs.Ordering.{on};
 ghost use Rattle.std.specs.Prelude.{◌≡◌, ◌++◌, List, All, IfOk, OnOk, map};
 
 use crate::targets::target_of;
-use change_outcome::Arrivals;
 use base_core::{Name, Names};
+use change_outcome::Arrivals;
 use change_report::{FilePlan, Members, Write};
 use journal_staging::{PackagedFile, Source, StagedWrite};
 use std::alloc::{AllocError, Global};
