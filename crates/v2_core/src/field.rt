@@ -7,7 +7,7 @@ ghost use Rattle.v2_core.specs.InfoFields.{info_field_among, field_of_letter, gr
 
 /// A field of a package that a line gives (the installed database of apk-tools 2).
 #[derive(Clone, Copy, Debug, PartialEq, Eq)]
-pub(crate) enum InfoField {
+pub enum InfoField {
     /// The field of lines `C:value`.
     Hashes,
     /// The field of lines `P:value`.
@@ -48,7 +48,7 @@ pub(crate) enum InfoField {
 
 /// The grammar of a field's values.
 #[derive(Clone, Copy)]
-pub(crate) enum Grammar {
+pub enum Grammar {
     /// `Q1` and the base64 of the 20 bytes of a SHA-1.
     Sha1Text,
     /// A package's name.

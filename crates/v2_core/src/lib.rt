@@ -16,6 +16,7 @@ mod record;
 mod value;
 mod writing;
 
+pub use field::{Grammar, InfoField};
 pub use read::{
     V2Fault, read_v2, the_reported_line_is_the_first_that_no_text_has,
     the_text_of_records_is_read_back,
