@@ -3,10 +3,9 @@
 //! the rows before it left.
 
 mod change;
-mod package;
 
 use crate::databases::change::changed_database;
-use crate::databases::package::package_file;
+use crate::package::package_file;
 use adb_schema::ReadFault;
 use base_core::{Name, Words};
 use db_core::Db;
@@ -18,7 +17,7 @@ use std::alloc::{AllocError, Global};
 enum Question {
     /// `start`: begins again with an empty database.
     Start,
-    /// `package NAME VERSION FOLDER/ FILE ..`: a package that the next `change` adds.
+    /// `package NAME VERSION PRIORITY FILES REPLACES ..`: a package that the next `change` adds.
     Package,
     /// `change FLAGS NAME ..`: adds packages, removes those of these names, and counts the
     /// packages.

@@ -7,6 +7,7 @@
 mod databases;
 mod members;
 mod owners;
+mod package;
 mod plans;
 mod split;
 

@@ -1,10 +1,9 @@
 //! Answers questions about `file_owners`: who owns the files that packages list.
 
 mod answer;
-mod package;
 
 use crate::owners::answer::add_owners;
-use crate::owners::package::package_of;
+use crate::package::package_file;
 use base_core::Words;
 use row_lines::{Answer, Subject, value_named, word_at};
 use std::alloc::{AllocError, Global};
@@ -14,7 +13,7 @@ use std::alloc::{AllocError, Global};
 enum Question {
     /// `new`: the packages of earlier rows are forgotten.
     New,
-    /// `package NAME VERSION PRIORITY PATHS REPLACES ..`: a package is added.
+    /// `package NAME VERSION PRIORITY FILES REPLACES ..`: a package is added.
     Package,
     /// `owners`: who owns the files of the added packages.
     Owners,
@@ -54,10 +53,7 @@ impl Subject for AddedPackages {
     ) -> Result<(), AllocError> {
         match value_named(&QUESTIONS, word_at(words, 0)) {
             Some(Question::New) => self.packages.clear(),
-            Some(Question::Package) => match package_of(alloc, words)? {
-                Some(package) => self.packages.push(package)?,
-                None => answer.push(b"no package"),
-            },
+            Some(Question::Package) => self.packages.push(package_file(alloc, words)?)?,
             Some(Question::Owners) => return add_owners(alloc, &self.packages, answer),
             None => answer.push(b"no question"),
         }

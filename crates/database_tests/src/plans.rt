@@ -3,10 +3,10 @@
 
 mod answer;
 mod change;
-mod package;
 
+use crate::members::front_of;
+use crate::package::{number_in, package_file};
 use crate::plans::change::{PackageAfter, ToldChange, add_plan};
-use crate::plans::package::{added_package, number_in};
 use adb_schema::ReadFault;
 use base_core::{Name, Words};
 use db_core::Db;
@@ -107,7 +107,7 @@ impl Subject for Planned {
                 self.change.after.push(PackageAfter::Kept(name))?
             }
             Question::Comes => {
-                let front = added_package(alloc, words)?;
+                let front = front_of(alloc, &package_file(alloc, words)?)?;
                 self.change.after.push(PackageAfter::Added(front))?
             }
             Question::File => return put_file(alloc, &mut self.tree, words, answer),

@@ -2,8 +2,8 @@
 //! describes how a row gives a package; the rules of plans are in `docs/commands.md`, "What a
 //! change does with files".
 use crate::members::{add_coming, add_installed};
+use crate::package::database_file;
 use crate::plans::answer::{add_fault, add_files};
-use crate::plans::package::database_file;
 use adb_schema::ReadFault;
 use base_core::Words;
 use db_core::{Db, Members, write_db};

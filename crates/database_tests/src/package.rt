@@ -2,13 +2,11 @@
 //! describes how a row gives a package; the fields are in `docs/formats.md`, "Schemas". Fields
 //! count from 1 there, and from 0 here.
 
-use crate::members::front_of;
 use crate::split::{folder_and_name, split_at_first};
 use adb_schema::{IDB_WORD, PACKAGE_WORD};
 use adb_view::Val;
 use adb_write::{Writer, file_in_place};
 use base_core::Words;
-use pkg_core::Front;
 use row_lines::{number_of, word_at};
 use sha1::Sha1;
 use sha2::{Digest, Sha256};
@@ -36,12 +34,11 @@ const TARGET: usize = 5;
 /// The bytes before the text of a link's target (`docs/formats.md`, "The texts", field 406).
 const LINK: &[u8] = b"\x00\xa0";
 
-/// The front (header and first block) of the package that the row describes, or None if the package
-/// fails a test. Its container is without the contents of its files.
-pub(crate) fn added_package(alloc: Global, row: &Words) -> Result<Option<Front>, AllocError> {
+/// The container of the package that the row describes, without the contents of its files.
+pub(crate) fn package_file(alloc: Global, row: &Words) -> Result<Vec<u8>, AllocError> {
     let mut writer = Writer::new(alloc);
     let root = write_package(alloc, &mut writer, row)?;
-    front_of(alloc, &container(writer, root, PACKAGE_WORD)?)
+    container(writer, root, PACKAGE_WORD)
 }
 
 /// The container of a database with the packages that these rows describe.
