@@ -23,7 +23,6 @@ use std::alloc::{AllocError, Global};
 
 /// What a command selects: the candidates that replace the packages before, with what they were
 /// chosen from.
-#[derive(Drop)]
 pub(crate) struct Selection<'a> {
     /// The command.
     pub command: &'a Command,
@@ -37,6 +36,20 @@ pub(crate) struct Selection<'a> {
     pub trace: Trace,
     /// The names to be reinstalled: the operands of `fix`, and none for another command.
     pub again: Words,
+}
+
+/// Drops the parts in one call, so that a function that gives up has one drop and not many.
+impl Drop for Selection<'_> {
+    fn drop(self) {
+        let Selection {
+            command: _,
+            loaded: _,
+            db: _,
+            pool: _,
+            trace: _,
+            again: _,
+        } = self;
+    }
 }
 
 /// Chooses the candidates that are installed after a command. `loaded` is what was read of the

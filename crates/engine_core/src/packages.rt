@@ -18,7 +18,6 @@ use change_report::{PlacedNames, Refused};
 use std::alloc::Global;
 
 /// The packages after the change of a selection, as they were read.
-#[derive(Drop)]
 pub(crate) struct ReadPackages<'r, 'a> {
     /// The selection: the command, what was read of the root, the candidates, which of them are
     /// chosen, and the names to be reinstalled.
@@ -28,6 +27,17 @@ pub(crate) struct ReadPackages<'r, 'a> {
     pub names: PlacedNames<'a>,
     /// The packages after the change: the added ones, read and tested, and the kept ones.
     pub arrivals: Arrivals,
+}
+
+/// Drops the parts in one call, so that a function that gives up has one drop and not many.
+impl Drop for ReadPackages<'_, '_> {
+    fn drop(self) {
+        let ReadPackages {
+            selection: _,
+            names: _,
+            arrivals: _,
+        } = self;
+    }
 }
 
 /// Reads and tests the added packages of a selection.

@@ -27,7 +27,6 @@ use report_core::Refusal;
 use std::alloc::{AllocError, Global};
 
 /// The plan of a change: the packages after it, and what it does with files.
-#[derive(Drop)]
 pub(crate) struct Plan<'r, 's, 'a> {
     /// The packages after the change, as they were read.
     pub packages: &'r ReadPackages<'s, 'a>,
@@ -36,6 +35,17 @@ pub(crate) struct Plan<'r, 's, 'a> {
     /// The names that the change removes or writes, those written as `PATH.apk-new` beside a
     /// modified file, and the modified files that it keeps.
     pub files: FilePlan,
+}
+
+/// Drops the parts in one call, so that a function that gives up has one drop and not many.
+impl Drop for Plan<'_, '_, '_> {
+    fn drop(self) {
+        let Plan {
+            packages: _,
+            members: _,
+            files: _,
+        } = self;
+    }
 }
 
 /// Plans the change to packages that were read: makes the plan of its files, and tests its files

@@ -115,7 +115,6 @@ fn journal_entry(
 }
 
 /// The database and world after a change, and the names of their files.
-#[derive(Drop)]
 pub(crate) struct NewRecords {
     /// The bytes of the new database.
     pub database: Vec<u8>,
@@ -125,6 +124,18 @@ pub(crate) struct NewRecords {
     pub database_name: Name,
     /// The name of world's file.
     pub world_name: Name,
+}
+
+/// Drops the parts in one call, so that a function that gives up has one drop and not many.
+impl Drop for NewRecords {
+    fn drop(self) {
+        let NewRecords {
+            database: _,
+            world: _,
+            database_name: _,
+            world_name: _,
+        } = self;
+    }
 }
 
 /// The bytes of the database that lists the packages after a change, and the text of the new world.

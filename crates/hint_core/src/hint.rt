@@ -55,7 +55,6 @@ pub enum HintFile {
 
 /// A hint: what a number of a refusal stands for, or what to do about the refusal. A place of a
 /// word is counted from 1.
-#[derive(Drop)]
 pub enum Hint {
     /// The word at this place.
     Word {
@@ -128,6 +127,46 @@ pub enum Hint {
     UnknownSchema,
     /// No hint: the refusal has nothing to explain, or what a number stands for was not found.
     Nothing,
+}
+
+/// Drops the parts in one call, so that a function that gives up has one drop and not many.
+impl Drop for Hint {
+    fn drop(self) {
+        match self {
+            Hint::Word { place: _, word: _ } => {}
+            Hint::AbsentFile { place: _, word: _ } => {}
+            Hint::Unowned { place: _, word: _ } => {}
+            Hint::Information { place: _, word: _ } => {}
+            Hint::Missing { place: _ } => {}
+            Hint::Repository {
+                number: _,
+                line: _,
+                path: _,
+            } => {}
+            Hint::Line {
+                file: _,
+                line: _,
+                text: _,
+            } => {}
+            Hint::Database { is_container: _ } => {}
+            Hint::AbsentDatabase => {}
+            Hint::SharedPath => {}
+            Hint::Journal => {}
+            Hint::Untrusted => {}
+            Hint::AbsentPackage => {}
+            Hint::OtherPackage => {}
+            Hint::Damaged => {}
+            Hint::Foreign => {}
+            Hint::Field {
+                place: _,
+                table: _,
+                name: _,
+            } => {}
+            Hint::Schema { table: _ } => {}
+            Hint::UnknownSchema => {}
+            Hint::Nothing => {}
+        }
+    }
 }
 
 /// The hints of a refusal: on what it is about, and on its cause.

@@ -19,7 +19,6 @@ const FIRST_FILE_WORD: usize = 3;
 
 /// The change of a row, the files before and after it, and counts of recovered trees by the files
 /// that they have.
-#[derive(Drop)]
 struct Sweep {
     /// The change of the row.
     change: StagedChange,
@@ -34,6 +33,20 @@ struct Sweep {
     /// How many trees have other files, or were not recovered, or have other files after a further
     /// crash and recovery.
     other: u64,
+}
+
+/// Drops the parts in one call, so that a function that gives up has one drop and not many.
+impl Drop for Sweep {
+    fn drop(self) {
+        let Sweep {
+            change: _,
+            old_files: _,
+            new_files: _,
+            old: _,
+            new: _,
+            other: _,
+        } = self;
+    }
 }
 
 impl Sweep {

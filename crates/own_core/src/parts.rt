@@ -263,7 +263,6 @@ fn left_over_files<'o, T: Tree>(
 
 /// The claims of the files of a change, divided by what is done with the files. Each list is in
 /// byte order of the paths.
-#[derive(Drop)]
 pub struct Parts<'o, 'n> {
     /// The added files that are written under their own paths.
     pub ins: Vec<Claim<'n>>,
@@ -273,6 +272,18 @@ pub struct Parts<'o, 'n> {
     pub removed: Vec<Claim<'o>>,
     /// The files left over that are kept, since they are configuration that the user changed.
     pub kept: Vec<Claim<'o>>,
+}
+
+/// Drops the parts in one call, so that a function that gives up has one drop and not many.
+impl Drop for Parts<'_, '_> {
+    fn drop(self) {
+        let Parts {
+            ins: _,
+            asides: _,
+            removed: _,
+            kept: _,
+        } = self;
+    }
 }
 
 /// Divides the files of a change: those that added packages own (`coming`) by their fates, and

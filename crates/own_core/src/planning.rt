@@ -44,7 +44,6 @@ use path_claim_lists::{
 use std::alloc::{AllocError, Global};
 
 /// The plan of a change: which files it removes, writes, writes aside and keeps, and who owns what.
-#[derive(Drop)]
 pub struct FilePlan {
     /// The names that are removed, in byte order.
     pub(crate) removals: Names,
@@ -57,6 +56,19 @@ pub struct FilePlan {
     /// The paths of the user's files that are kept although no package lists them after the change,
     /// in byte order.
     pub(crate) kept: Names,
+}
+
+/// Drops the parts in one call, so that a function that gives up has one drop and not many.
+impl Drop for FilePlan {
+    fn drop(self) {
+        let FilePlan {
+            removals: _,
+            writes: _,
+            owned: _,
+            aside: _,
+            kept: _,
+        } = self;
+    }
 }
 
 impl FilePlan {

@@ -6,7 +6,6 @@ use base_core::{Cause, Name, Text};
 /// Why a command is refused. The variants are in the order in which they are tested; file operands
 /// are tested one by one. `place` is the number of a word in the command line, counted from 1
 /// without the program's name. `line` and `repository` count from 1 too.
-#[derive(Drop)]
 pub enum Refusal {
     /// The words of the command line do not follow the grammar (apk(8)): `place` is that of the
     /// first wrong word, or the place after the last word if a word is missing.
@@ -168,4 +167,61 @@ pub enum Refusal {
         // The count of values just after the first value that exceeded a limit.
         values: u64,
     },
+}
+
+/// Drops the parts in one call, so that a function that gives up has one drop and not many.
+impl Drop for Refusal {
+    fn drop(self) {
+        match self {
+            Refusal::Usage { place: _ } => {}
+            Refusal::IntentBad { cause: _ } => {}
+            Refusal::FileMissing { place: _ } => {}
+            Refusal::FileBad { place: _, cause: _ } => {}
+            Refusal::TextBad { place: _, line: _ } => {}
+            Refusal::VersionBad { place: _ } => {}
+            Refusal::InfoBad { place: _ } => {}
+            Refusal::NoDatabase => {}
+            Refusal::DatabaseBad { cause: _ } => {}
+            Refusal::WorldBad { line: _ } => {}
+            Refusal::RepositoriesBad { line: _ } => {}
+            Refusal::Untrusted => {}
+            Refusal::IndexMissing { repository: _ } => {}
+            Refusal::IndexBad {
+                repository: _,
+                cause: _,
+            } => {}
+            Refusal::TooMany { count: _ } => {}
+            Refusal::NotInstalled { place: _ } => {}
+            Refusal::Unsatisfied => {}
+            Refusal::PackageMissing {
+                name: _,
+                version: _,
+            } => {}
+            Refusal::PackageBad {
+                name: _,
+                version: _,
+                cause: _,
+            } => {}
+            Refusal::PackageDiffers {
+                name: _,
+                version: _,
+                field: _,
+                wanted: _,
+                found: _,
+            } => {}
+            Refusal::ScriptNeeded { name: _, script: _ } => {}
+            Refusal::Reserved { path: _ } => {}
+            Refusal::PathClash { path: _, other: _ } => {}
+            Refusal::Owned {
+                path: _,
+                first: _,
+                second: _,
+            } => {}
+            Refusal::TriggerNeeded { name: _ } => {}
+            Refusal::ResultTooLarge {
+                bytes: _,
+                values: _,
+            } => {}
+        }
+    }
 }

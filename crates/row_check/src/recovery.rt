@@ -8,12 +8,21 @@ use tree_memory::MemoryTree;
 
 /// The two sides of a command line: the files that the command line finds, and those that it leaves
 /// if nothing fails, both after a recovery.
-#[derive(Drop)]
 pub struct Sides {
     /// The files that the command line finds (the old files).
     pub before: MemoryTree,
     /// The files that the command line leaves (the new files).
     pub after: MemoryTree,
+}
+
+/// Drops the parts in one call, so that a function that gives up has one drop and not many.
+impl Drop for Sides {
+    fn drop(self) {
+        let Sides {
+            before: _,
+            after: _,
+        } = self;
+    }
 }
 
 /// Which side of a command line the recovered files of a tree are. If the command line changes

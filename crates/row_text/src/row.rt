@@ -5,7 +5,6 @@ use base_core::{Name, Words};
 use std::alloc::{AllocError, AllocFailed};
 
 /// A row of a text.
-#[derive(Drop)]
 pub struct Row {
     /// The name of the row, which no other row has.
     pub name: Vec<u8>,
@@ -18,6 +17,19 @@ pub struct Row {
     pub files: Vec<NamedFile>,
     /// The command lines of the row, in order.
     pub steps: Vec<Step>,
+}
+
+/// Drops the parts in one call, so that a function that gives up has one drop and not many.
+impl Drop for Row {
+    fn drop(self) {
+        let Row {
+            name: _,
+            line: _,
+            from: _,
+            files: _,
+            steps: _,
+        } = self;
+    }
 }
 
 /// A path, and the file that exists there before a row, or is expected there after a command line.
@@ -40,7 +52,6 @@ pub struct Content {
 }
 
 /// A command line, the failures that are planned for it, and what is expected of it.
-#[derive(Drop)]
 pub struct Step {
     /// The number of the line of the text that has the command line, counted from 1.
     pub line: u64,
@@ -65,6 +76,25 @@ pub struct Step {
     pub writes: Option<u64>,
     /// The most bytes that one reading call may ask for, if the row states it.
     pub reads: Option<u64>,
+}
+
+/// Drops the parts in one call, so that a function that gives up has one drop and not many.
+impl Drop for Step {
+    fn drop(self) {
+        let Step {
+            line: _,
+            command: _,
+            plan: _,
+            out: _,
+            err: _,
+            status: _,
+            files: _,
+            names: _,
+            calls: _,
+            writes: _,
+            reads: _,
+        } = self;
+    }
 }
 
 /// The planned failures of a command line. In the first run only what `calls`, `out` and `err` plan

@@ -16,7 +16,6 @@ pub(crate) struct Repository<'t> {
 }
 
 /// A row: what its lines say, from the line that begins the row up to the next such line.
-#[derive(Drop)]
 pub(crate) struct Row<'t> {
     /// The name of the row.
     pub(crate) name: &'t [u8],
@@ -30,6 +29,20 @@ pub(crate) struct Row<'t> {
     pub(crate) upgraded: &'t [u8],
     /// How often the result of the row is computed.
     pub(crate) times: u64,
+}
+
+/// Drops the parts in one call, so that a function that gives up has one drop and not many.
+impl Drop for Row<'_> {
+    fn drop(self) {
+        let Row {
+            name: _,
+            repositories: _,
+            installed: _,
+            world: _,
+            upgraded: _,
+            times: _,
+        } = self;
+    }
 }
 
 impl<'t> Row<'t> {

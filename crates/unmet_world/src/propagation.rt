@@ -77,7 +77,6 @@ const NOTHING: Known = Known {
 
 /// The state of the search. The search remembers whether memory ran out, so that its functions
 /// return no error.
-#[derive(Drop)]
 struct Propagation<'p> {
     /// The allocator.
     alloc: Global,
@@ -111,6 +110,29 @@ struct Propagation<'p> {
     end: Option<Want>,
     /// Whether memory ran out.
     is_out_of_memory: bool,
+}
+
+/// Drops the parts in one call, so that a function that gives up has one drop and not many.
+impl Drop for Propagation<'_> {
+    fn drop(self) {
+        let Propagation {
+            alloc: _,
+            pool: _,
+            world: _,
+            open: _,
+            listed: _,
+            known: _,
+            conclusions: _,
+            few: _,
+            few_done: _,
+            seen: _,
+            seen_done: _,
+            conflicts: _,
+            compared: _,
+            end: _,
+            is_out_of_memory: _,
+        } = self;
+    }
 }
 
 /// The refutation of world that the search finds, if it finds one.

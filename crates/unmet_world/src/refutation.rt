@@ -59,12 +59,18 @@ pub struct Refutation {
 }
 
 /// The candidates that are ruled out, and those that are sure, by the steps that were checked.
-#[derive(Drop)]
 struct Checked {
     /// The candidates that are ruled out.
     out: CandidateSet,
     /// The candidates that are sure.
     sure: CandidateSet,
+}
+
+/// Drops the parts in one call, so that a function that gives up has one drop and not many.
+impl Drop for Checked {
+    fn drop(self) {
+        let Checked { out: _, sure: _ } = self;
+    }
 }
 
 impl Checked {
