@@ -25,7 +25,6 @@ use std::collections::BTreeMap;
 const SHORT: usize = 64;
 
 /// The long texts (more than `SHORT` bytes) of one payload that one draft contains.
-#[derive(Drop)]
 pub struct KnownTexts {
     /// Maps the word of a long text in the payload to the word of this text in the draft.
     words: BTreeMap<u32, u32>,
@@ -33,6 +32,17 @@ pub struct KnownTexts {
     overlaps: Overlaps,
     /// The fingerprints of remembered texts, by which other equal texts are found.
     fingerprints: Fingerprints,
+}
+
+/// Drops the parts in one call, so that a function that gives up has one drop and not many.
+impl Drop for KnownTexts {
+    fn drop(self) {
+        let KnownTexts {
+            words: _,
+            overlaps: _,
+            fingerprints: _,
+        } = self;
+    }
 }
 
 impl KnownTexts {

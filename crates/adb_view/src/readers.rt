@@ -41,8 +41,8 @@ pub(crate) fn is_sound_leaf(adb: Adb<'_>, kind: Kind, word: Val) -> bool
     }
 }
 
-/// Why the word cannot be read as a leaf of this kind. None if it can be read. An array and an object
-/// are no leaves: for their kinds, the result is None too.
+/// Why the word cannot be read as a leaf of this kind. None if it can be read. An array and an
+/// object are no leaves: for their kinds, the result is None too.
 #[tactic(auto, using(crate::proofs::ReaderFaults::int_fault, crate::proofs::ReaderFaults::blob_fault))]
 pub(crate) fn leaf_fault(adb: Adb<'_>, kind: Kind, word: Val) -> Option<VisitFault>
     ensures { option_map cause_of_fault result ≡ leaf_fault (payload_of adb.entry) kind word }

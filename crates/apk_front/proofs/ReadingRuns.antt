@@ -1,6 +1,5 @@
 -- A run of a command that only reads.
 use Rattle.std.proofs.Common.{◌≡◌, ℕ, List, [], ◌∷◌, Result, Ok, Err, refl, sym, ap, subst}
-use Rattle.std.specs.Result.{IsErrAnd}
 use Rattle.base_core.specs.Calls.{IfObservable}
 use Rattle.base_core.specs.Faults.{Counts}
 use Rattle.base_core.specs.Files.{Files}
@@ -8,7 +7,7 @@ use Rattle.base_core.specs.Read.{OnlyReads}
 use Rattle.base_core.specs.Tree.{TreeState}
 use Rattle.base_core.specs.declared.tree.TreeFault.{TreeFault}
 use Rattle.base_core.specs.declared.tree.TreeFault.TheVariants.{Disk, Memory}
-use Rattle.base_core.proofs.Counting.{goes_on_same, no_fault_same, readings_two}
+use Rattle.base_core.proofs.Counting.{goes_on_same, no_fault_same}
 use Rattle.command_core.specs.Command.{CommandLine}
 use Rattle.command_core.specs.declared.command.Applet.{Applet}
 use Rattle.command_core.specs.declared.operands.Operand.{Operand}
@@ -22,17 +21,6 @@ use Rattle.apk_front.specs.Verdicts.{read_only_outcome}
 use Rattle.apk_front.specs.declared.answer.Verdict.{Verdict}
 use Rattle.apk_front.proofs.Carried.{Ran, ran_found, ran_read}
 use Rattle.apk_front.proofs.Runs.{History, Judged}
-
--- whatever is made of what was read
-pub reads_on : {A B : Type 0} (old now : History) (before after : Counts) (x : A) (y : B) → OnlyReads {A = A} {E = TreeFault} Disk old now before after (Ok x) → OnlyReads {A = B} {E = TreeFault} Disk old now before after (Ok y)
-reads_on old now before after x y reads = record {
-  same = reads.same;
-  goes_on = reads.goes_on;
-  disk = λ is. absurd (cc);
-  kept = reads.kept;
-  others = tt;
-  proper = reads.proper;
-}
 
 -- the reading failed
 pub read_failed : {A : Type 0} (outcome : Reads → Files → Outcome) (old now : History) (before after : Counts) (fault : TreeFault) (judged : Judged) → judged ≡ Err fault → OnlyReads {A = A} {E = TreeFault} Disk old now before after (Err fault)
@@ -49,21 +37,6 @@ read_failed outcome old now before after fault judged is reads = subst (λ (j : 
     proper = reads.proper;
   };
 })
-
--- two reads, the second of which failed
-pub second_failed : {A B C : Type 0} (old now last : History) (before after end : Counts) (x : A) (fault : TreeFault) (r : Result C TreeFault) → IsErrAnd r (λ e. e ≡ fault)
-    → OnlyReads {A = A} {E = TreeFault} Disk old now before after (Ok x) → OnlyReads {A = B} {E = TreeFault} Disk now last after end (Err fault) → OnlyReads {A = C} {E = TreeFault} Disk old last before end r
-second_failed old now last before after end x fault (Ok y) is first second = absurd is
-second_failed {A} {B} {C} old now last before after end x fault (Err e) is first second =
-    let both = readings_two {A = A} {B = B} {E = TreeFault} Disk old now last before after end x (Err fault) first second in
-    subst (λ (f : TreeFault). OnlyReads {A = C} {E = TreeFault} Disk old last before end (Err f)) (sym is) (record {
-      same = both.same;
-      goes_on = both.goes_on;
-      disk = λ failed. both.disk (let same : fault ≡ Disk = cc in ap Err same);
-      kept = tt;
-      others = both.others;
-      proper = both.proper;
-    })
 
 -- memory ran out after it
 pub read_then_memory : {A : Type 0} (outcome : Reads → Files → Outcome) (old now : History) (before after : Counts) (x : A) (judged : Judged) → judged ≡ Err Memory → OnlyReads {A = A} {E = TreeFault} Disk old now before after (Ok x)

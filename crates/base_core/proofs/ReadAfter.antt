@@ -215,6 +215,18 @@ reading_off disk old new a b fault (Err other) is h = record {
     as_err : {C F : Type 0} (x y : F) → x ≡ y → IsErrOf {T = C} {E = F} (Err x) y
     as_err x y e = λ j. Err (e j)
 
+-- two reads, the second of which fails, in a call that hands the fault on
+pub second_reading_failed : {A B C E : Type 0} (disk : E) (h0 h1 h2 : List TreeState) (a b c : Counts) (value : A) (fault : E) (r : Result C E)
+    → IsErrAnd r (λ other. other ≡ fault) → OnlyReads {A = A} {E = E} disk h0 h1 a b (Ok value) → OnlyReads {A = B} {E = E} disk h1 h2 b c (Err fault) → OnlyReads {A = C} {E = E} disk h0 h2 a c r
+second_reading_failed {A} {B} {C} disk h0 h1 h2 a b c value fault r is h k =
+    reading_off {A = B} {B = C} disk h0 h2 a c fault r is (readings_two {A = A} {B = B} disk h0 h1 h2 a b c value (Err fault) h k)
+
+-- two reads that succeed, in a call that returns what it makes of them
+pub both_readings : {A B C E : Type 0} (disk : E) (h0 h1 h2 : List TreeState) (a b c : Counts) (value : A) (other : B) (made : C)
+    → OnlyReads {A = A} {E = E} disk h0 h1 a b (Ok value) → OnlyReads {A = B} {E = E} disk h1 h2 b c (Ok other) → OnlyReads {A = C} {E = E} disk h0 h2 a c (Ok made)
+both_readings {A} {B} {C} disk h0 h1 h2 a b c value other made h k =
+    reading_as {A = B} {B = C} disk h0 h2 a c other made (readings_two {A = A} {B = B} disk h0 h1 h2 a b c value (Ok other) h k)
+
 -- a size that was told, and then reads
 pub sized_then : {B E : Type 0} (disk : E) (h0 h1 h2 : List TreeState) (a b c : Counts) (size : Option ℕ) (then : Result B E)
     → h1 ≡ h0 → IsCounted {T = Option ℕ} {E = Disk} IsAlwaysAllowed h0 a b (Ok size) → OnlyReads {A = B} {E = E} disk h1 h2 b c then → OnlyReads {A = B} {E = E} disk h0 h2 a c then

@@ -235,9 +235,9 @@ pub fn consecutive_reads_compose<A, B, E>()
         → OnlyReads disk_fault h0 h2 a c then }
 {}
 
-/// `HasNameLedToFileNumberedAtLeast name b moments` says that at one of these moments the name led to a
-/// file whose number is `b` or larger. Then this also holds for each smaller number (`begun`), and
-/// for a longer list of moments (`later`).
+/// `HasNameLedToFileNumberedAtLeast name b moments` says that at one of these moments the name led
+/// to a file whose number is `b` or larger. Then this also holds for each smaller number (`begun`),
+/// and for a longer list of moments (`later`).
 pub fn a_file_made_in_a_run_was_made_in_an_earlier_one()
     // If a is at most b, a number that is at least b is at least a.
     ensures begun { (name : List ℕ) (a b : ℕ) (moments : List TreeState) → a ≤ b

@@ -14,6 +14,7 @@ pub mod TableAdding
 pub mod CandidateLists
 pub mod ReadWords
 pub mod PackageLists
+pub mod StoredPackages
 pub mod ProvidedVersions
 pub mod WantedVersions
 pub mod NamedVersions

@@ -42,7 +42,6 @@ pub struct PackageWord {
 }
 
 /// The packages of some sources.
-#[derive(Drop)]
 pub struct Packages<'a> {
     /// The indexes and the installed packages, in the order in which they were added.
     pub sources: Vec<Source<'a>>,
@@ -50,6 +49,16 @@ pub struct Packages<'a> {
     words: Vec<PackageWord>,
     // Each word is that of a package of the source at its index.
     ghost sound: { All (IsPackageWordAmong sources.items) words.items },
+}
+
+/// Drops the parts in one call, so that a function that gives up has one drop and not many.
+impl Drop for Packages<'_> {
+    fn drop(self) {
+        let Packages {
+            sources: _,
+            words: _,
+        } = self;
+    }
 }
 
 impl<'a> Packages<'a> {

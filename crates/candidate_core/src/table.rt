@@ -21,7 +21,6 @@ use std::marker::Model;
 use std::slice;
 
 /// The table of names: for each name, the places of the candidates that offer it.
-#[derive(Drop)]
 pub struct Table<'a> {
     /// The allocator.
     alloc: Global,
@@ -29,6 +28,17 @@ pub struct Table<'a> {
     singles: IndexMap<&'a [u8], CandId>,
     // For each name that two or more candidates offer, all these candidates.
     lists: IndexMap<&'a [u8], Vec<CandId>>,
+}
+
+/// Drops the parts in one call, so that a function that gives up has one drop and not many.
+impl Drop for Table<'_> {
+    fn drop(self) {
+        let Table {
+            alloc: _,
+            singles: _,
+            lists: _,
+        } = self;
+    }
 }
 
 impl<'a> Model for Table<'a> {

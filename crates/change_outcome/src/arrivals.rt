@@ -1,8 +1,10 @@
 //! The packages after a change: the added ones are read, and all are made members. `engine_core`
-//! calls `read_arrivals` and then `members_of_change`. The rules are in `docs/commands.md`, "`add`
-//! and `del`": part "What is read" (each added package, from the file `NAME-VERSION.apk` in the
-//! folder of its index), and part "What is refused", reason 9: of the packages in byte order of
-//! names, the first with a bad file or a script that has to run.
+//! calls `read_arrivals` and then `members_of_change`.
+//!
+//! The rules are in `docs/commands.md`, "`add` and `del`". The part "What is read" says that each
+//! added package is read from the file `NAME-VERSION.apk` in the folder of its index. Reason 9 of
+//! the part "What is refused" is about the first package, in byte order of names, that has a bad
+//! file or a script that has to run.
 
 ghost use Rattle.change_outcome.specs.Answered.{DenotesUnlessDisk};
 ghost use Rattle.change_outcome.specs.Arrivals.{AreMembersFoundFromOldPackagesAndReads, CanBeMembers, arrivals_seen, HasPlaceIfKept, member_of_read_package, members_by_packages_before_and_reads, IsTestedPackageWithContentsOfMember, added_package_in_member_read};

@@ -2,11 +2,11 @@
 //! files that it leaves. The rules are in `docs/commands.md`, "`add` and `del`" and "What a change
 //! does with files".
 //!
-//! `ChangeOutcome` of `specs/` defines the outcome of a selection that replaces the packages before:
-//! its refusals in their order, the files afterwards, and the report. `MembersAfter` defines the
-//! packages after the change, and `PackageFiles` how the file of an added package is found and
-//! tested. `ConfigurationLines` defines the report on modified configuration files, and `Triggers`
-//! which triggers are due.
+//! `ChangeOutcome` of `specs/` defines the outcome of a selection that replaces the packages
+//! before: its refusals in their order, the files afterwards, and the report. `MembersAfter`
+//! defines the packages after the change, and `PackageFiles` how the file of an added package is
+//! found and tested. `ConfigurationLines` defines the report on modified configuration files, and
+//! `Triggers` which triggers are due.
 //!
 //! The code of this crate reads the packages that a change adds. Their files are found beside the
 //! indexes of repositories, and each file is read in pieces and tested once. The input is the

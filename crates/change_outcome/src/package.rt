@@ -1,8 +1,9 @@
-//! The package of a candidate: its file, `NAME-VERSION.apk` beside the index that has it, is read
-//! and tested once, and compared with its index's entry.
+//! Reads the package of a candidate once, from the file `NAME-VERSION.apk` beside the index that
+//! has it. The package is tested, and compared with its entry in the index.
+//!
 //! The rules are in `docs/commands.md`, "`add` and `del`", parts "What is read" and "What is
-//! refused": the file of an added package is absent, fails a test, or has another id, name or
-//! version than its index says; the tests in `docs/formats.md`, "Tests of a container".
+//! refused". A package is refused if its file is absent, fails a test, or has another id, name or
+//! version than its entry in the index. The tests are in `docs/formats.md`, "Tests of a container".
 
 ghost use Rattle.change_outcome.specs.Arrivals.{IsPackageRead};
 ghost use Rattle.change_outcome.specs.NameReads.{IsAnswerByRead, package_of_candidate_by_read, added_package_read, package_of_candidate_by_path};

@@ -1,6 +1,7 @@
-//! Answers questions about `pkg_core`, `package_reader` and `package_verifier`: the contents of a
-//! file in pieces, and a block of contents that names a file; the front (header and first block) of
-//! a package, and the pieces of all its files in a tree.
+//! Answers questions about `pkg_core`, `package_reader` and `package_verifier`. Some questions are
+//! about the contents of one file in pieces, or about a block of contents that names a file. Others
+//! are about the front (header and first block) of a package, or about the pieces of all its files
+//! in a tree.
 
 ghost use Rattle.std.specs.Prelude.{◌≡◌, IfSome};
 ghost use Rattle.adb_schema.specs.Checked.{table_of_checked};

@@ -1,6 +1,6 @@
-//! Answers questions about `db_core`: packages are added to a database and removed from it, and then
-//! packages and paths are looked up. Each row has the database, and the packages to be added, that
-//! the rows before it left.
+//! Answers questions about `db_core`: packages are added to a database and removed from it, and
+//! then packages and paths are looked up. Each row has the database, and the packages to be added,
+//! that the rows before it left.
 
 mod change;
 

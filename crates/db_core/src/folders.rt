@@ -1,8 +1,9 @@
-//! Writes the folders of a package, and of their files those that the package owns. `packages.rt`
+//! Writes the folders of a package, with those of their files that the package owns. `packages.rt`
 //! calls this for each package.
-//! The rule is in `docs/formats.md`, "The database after a change": "each folder with its name
-//! and its access list, also if it is empty, and of its files those that the package owns"; the
-//! fields in "Schemas", tables 5 and 7.
+//!
+//! The rule is in `docs/formats.md`, "The database after a change". Each folder is written with its
+//! name and its access list, also if it is empty. Of its files, those are written that the package
+//! owns. The fields are in "Schemas", tables 5 and 7.
 ghost use Rattle.adb_copy.specs.Known.{AreRememberedBlobsOfDraft};
 ghost use Rattle.adb_copy.specs.adb_fields.Fields.{are_all_sound, array_at};
 ghost use Rattle.adb_copy.specs.adb_fields.Repeated.{folders_in, list_of};

@@ -4,3 +4,5 @@ pub mod So
 pub mod WarningSteps
 pub mod Mixed
 pub mod PackageSteps
+pub mod ReadSteps
+pub mod Fields

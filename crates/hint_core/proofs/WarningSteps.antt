@@ -1,5 +1,5 @@
 -- What a listing says of a folder, and the steps of the loops over operands and repositories.
-use Rattle.std.proofs.Common.{◌≡◌, ◌∙◌, ◌+◌, ◌<◌, ◌||◌, ℕ, zero, suc, Bool, true, false, List, [], ◌∷◌, ◌++◌, length, drop, Option, Some, None, Result, Ok, Err, refl, sym, ap, arith, inl, inr, append_assoc}
+use Rattle.std.proofs.Common.{◌≡◌, ◌∙◌, ◌+◌, ◌<◌, ◌≤◌, ◌||◌, ℕ, zero, suc, Bool, true, false, List, [], ◌∷◌, ◌++◌, length, drop, drop_of_length-le, Option, Some, None, Result, Ok, Err, refl, sym, ap, arith, inl, inr, append_assoc, append-nil}
 use Rattle.std.specs.Prelude.{OnOk}
 use Rattle.std.specs.List.{slice_get, slice_index_or, Contains}
 use Rattle.std.specs.Option.{option_map}
@@ -47,6 +47,11 @@ warning_more rs os i o lines now text at is so h =
     ap (λ (l : List ℕ). l ++ tag_warnings rs (drop (i + 1) os)) (so ∙ ap (λ (t : List ℕ). lines ++ warning_if_tag_unknown rs (tag_of t)) is)
     ∙ append_assoc lines (warning_if_tag_unknown rs (tag_of o.text)) (tag_warnings rs (drop (i + 1) os))
     ∙ ap (λ (l : List Operand). lines ++ tag_warnings rs l) (sym (left_at os i o at)) ∙ h
+
+-- the warnings of all operands, where none is left
+pub warnings_end : (rs : List Repository) (os : List Operand) (i : ℕ) (lines : List ℕ) → length os ≤ i → lines ++ tag_warnings rs (drop i os) ≡ tag_warnings rs os → lines ≡ tag_warnings rs os
+warnings_end rs os i lines past h =
+    sym (append-nil lines) ∙ (ap (λ (l : List Operand). lines ++ tag_warnings rs l) (sym (drop_of_length-le os past)) ∙ h)
 
 -- the repository at an index, of which the tag is known
 record IsTagAt (rs : List Repository) (i : ℕ) (tag : Option (List ℕ)) : Type 0 where

@@ -6,8 +6,8 @@
 //! The contracts of a change cite `StageRun` of `specs/`: what such a run does to a tree, moment by
 //! moment. The contracts of `NewFile` and `replace` cite `NameLengths` and `NewFilePieces`. They
 //! also cite `Filling`, `Replacing`, `Reading` and `Recovery` (what recovery yields) of
-//! `journal_core`. The rules are in `docs/crash-safety.md`, "A change of several files" and "A whole
-//! file replaced".
+//! `journal_core`. The rules are in `docs/crash-safety.md`, "A change of several files" and "A
+//! whole file replaced".
 #![tactic(auto)]
 
 mod commit;

@@ -4,6 +4,7 @@ pub mod Acted
 pub mod Acts
 pub mod Again
 pub mod Agree
+pub mod Asked
 pub mod BadIntents
 pub mod Below
 pub mod Beside
@@ -15,6 +16,7 @@ pub mod Cleaned
 pub mod Compose
 pub mod Container
 pub mod Contents
+pub mod Counted
 pub mod Emptied
 pub mod Entered
 pub mod Filed

@@ -21,7 +21,6 @@ use std::marker::Model;
 
 /// An intent with all the memory that its actions need: its lists, its container, and the names of
 /// the staged files.
-#[derive(Drop)]
 pub struct PreparedIntent {
     /// The names to be removed.
     removals: Names,
@@ -43,6 +42,19 @@ pub struct PreparedIntent {
     ghost spelled: { read_intent file.items ≡ Some (intent_of_lists removals writes) },
     // The names can be counted in 64 bits.
     ghost few: { length removals + length writes < 2 ^ 63 },
+}
+
+/// Drops the parts in one call, so that a function that gives up has one drop and not many.
+impl Drop for PreparedIntent {
+    fn drop(self) {
+        let PreparedIntent {
+            removals: _,
+            writes: _,
+            stage_names: _,
+            name: _,
+            file: _,
+        } = self;
+    }
 }
 
 impl Model for PreparedIntent {

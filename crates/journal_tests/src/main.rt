@@ -1,9 +1,9 @@
-//! Tests of `journal_core`, `journal_recovery` and `journal_commit`. A change of several files is cut
-//! off, or a call fails: the rows say which files are left, and what a recovery makes of them. Other
-//! rows say which journal entries (intents) are refused. Others replace a file again and again while
-//! the names are never synced. All rows (questions with their expected answers) are in the file
-//! `stdin` of this crate; `tests/lines.md` describes their form. The README of this crate has a row
-//! for each question.
+//! Tests of `journal_core`, `journal_recovery` and `journal_commit`. A change of several files is
+//! cut off, or a call fails: the rows say which files are left, and what a recovery makes of them.
+//! Other rows say which journal entries (intents) are refused. Others replace a file again and
+//! again while the names are never synced. All rows (questions with their expected answers) are in
+//! the file `stdin` of this crate; `tests/lines.md` describes their form. The README of this crate
+//! has a row for each question.
 #![tactic(auto)]
 
 mod changing;

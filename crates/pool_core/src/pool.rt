@@ -32,7 +32,6 @@ pub struct Pool<'a> {
 
 /// Drops the parts in one call, so that a function that gives up has one drop and not many.
 impl Drop for Pool<'_> {
-    // Drops each field.
     fn drop(self) {
         let Pool { alloc: _, list: _ } = self;
     }

@@ -50,7 +50,6 @@ pub struct Sealed<'a> {
 
 /// Drops the parts in one call, so that a function that gives up has one drop and not many.
 impl Drop for Sealed<'_> {
-    // Drops each field.
     fn drop(self) {
         let Sealed {
             packages: _,

@@ -143,10 +143,10 @@ impl<'a, P: Program> Swept<'a, P> {
         report.compare(line, what, run.err.bytes(), err)
     }
 
-    /// Checks each crash image of the tree that a run left, and, unless `is_stop`, this tree itself.
-    /// Each has the files that the command line finds, or those that the command line leaves. A
-    /// second run from there is checked too. Returns whether some image has the files that the
-    /// command line leaves. `call` is the failed call, for reports.
+    /// Checks each crash image of the tree that a run left, and, unless `is_stop`, this tree
+    /// itself. Each has the files that the command line finds, or those that the command line
+    /// leaves. A second run from there is checked too. Returns whether some image has the files
+    /// that the command line leaves. `call` is the failed call, for reports.
     fn go_on_from(&self, call: u64, run: Run, is_stop: bool, report: &mut Report) -> bool {
         let Run { mut tree, .. } = run;
         let mut new_files_seen = false;

@@ -123,9 +123,9 @@ fn empty_content(alloc: Global, form: Form, line: u64) -> Content {
     }
 }
 
-/// Adds the line `piece` to the last of these files, in the file's form. Without a line, removes the
-/// last line end of this file. If there is no file, or if the last one is expected to be absent, the
-/// line is out of place.
+/// Adds the line `piece` to the last of these files, in the file's form. Without a line, removes
+/// the last line end of this file. If there is no file, or if the last one is expected to be
+/// absent, the line is out of place.
 fn edit_last(files: &mut Vec<NamedFile>, form: Form, piece: Option<&[u8]>) -> Result<(), Trouble> {
     let Some(file) = files.last_mut() else {
         return Err(Trouble::OutOfPlace);
@@ -221,9 +221,9 @@ impl Reader {
     }
 }
 
-/// Reads what follows `out` or `err` in a line that plans how many bytes a stream takes: `ends after
-/// N` (bytes), `ends after each` (number of bytes, in further runs), or `takes N at most` (bytes of
-/// one write).
+/// Reads what follows `out` or `err` in a line that plans how many bytes a stream takes: `ends
+/// after N` (bytes), `ends after each` (number of bytes, in further runs), or `takes N at most`
+/// (bytes of one write).
 pub(crate) fn plan_stream(plan: &mut SinkPlan, rest: &[u8]) -> Result<(), Trouble> {
     if let Some(count) = rest.strip_prefix(b"ends after ") {
         // `each` means a further run for each number of bytes; otherwise there is one number.

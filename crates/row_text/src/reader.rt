@@ -17,8 +17,8 @@ pub(crate) enum Target {
     Given(Form),
     /// The last file that is expected after the command line (`then`), written in this form.
     Wanted(Form),
-    /// The expected standard output of the command line, written in this form: as text in lines that
-    /// begin with `>`, and otherwise in lines `|` (`out hex`, `out dump`).
+    /// The expected standard output of the command line, written in this form: as text in lines
+    /// that begin with `>`, and otherwise in lines `|` (`out hex`, `out dump`).
     Printed(Form),
     /// The expected standard error of the command line, in lines that begin with `!`.
     Err,

@@ -89,8 +89,8 @@ impl Line {
     }
 }
 
-/// The part of a text before the first byte `mark`, and the part after it. If the text does not have
-/// this byte, these are the whole text and no text.
+/// The part of a text before the first byte `mark`, and the part after it. If the text does not
+/// have this byte, these are the whole text and no text.
 pub(crate) fn split_text(text: &[u8], mark: u8) -> (&[u8], &[u8]) {
     for i in 0..text.len() {
         if text[i] == mark {

@@ -35,7 +35,8 @@ use std::marker::Model;
 /// - the choices so far;
 /// - the queue of the dependencies that world and the choices raise, and a cursor: every dependency
 ///   before this cursor is met;
-/// - the install-ifs in byte order of names, and a cursor: no install-if before this cursor triggers
+/// - the install-ifs in byte order of names, and a cursor: no install-if before this cursor
+///   triggers
 ///   its candidate;
 /// - the conflicts of the choices;
 /// - for each choice, the state of the queue and of the two cursors before this choice.

@@ -61,6 +61,26 @@ pub none_or_some : {X : Type 0} (o : Option X) → (o ≡ None) ⊎ ((x : X) × 
 none_or_some None = inl refl
 none_or_some (Some x) = inr (x, refl)
 
+-- an option with a value is not without one
+some_or_none : {X : Type 0} (o : Option X) (x : X) → o ≡ Some x → o ≡ None → ⊥
+some_or_none o x some none = cc
+
+-- an option has one value
+one_value : {X : Type 0} (o : Option X) (x y : X) → o ≡ Some x → o ≡ Some y → x ≡ y
+one_value o x y one other = cc
+
+-- lists with the same first item and the same rest are the same
+same_list : (x y : ℕ) (xs ys : List ℕ) → x ≡ y → xs ≡ ys → x ∷ xs ≡ y ∷ ys
+same_list x y xs ys first rest = cc
+
+-- a number that is one more than another is not 0
+not_zero : (n m : ℕ) → n ≡ suc m → n ≤ zero → ⊥
+not_zero n m longer none = omega arith
+
+-- of two numbers, the second of which is less by one, the second has a limit that is less by one
+one_less : (n m limit : ℕ) → n ≡ suc m → n ≤ suc limit → m ≤ limit
+one_less n m limit longer within = omega arith
+
 pub removed : (c : ℕ) (xs : List ℕ) → In c xs → (ys : List ℕ) × (length xs ≡ suc (length ys)) × ((o : ℕ) → In o xs → (o ≡ c) ⊎ In o ys)
 removed c [] h = absurd h
 removed c (x ∷ xs) (inl e) = (xs, refl, λ o h. elim h [ inl q ↦ inl (q ∙ sym e) | inr a ↦ inr a ])
@@ -148,10 +168,10 @@ module _ {Need : Type 0} {next : List ℕ → Option Need} {Needs : List ℕ →
   ])
 
   some_is_none : (q : Need) (t : List ℕ) → next t ≡ Some q → next t ≡ None → ⊥
-  some_is_none q t a b = cc
+  some_is_none q t a b = some_or_none (next t) q a b
 
   same_some : (q r : Need) (t : List ℕ) → next t ≡ Some q → next t ≡ Some r → q ≡ r
-  same_some q r t a b = cc
+  same_some q r t a b = one_value (next t) q r a b
 
   -- a led list is the walk of each Sat S that holds it.
   pub led_walk : (S u v : List ℕ) → Led u v → Sat S → Sub (u ++ v) S → next (u ++ v) ≡ None → WalkFrom S u v
@@ -187,7 +207,7 @@ module _ {Need : Type 0} {next : List ℕ → Option Need} {Needs : List ℕ →
         | inl dead ↦ absurd (not_dead S u d s us best.0 (here.5 d dead))
         | inr rest ↦ elim rest [
           | inl e ↦ elim (led_before S (u ++ c ∷ []) v w led.1 (subst (λ (z : List ℕ). next z ≡ None) (sym (append_assoc u (c ∷ []) v)) end) s (sub_snoc u S c us (subst (λ (z : ℕ). In z S) e best.0)) (subst (λ (z : ℕ). WalkFrom S (u ++ z ∷ []) w) e walk.3)) [
-            | inl wv ↦ inl (cc)
+            | inl wv ↦ inl (same_list d c w v e wv)
             | inr b ↦ inr (inr (sym e, b))
           ]
           | inr better ↦ inr (inl (here.0, here.3, better))
@@ -283,7 +303,7 @@ module _ {Need : Type 0} {next : List ℕ → Option Need} {Needs : List ℕ →
       let dm = subst (λ (z : Need). Meets d z) same ww.2.1 in
       elim (total vw.0 c d (F.clean_good S c s.0 vw.2.0) (F.clean_good X d x.0 ww.2.0) vw.2.1 dm) [
         | inl e ↦ elim (before_total total S X (u ++ c ∷ []) v w s x vw.3 (subst (λ (z : ℕ). WalkFrom X (u ++ z ∷ []) w) (sym e) ww.3)) [
-          | inl q ↦ inl (cc)
+          | inl q ↦ inl (same_list c d v w e q)
           | inr r ↦ elim r [
             | inl b ↦ inr (inl (inr (e, b)))
             | inr b ↦ inr (inr (inr (sym e, subst (λ (z : ℕ). BeforeFrom (u ++ z ∷ []) w v) e b)))
@@ -362,7 +382,7 @@ module _ {Need : Type 0} {next : List ℕ → Option Need} {Needs : List ℕ →
         let b = best_exists sorted S u some.0 s us some.1 in
         elim (parts b.0 b.1.0) [
           | inl old ↦ absurd ((F.next_some u some.0 some.1).1 (b.0, old, b.1.1))
-          | inr new ↦ let r = removed b.0 R new in absurd (omega (arith, r.1))
+          | inr new ↦ let r = removed b.0 R new in absurd (not_zero (length R) (length r.0) r.1 len)
         ]
   ]
   walk_exists sorted (suc fuel) S R u s us len parts = elim (none_or_some (next u)) [
@@ -373,7 +393,7 @@ module _ {Need : Type 0} {next : List ℕ → Option Need} {Needs : List ℕ →
           | inl old ↦ absurd ((F.next_some u some.0 some.1).1 (b.0, old, b.1.1))
           | inr new ↦
               let r = removed b.0 R new in
-              let rest = walk_exists sorted fuel S r.0 (u ++ b.0 ∷ []) s (sub_snoc u S b.0 us b.1.0) (omega (arith, r.1)) (λ c h. elim (parts c h) [
+              let rest = walk_exists sorted fuel S r.0 (u ++ b.0 ∷ []) s (sub_snoc u S b.0 us b.1.0) (one_less (length R) (length r.0) fuel r.1 len) (λ c h. elim (parts c h) [
                 | inl old ↦ inl (in_left c u (b.0 ∷ []) old)
                 | inr more ↦ elim (r.2 c more) [
                   | inl e ↦ inl (in_right c u (b.0 ∷ []) (inl e))

@@ -22,7 +22,6 @@ use std::alloc::{AllocError, Global};
 const DEAD_ENDS_BEFORE: usize = 32;
 
 /// A search under way, with the set in which the reason of each dead end is made.
-#[derive(Drop)]
 pub(crate) struct Search<'p> {
     /// The allocator.
     alloc: Global,
@@ -44,6 +43,23 @@ pub(crate) struct Search<'p> {
     known: Known<'p>,
     /// The state of propagation.
     propagation: Propagation,
+}
+
+/// Drops the parts in one call, so that a function that gives up has one drop and not many.
+impl Drop for Search<'_> {
+    fn drop(self) {
+        let Search {
+            alloc: _,
+            chosen: _,
+            turns: _,
+            hints: _,
+            reason: _,
+            matches: _,
+            dead_ends: _,
+            known: _,
+            propagation: _,
+        } = self;
+    }
 }
 
 impl<'p> Search<'p> {
@@ -420,8 +436,8 @@ fn propagate_turns(
     Ok(None)
 }
 
-// Stores the reason of a dead end in the set `members`: the choices that raised the need (`by`), and
-// the other members of the reasons of its options.
+// Stores the reason of a dead end in the set `members`: the choices that raised the need (`by`),
+// and the other members of the reasons of its options.
 fn store_reason(members: &mut CandidateSet, spent: &Frame) -> Result<(), AllocError>
     ensures { OnOk result (HasSameMembers members.new (dead_end_reason spent.now)) }
 {

@@ -1,7 +1,7 @@
 //! Answers questions about what tests stand on: a tree and a sink in memory, and the texts of rows
 //! that test command lines of `apk`. All rows (questions with their expected answers) are in the
-//! file `stdin` of this crate; `tests/lines.md` describes their form. The README of this crate has a
-//! row for each question.
+//! file `stdin` of this crate; `tests/lines.md` describes their form. The README of this crate has
+//! a row for each question.
 #![tactic(auto)]
 
 mod rows;

@@ -1,7 +1,7 @@
 //! Answers questions about `row_text`, `row_run` and `row_check`: what `row_run` reports of texts
 //! that are not spelled as rows, and of rows that fail. The faults are in `tests/rows.md`, "A text
-//! that is none", and what is compared in "Lines" and "What goes wrong". A text of rows is kept from
-//! one row of this program to the next.
+//! that is none", and what is compared in "Lines" and "What goes wrong". A text of rows is kept
+//! from one row of this program to the next.
 
 mod echo;
 

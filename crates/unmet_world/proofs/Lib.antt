@@ -7,3 +7,6 @@ pub mod Pools
 pub mod Explaining
 pub mod HasLine
 pub mod AlmostSame
+pub mod Refused
+pub mod Wanted
+pub mod WantLines

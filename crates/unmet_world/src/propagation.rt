@@ -173,9 +173,9 @@ pub(crate) fn propagate<'p>(
 }
 
 impl<'p> Propagation<'p> {
-    // Searches until the refutation has an end, nothing is left to look at, the limit is reached, or
-    // memory runs out. Each turn looks at the next wanted dependency in `few`, and else expands the
-    // next candidate in `seen`.
+    // Searches until the refutation has an end, nothing is left to look at, the limit is reached,
+    // or memory runs out. Each turn looks at the next wanted dependency in `few`, and else expands
+    // the next candidate in `seen`.
     fn run(&mut self) {
         for _ in 0..MOST_LOOKED_AT {
             if self.end.is_some() || self.is_out_of_memory {
@@ -360,8 +360,8 @@ impl<'p> Propagation<'p> {
         self.exclude_with(id)
     }
 
-    // Expands a candidate, unless this was done: lists its dependencies as wanted, and its conflicts
-    // by the names in them. Rules the candidate out if a sure candidate meets a conflict.
+    // Expands a candidate, unless this was done: lists its dependencies as wanted, and its
+    // conflicts by the names in them. Rules the candidate out if a sure candidate meets a conflict.
     fn expand(&mut self, id: CandId) {
         if self.known_of(id).is_expanded {
             return;

@@ -183,8 +183,8 @@ fn package_text(
     }
 }
 
-/// All pieces that are left, and `end` if the end was reached. After a fault, one more call is made,
-/// and the text has its result too.
+/// All pieces that are left, and `end` if the end was reached. After a fault, one more call is
+/// made, and the text has its result too.
 fn pieces_text(
     alloc: Global,
     tree: &mut MemoryTree,
@@ -215,8 +215,8 @@ fn pieces_text(
 }
 
 /// Tests the package, and replaces it by `changed`, if these bytes are given. Then adds to `answer`
-/// the lengths of the pieces of the files, from the position `back` to the first, until a file has a
-/// fault.
+/// the lengths of the pieces of the files, from the position `back` to the first, until a file has
+/// a fault.
 fn add_again(
     alloc: Global,
     tree: &mut MemoryTree,

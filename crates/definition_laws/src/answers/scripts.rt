@@ -53,7 +53,8 @@ pub fn a_script_is_run_only_if_it_has_text()
         ↔ (script_text_by_name pkg (codes "post-upgrade") ≢ []) }
 {}
 
-/// `first_script_number_of_package` takes, of a list of numbers of scripts, the first whose script has text.
+/// `first_script_number_of_package` takes, of a list of numbers of scripts, the first whose script
+/// has text.
 pub fn the_first_script_that_has_text_is_taken()
     // A number is taken exactly if it is the first of the list whose script has text.
     ensures first { (pkg : Plain) (numbers : List ℕ) (number : ℕ)

@@ -1,5 +1,5 @@
-//! The program whose runs the texts of rows describe. It prints each word on a line, and returns the
-//! status 1 if there is no word. Some words make this program do what no program should do.
+//! The program whose runs the texts of rows describe. It prints each word on a line, and returns
+//! the status 1 if there is no word. Some words make this program do what no program should do.
 
 use base_core::{Disk, Name, Tree, Words, write_all};
 use row_run::Program;

@@ -1,10 +1,10 @@
+use Rattle.base_core.proofs.ReadAfter.{reading_as}
 use Rattle.apk_front.proofs.Dumping.{dump_found, dump_read}
-use Rattle.apk_front.proofs.ReadingRuns.{reads_on}
 use Rattle.apk_front.proofs.dump.adbdump.Goals as goal
 
 pub returns : goal.returns
 returns g c = record {
   found = dump_found _ c.args.operands.now c.get.result.now c.file.result.now c.in_ok-verdict.verdict _ c.requires.one c.get.ensures c.file.ensures c.in_ok-verdict.ensures c.in_ok-found.ensures.answer;
   by_reads = dump_read c.args.operands.now c.get.result.now c.in_ok-verdict.verdict _ c.requires.one c.get.ensures c.in_ok-verdict.ensures;
-  tree = reads_on _ _ _ _ _ _ c.in_ok-found.ensures.tree;
+  tree = reading_as _ _ _ _ _ _ _ c.in_ok-found.ensures.tree;
 }

@@ -1,7 +1,7 @@
 use Rattle.std.proofs.Common.{None}
 use Rattle.base_core.proofs.Counting.{readings_none, readings_two}
+use Rattle.base_core.proofs.ReadAfter.{second_reading_failed}
 use Rattle.apk_front.proofs.Operands.{any_value, fine_none, found_here, found_more, read_here, read_more, read_none}
-use Rattle.apk_front.proofs.ReadingRuns.{second_failed}
 use Rattle.apk_front.proofs.verify.first_refusal.Goals as goal
 
 pub loop-i-init : goal.loop-i-init
@@ -27,7 +27,7 @@ loop-i-preserved g c = record {
 }
 
 pub returns-in_err-refusal-clause-tree : goal.returns-in_err-refusal-clause-tree
-returns-in_err-refusal-clause-tree g c = second_failed _ _ _ _ _ _ _ _ c.from_residual.result c.from_residual.ensures.1 c.loop-i.invariant.tree c.in_err-refusal.ensures.tree
+returns-in_err-refusal-clause-tree g c = second_reading_failed _ _ _ _ _ _ _ _ _ c.from_residual.result c.from_residual.ensures.1 c.loop-i.invariant.tree c.in_err-refusal.ensures.tree
 
 pub returns-then-is_some-clause-tree : goal.returns-then-is_some-clause-tree
 returns-then-is_some-clause-tree g c = readings_two _ _ _ _ _ _ _ None _ c.loop-i.invariant.tree c.in_ok-refusal.ensures.tree

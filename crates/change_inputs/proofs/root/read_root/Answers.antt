@@ -1,17 +1,17 @@
 use Rattle.std.proofs.Common.{List, subst}
 use Rattle.base_core.specs.Read.{bytes_in}
 use Rattle.base_core.specs.Tree.{TreeState}
+use Rattle.base_core.proofs.ReadAfter.{both_readings, reading_off, second_reading_failed}
 use Rattle.root_names.specs.RootNames.{repositories_name, world_name}
-use Rattle.change_inputs.proofs.Reading.{both_read, reads_failed, second_failed}
 use Rattle.change_inputs.specs.Answers.{IsFileFoundInTree}
 use Rattle.change_inputs.proofs.root.read_root.Goals as goal
 
 pub returns-in_err-databases-clause-tree : goal.returns-in_err-databases-clause-tree
-returns-in_err-databases-clause-tree g c = reads_failed _ _ _ _ _ c.from_residual.result c.from_residual.ensures.1 c.in_err-databases.ensures.tree
+returns-in_err-databases-clause-tree g c = reading_off _ _ _ _ _ _ c.from_residual.result c.from_residual.ensures.1 c.in_err-databases.ensures.tree
 
 pub returns-in_err-lists-clause-tree : goal.returns-in_err-lists-clause-tree
 returns-in_err-lists-clause-tree g c =
-    second_failed _ _ _ _ _ _ _ _ c.from_residual-in_err-lists.result c.from_residual-in_err-lists.ensures.1 c.in_ok-databases.ensures.tree c.in_err-lists.ensures.tree
+    second_reading_failed _ _ _ _ _ _ _ _ _ c.from_residual-in_err-lists.result c.from_residual-in_err-lists.ensures.1 c.in_ok-databases.ensures.tree c.in_err-lists.ensures.tree
 
 pub returns-clause-found : goal.returns-clause-found
 returns-clause-found g c =
@@ -24,4 +24,4 @@ returns-clause-found g c =
     }
 
 pub returns-clause-tree : goal.returns-clause-tree
-returns-clause-tree g c = both_read _ _ _ _ _ _ _ _ _ c.in_ok-databases.ensures.tree c.in_ok-lists.ensures.tree
+returns-clause-tree g c = both_readings _ _ _ _ _ _ _ _ _ _ c.in_ok-databases.ensures.tree c.in_ok-lists.ensures.tree

@@ -3,6 +3,7 @@ use Rattle.journal_core.specs.Recovery.{intent_name, stage_name}
 use Rattle.base_core.specs.Tree.{CanRename}
 use Rattle.journal_core.proofs.History.{on_observable}
 use Rattle.journal_core.proofs.OneCall.{now_is}
+use Rattle.journal_core.proofs.Counted.{error_counted, if_failed, later_counted, one_counted}
 use Rattle.journal_core.proofs.Chain.{IsAny, any_now, proper_now, step_now}
 use Rattle.journal_core.proofs.Entered.{first_failed, first_done, rename_failed, rename_done, last_called, last_entered, last_acting, read_last, read_rename_failed, read_renamed, read_sync_failed, read_synced}
 use Rattle.journal_core.proofs.Lasting.{enter_last, enter_moved, enter_rename_failed, enter_renamed, enter_sync_failed, enter_synced}
@@ -112,3 +113,33 @@ returns-clause-reads g c =
 
 pub returns-clause-moved : goal.returns-clause-moved
 returns-clause-moved g c = enter_moved _ _ c.requires.place c.requires.name _ _ _ _ c.in_ok-rename.ensures.moves c.sync_all_names-2.result c.sync_all_names-2.ensures.moves
+
+pub returns-in_err-sync_all_names-clause-entered : goal.returns-in_err-sync_all_names-clause-entered
+returns-in_err-sync_all_names-clause-entered g c = on_observable (g.T.Tree.history c.args.tree.now) _ (λ v rest is ignored intent base made is_durable ready. if_failed c.from_residual.result _ _ c.from_residual.ensures.1)
+
+pub returns-in_err-sync_all_names-clause-acting : goal.returns-in_err-sync_all_names-clause-acting
+returns-in_err-sync_all_names-clause-acting g c = on_observable (g.T.Tree.history c.args.tree.now) _ (λ v rest is intent base made ready. if_failed c.from_residual.result _ _ c.from_residual.ensures.1)
+
+pub returns-in_err-sync_all_names-clause-moved : goal.returns-in_err-sync_all_names-clause-moved
+returns-in_err-sync_all_names-clause-moved g c = if_failed c.from_residual.result _ _ c.from_residual.ensures.1
+
+pub returns-in_err-rename-clause-entered : goal.returns-in_err-rename-clause-entered
+returns-in_err-rename-clause-entered g c = on_observable (g.T.Tree.history c.args.tree.now) _ (λ v rest is ignored intent base made is_durable ready. if_failed c.from_residual-in_err-rename.result _ _ c.from_residual-in_err-rename.ensures.1)
+
+pub returns-in_err-rename-clause-acting : goal.returns-in_err-rename-clause-acting
+returns-in_err-rename-clause-acting g c = on_observable (g.T.Tree.history c.args.tree.now) _ (λ v rest is intent base made ready. if_failed c.from_residual-in_err-rename.result _ _ c.from_residual-in_err-rename.ensures.1)
+
+pub returns-in_err-rename-clause-moved : goal.returns-in_err-rename-clause-moved
+returns-in_err-rename-clause-moved g c = if_failed c.from_residual-in_err-rename.result _ _ c.from_residual-in_err-rename.ensures.1
+
+pub returns-in_err-sync_all_names-clause-counts : goal.returns-in_err-sync_all_names-clause-counts
+returns-in_err-sync_all_names-clause-counts g c = error_counted _ _ _ c.from_residual.result _ c.from_residual.ensures.1 (one_counted _ _ _ _ _ c.in_err-sync_all_names.ensures.counts)
+
+pub returns-in_err-rename-clause-counts : goal.returns-in_err-rename-clause-counts
+returns-in_err-rename-clause-counts g c = error_counted _ _ _ c.from_residual-in_err-rename.result _ c.from_residual-in_err-rename.ensures.1 (later_counted _ _ _ _ _ (one_counted _ _ _ _ _ c.in_ok-sync_all_names.ensures.counts) (one_counted _ _ _ _ _ c.in_err-rename.ensures.counts))
+
+pub returns-clause-counts : goal.returns-clause-counts
+returns-clause-counts g c = later_counted _ _ _ _ c.sync_all_names-2.result (one_counted _ _ _ _ _ c.in_ok-sync_all_names.ensures.counts) (later_counted _ _ _ _ c.sync_all_names-2.result (one_counted _ _ _ _ _ c.in_ok-rename.ensures.counts) (one_counted _ _ _ _ c.sync_all_names-2.result c.sync_all_names-2.ensures.counts))
+
+pub returns-in_err-sync_all_names-clause-proper : goal.returns-in_err-sync_all_names-clause-proper
+returns-in_err-sync_all_names-clause-proper g c = on_observable (g.T.Tree.history c.args.tree.now) _ (λ v rest is may. proper_now IsAny _ _ _ _ (any_now _ v rest is) c.in_err-sync_all_names.ensures.counts (λ w q. tt))

@@ -1,7 +1,8 @@
-use Rattle.std.proofs.Common.{◌∙◌, ◌∷◌, [], refl, rules}
+use Rattle.std.proofs.Common.{◌∙◌, ◌∷◌, [], refl}
 use Rattle.journal_core.specs.Acting.{stage_with_actions_done, fully_staged_stage}
 use Rattle.journal_core.specs.Recovery.{intent_name, stage_name}
 use Rattle.journal_core.proofs.History.{on_observable, observable_at}
+use Rattle.journal_core.proofs.Counted.{error_counted, if_failed, later_counted}
 use Rattle.journal_core.proofs.Published.{few_writes, write_moments, write_reads, enter_moments, enter_reads, enter_settled, enter_published, enter_acting, write_may, enter_proper}
 use Rattle.base_core.specs.Tree.{CanCreate}
 use Rattle.journal_core.proofs.Lasting.{published_last, written_last}
@@ -14,8 +15,8 @@ returns-in_err-write_waiting-clause-publishing g c = record {
   moments =
       on_observable (g.T.Tree.history c.args.tree.now) _ (λ v rest is ignored contents base is_durable staged.
       write_moments (fully_staged_stage c.args.intent.now) contents base v staged refl (few_writes _ _ c.names_are_free.ensures.few) c.names_are_free.ensures.free _ c.file.ensures _ c.stage_name.ensures _ rest _ (g.T.Tree.history c.args.tree.now) is ignored is_durable c.write_waiting.ensures.moments);
-  published = search rules;
-  settled = search rules;
+  published = on_observable (g.T.Tree.history c.args.tree.now) _ (λ v rest is ignored contents base is_durable staged. if_failed c.from_residual.result _ _ c.from_residual.ensures.1);
+  settled = on_observable (g.T.Tree.history c.args.tree.now) _ (λ v rest is ignored contents base is_durable staged. if_failed c.from_residual.result _ _ c.from_residual.ensures.1);
   reads =
       on_observable (g.T.Tree.history c.args.tree.now) _ (λ v rest is contents base staged.
       write_reads (fully_staged_stage c.args.intent.now) contents base v staged refl (few_writes _ _ c.names_are_free.ensures.few) c.names_are_free.ensures.free _ c.file.ensures _ c.stage_name.ensures _ rest _ (g.T.Tree.history c.args.tree.now) is c.write_waiting.ensures.unread);
@@ -24,7 +25,7 @@ returns-in_err-write_waiting-clause-publishing g c = record {
     others = free_written _ c.stage_name.ensures (g.T.Tree.history c.args.tree.now) _ c.write_waiting.ensures.others;
     maps = maps_written _ _ c.write_waiting.ensures.maps;
   };
-  only_intent = search rules;
+  only_intent = on_observable (g.T.Tree.history c.args.tree.now) _ (λ v rest is. if_failed c.from_residual.result _ _ c.from_residual.ensures.1);
 }
 
 pub returns-clause-publishing : goal.returns-clause-publishing
@@ -66,3 +67,21 @@ returns-clause-proper g c =
     on_observable (g.T.Tree.history c.args.tree.now) _ (λ v rest is contents base staged room.
     enter_proper (fully_staged_stage c.args.intent.now) contents base v staged refl (few_writes _ _ c.names_are_free.ensures.few) c.names_are_free.ensures.free _ c.file.ensures _ c.stage_name.ensures _ rest _ (g.T.Tree.history c.args.tree.now) is room _ _ c.stage_name-2.ensures c.name.ensures _ _ c.in_ok-write_waiting.ensures.written c.enter.ensures.proper
     ∙ observable_at _ v rest is (λ u. CanCreate c.stage_name.result.now u → _) c.write_waiting.ensures.proper (write_may (fully_staged_stage c.args.intent.now) contents base v staged refl (few_writes _ _ c.names_are_free.ensures.few) c.names_are_free.ensures.free _ c.file.ensures _ c.stage_name.ensures _ rest (g.T.Tree.history c.args.tree.now) (g.T.Tree.history c.args.tree.now) is room))
+
+pub returns-in_err-write_waiting-clause-acting : goal.returns-in_err-write_waiting-clause-acting
+returns-in_err-write_waiting-clause-acting g c = on_observable (g.T.Tree.history c.args.tree.now) _ (λ v rest is contents base staged. if_failed c.from_residual.result _ _ c.from_residual.ensures.1)
+
+pub returns-in_err-write_waiting-clause-counts : goal.returns-in_err-write_waiting-clause-counts
+returns-in_err-write_waiting-clause-counts g c = error_counted _ _ _ c.from_residual.result _ c.from_residual.ensures.1 c.in_err-write_waiting.ensures.counts
+
+pub returns-clause-counts : goal.returns-clause-counts
+returns-clause-counts g c = later_counted _ _ _ _ c.enter.result c.in_ok-write_waiting.ensures.counts c.enter.ensures.counts
+
+pub write_waiting-requires : goal.write_waiting-requires
+write_waiting-requires g c = c.stage_name.ensures
+
+pub enter-requires-clause-place : goal.enter-requires-clause-place
+enter-requires-clause-place g c = c.stage_name-2.ensures
+
+pub enter-requires-clause-name : goal.enter-requires-clause-name
+enter-requires-clause-name g c = c.name.ensures

@@ -1,4 +1,4 @@
-use Rattle.std.proofs.Common.{◌≡◌, ◌∙◌, subst, sym}
+use Rattle.std.proofs.Common.{◌≡◌, ◌∙◌, refl, subst, sym}
 use Rattle.std.specs.Prelude.{Some}
 use Rattle.dep_core.specs.Meets.{dependency}
 use Rattle.search_choices.specs.candidate_core.Candidates.{Candidate}
@@ -16,3 +16,21 @@ add_dependency-requires c =
     let same : pool ≡ c.loop-i.known = c.pool-pool.ensures ∙ sym c.loop-i.invariant in
     subst (λ (p : SelectionProblem). IsIn (dependency c.get.result) (depends_at p c.args.id)) same
     (depends_of pool c.args.id details here c.depends-depends.result _ (dependency c.get.result) c.depends-depends.ensures c.get.ensures)
+
+pub returns-in_default : goal.returns-in_default
+returns-in_default c = refl
+
+pub loop-i-init : goal.loop-i-init
+loop-i-init c = refl
+
+pub returns-in_err-add_dependency : goal.returns-in_err-add_dependency
+returns-in_err-add_dependency c = c.add_dependency.ensures ∙ c.loop-i.invariant
+
+pub loop-i-preserved : goal.loop-i-preserved
+loop-i-preserved c = c.add_dependency.ensures ∙ c.loop-i.invariant
+
+pub returns-in_err-add_exclusions : goal.returns-in_err-add_exclusions
+returns-in_err-add_exclusions c = c.add_exclusions.ensures ∙ c.loop-i.invariant
+
+pub returns : goal.returns
+returns c = c.add_provided.ensures ∙ (c.add_exclusions.ensures ∙ c.loop-i.invariant)

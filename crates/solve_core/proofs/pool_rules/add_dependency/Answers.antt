@@ -5,6 +5,7 @@ use Rattle.search_choices.specs.candidate_core.Candidates.{entry}
 use Rattle.search_choices.specs.candidate_core.Options.{IsIn}
 use Rattle.search_choices.specs.candidate_core.Rank.{SelectionProblem}
 use Rattle.search_choices.specs.search_tables.Selection.{needs}
+use Rattle.solve_core.specs.Clauses.{IsClause}
 use Rattle.solve_core.proofs.PoolRules.{choice_raises}
 use Rattle.solve_core.proofs.pool_rules.add_dependency.Goals as goal
 
@@ -12,3 +13,12 @@ pub need_clause-requires : goal.need_clause-requires
 need_clause-requires c =
     subst (λ (p : SelectionProblem). IsIn (entry (dependency c.args.dep.now)) (needs p (option_to_list (Some c.args.id)))) (sym c.pool-pool.ensures)
     (choice_raises c.args.known.now c.args.id (dependency c.args.dep.now) c.requires c.if-dep.false)
+
+pub returns-then-dep : goal.returns-then-dep
+returns-then-dep c = c.add_exclusions.ensures
+
+pub add_need-requires : goal.add_need-requires
+add_need-requires c = subst (λ (p : SelectionProblem). IsClause p c.in_ok-clause.clause) c.pool-pool.ensures c.in_ok-clause.ensures
+
+pub returns : goal.returns
+returns c = c.add_need.ensures

@@ -40,3 +40,12 @@ returns c =
     let end = none_of c.loop-next.next _ _ c.in_default.not-Some c.loop-next.invariant.frame in
     subst (λ (z : List ℕ). IsFirstPreferredSelection pool z) (sym c.in_ok-trace.ensures)
     (first_found pool (λ need. c.options_are_as_promised.ensures pool need) c.loop-next.search.chosen c.loop-next.search.turns.items c.loop-next.invariant.underway.chosen c.loop-next.invariant.pool end)
+
+pub next_frame-requires : goal.next_frame-requires
+next_frame-requires c = c.requires
+
+pub choose_next-requires-clause-underway : goal.choose_next-requires-clause-underway
+choose_next-requires-clause-underway c = c.loop-next.invariant.underway
+
+pub next_frame-requires-in-Some : goal.next_frame-requires-in-Some
+next_frame-requires-in-Some c = c.in_ok-choose_next.ensures.underway c.if-not-branch.false

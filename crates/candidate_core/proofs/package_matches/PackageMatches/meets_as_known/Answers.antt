@@ -15,3 +15,9 @@ returns-clause-matches c =
     let d : Dependency = dependency c.args.dep.now in
     matches_inserted text c.take_known-known.new.by_version c.insert.new.self (c.args.version.source, c.args.version.word, c.bits.result) (c.take_known-known.ensures.others text c.requires.matches)
     c.meets_dependency_or_has_package_name.new.known d c.in_ok-insert.ensures.updates.0 c.requires.named (sym c.bits.ensures.bits) c.in_ok-meets.ensures.known
+
+pub meets_dependency_or_has_package_name-requires-clause-within : goal.meets_dependency_or_has_package_name-requires-clause-within
+meets_dependency_or_has_package_name-requires-clause-within c = c.requires.within
+
+pub returns-clause-meets : goal.returns-clause-meets
+returns-clause-meets c = c.in_ok-meets.ensures.meets

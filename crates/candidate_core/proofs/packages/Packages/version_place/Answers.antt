@@ -1,31 +1,33 @@
-use Rattle.std.proofs.Common.{◌≡◌, ◌∙◌, ◌<◌, ℕ, List, length, ap, sym, subst, arith}
-use Rattle.std.specs.Prelude.{Option, Some, option_copied, slice_get}
-use Rattle.dep_core.specs.Dependency.{Dependency}
+use Rattle.std.proofs.Common.{◌<◌, ℕ, subst}
+use Rattle.std.specs.Prelude.{Some}
 use Rattle.dep_core.specs.Meets.{dependency}
-use Rattle.candidate_core.specs.Candidates.{Candidate, candidate_of}
-use Rattle.candidate_core.specs.PackageWords.{info_in_source}
-use Rattle.candidate_core.specs.Packages.{candidate_among, candidate_in_source, candidates_of_packages}
-use Rattle.candidate_core.specs.VersionTexts.{source_text, text_in_source}
+use Rattle.candidate_core.specs.Packages.{candidate_in_source}
+use Rattle.candidate_core.specs.VersionTexts.{source_text}
 use Rattle.candidate_core.specs.declared.packages.PackageWord.{PackageWord}
 use Rattle.candidate_core.specs.declared.packages.Source.{Source}
-use Rattle.candidate_core.proofs.PackageLists.{get_mapped}
-use Rattle.candidate_core.proofs.Steps.{get_at}
+use Rattle.candidate_core.proofs.StoredPackages.{candidate_there, source_within, texts_of_source, word_of_source}
 use Rattle.candidate_core.proofs.packages.Packages.version_place.Goals as goal
+
+pub index-package-requires : goal.index-package-requires
+index-package-requires c = subst (λ (n : ℕ). c.args.held.now.package < n) c.len.ensures c.if-held-len.false
+
+pub index-requires : goal.index-requires
+index-requires c =
+    let k : ℕ = c.args.held.now.package in
+    source_within c.args.self.now k c.index-package.result.now (subst (λ (n : ℕ). k < n) c.len.ensures c.if-held-len.false) c.index-package.ensures
+
+pub depends_version_place-requires : goal.depends_version_place-requires
+depends_version_place-requires c =
+    let k : ℕ = c.args.held.now.package in
+    word_of_source c.args.self.now k c.index-package.result.now (subst (λ (n : ℕ). k < n) c.len.ensures c.if-held-len.false) c.index-package.ensures c.index.result.now c.index.ensures
 
 pub returns : goal.returns
 returns c =
     let own = c.args.self.now in
-    let sources : List Source = own.sources.items in
-    let words : List PackageWord = own.words.items in
+    let k : ℕ = c.args.held.now.package in
     let kept : PackageWord = c.index-package.result.now in
     let source : Source = c.index.result.now in
-    let k : ℕ = c.args.held.now.package in
-    let d : Dependency = dependency c.args.held.now.dep.now in
-    let within : k < length words = omega arith in
-    let there : kept.source < length sources = subst (λ (w : PackageWord). w.source < length sources) (sym c.index-package.ensures) (own.sound k kept within).within in
-    let source_at : slice_get sources kept.source ≡ Some source = get_at sources kept.source source there ∙ ap Some (sym c.index.ensures) in
-    let one : Candidate = candidate_of (info_in_source source kept.word) source.repo (option_copied source.tag) kept.installed in
-    let here : slice_get (candidates_of_packages own) k ≡ Some one =
-    get_mapped (candidate_among sources) words k kept (get_at words k kept within ∙ ap Some (sym c.index-package.ensures))
-    ∙ ap (λ (o : Option Source). Some (candidate_in_source o kept.word kept.installed)) source_at in
-    c.depends_version_place.ensures (source_text sources) d (λ word. ap (λ (o : Option Source). text_in_source o word) source_at) (c.requires one here)
+    let within = subst (λ (n : ℕ). k < n) c.len.ensures c.if-held-len.false in
+    c.depends_version_place.ensures (source_text own.sources.items) (dependency c.args.held.now.dep.now)
+    (texts_of_source own k kept within c.index-package.ensures source c.index.ensures)
+    (c.requires (candidate_in_source (Some source) kept.word kept.installed) (candidate_there own k kept within c.index-package.ensures source c.index.ensures))

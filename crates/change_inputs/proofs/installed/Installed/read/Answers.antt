@@ -1,11 +1,12 @@
 use Rattle.std.proofs.Common.{Err, ap, subst, sym, ◌∙◌}
 use Rattle.base_core.specs.Read.{bytes_in}
+use Rattle.base_core.proofs.ReadAfter.{reading_as, reading_off}
 use Rattle.command_core.specs.declared.command.Flags.{Flags}
 use Rattle.change_inputs.proofs.Explained.{database_failed, database_given, database_refused}
 use Rattle.change_inputs.specs.Answers.{Agrees}
 use Rattle.change_inputs.specs.Database.{root_database}
 use Rattle.change_inputs.specs.Seen.{database_seen, installed_seen}
-use Rattle.change_inputs.proofs.Reading.{no_disk, reads_failed, reads_on, reads_then_fault}
+use Rattle.change_inputs.proofs.Reading.{no_disk, reads_then_fault}
 use Rattle.change_inputs.proofs.installed.Installed.read.Goals as goal
 
 pub returns-in_err-found-clause-found : goal.returns-in_err-found-clause-found
@@ -27,11 +28,11 @@ returns-clause-found g c =
     (ap (λ (flags : Flags). root_database flags.initdb file text) (sym c.flags-may_begin.ensures.value) ∙ c.in_ok-database.ensures)
 
 pub returns-in_err-found-clause-tree : goal.returns-in_err-found-clause-tree
-returns-in_err-found-clause-tree g c = reads_failed _ _ _ _ _ c.from_residual.result c.from_residual.ensures.1 c.in_err-found.ensures.tree
+returns-in_err-found-clause-tree g c = reading_off _ _ _ _ _ _ c.from_residual.result c.from_residual.ensures.1 c.in_err-found.ensures.tree
 
 pub returns-in_err-database-clause-tree : goal.returns-in_err-database-clause-tree
 returns-in_err-database-clause-tree g c =
     reads_then_fault _ _ _ _ _ c.in_err-database.field-0.0 c.from_residual-in_err-database.result (no_disk database_seen _ c.in_err-database.field-0.0 c.in_err-database.ensures) c.from_residual-in_err-database.ensures.1 c.in_ok-found.ensures.tree
 
 pub returns-clause-tree : goal.returns-clause-tree
-returns-clause-tree g c = reads_on _ _ _ _ _ _ c.in_ok-found.ensures.tree
+returns-clause-tree g c = reading_as _ _ _ _ _ _ _ c.in_ok-found.ensures.tree

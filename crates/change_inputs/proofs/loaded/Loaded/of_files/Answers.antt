@@ -5,7 +5,8 @@ use Rattle.change_inputs.proofs.Explained.{explained_good, explained_indexes, ex
 use Rattle.change_inputs.specs.IndexFiles.{bytes_of_each}
 use Rattle.change_inputs.specs.Seen.{indexes_seen, inputs_seen, root_seen}
 use Rattle.base_core.proofs.Counting.{readings_none}
-use Rattle.change_inputs.proofs.Reading.{no_disk, reads_failed, reads_on, reads_then_fault}
+use Rattle.base_core.proofs.ReadAfter.{reading_as, reading_off}
+use Rattle.change_inputs.proofs.Reading.{no_disk, reads_then_fault}
 use Rattle.change_inputs.specs.declared.root.Refused.TheVariants.{Disk}
 use Rattle.change_inputs.proofs.loaded.Loaded.of_files.Goals as goal
 
@@ -34,11 +35,11 @@ returns-in_err-root-clause-tree g c =
     reads_then_fault {A = ℕ} _ _ _ _ 0 c.in_err-root.field-0.0 c.from_residual.result (no_disk root_seen _ c.in_err-root.field-0.0 c.in_err-root.ensures) c.from_residual.ensures.1 (readings_none Disk _ _ 0)
 
 pub returns-in_err-found-clause-tree : goal.returns-in_err-found-clause-tree
-returns-in_err-found-clause-tree g c = reads_failed _ _ _ _ _ c.from_residual-in_err-found.result c.from_residual-in_err-found.ensures.1 c.in_err-found.ensures.tree
+returns-in_err-found-clause-tree g c = reading_off _ _ _ _ _ _ c.from_residual-in_err-found.result c.from_residual-in_err-found.ensures.1 c.in_err-found.ensures.tree
 
 pub returns-in_err-indexes-clause-tree : goal.returns-in_err-indexes-clause-tree
 returns-in_err-indexes-clause-tree g c =
     reads_then_fault _ _ _ _ _ c.in_err-indexes.field-0.0 c.from_residual-in_err-indexes.result (no_disk indexes_seen _ c.in_err-indexes.field-0.0 c.in_err-indexes.ensures.answer) c.from_residual-in_err-indexes.ensures.1 c.in_ok-found.ensures.tree
 
 pub returns-clause-tree : goal.returns-clause-tree
-returns-clause-tree g c = reads_on _ _ _ _ _ _ c.in_ok-found.ensures.tree
+returns-clause-tree g c = reading_as _ _ _ _ _ _ _ c.in_ok-found.ensures.tree

@@ -1,6 +1,8 @@
-use Rattle.std.proofs.Common.{◌≡◌, ◌+◌, ◌∷◌, [], ap}
+use Rattle.std.proofs.Common.{◌≡◌, ◌+◌, ◌<◌, ◌∷◌, [], true, ap, length, refl, subst, sym}
 use Rattle.journal_core.specs.Recovery.{stage_name}
 use Rattle.journal_core.specs.Staged.{Staging}
+use Rattle.journal_core.proofs.Counted.{done_counted, error_counted, if_failed, later_counted, on_error, one_counted}
+use Rattle.journal_core.proofs.History.{on_observable}
 use Rattle.journal_core.proofs.Filed.{begin_moments, begin_staged, begin_proper, both_moments, both_others, both_proper, both_staged, first_only, first_only_proper, first_others}
 use Rattle.journal_core.proofs.Keeping.{create_keeps}
 use Rattle.journal_core.proofs.Maps.{create_maps, maps_at, maps_more, maps_on}
@@ -63,3 +65,39 @@ pub returns-clause-proper : goal.returns-clause-proper
 returns-clause-proper g c =
     both_proper c.args.self.now _ _ (g.T.Tree.history c.args.tree.now) _ _ _ c.sync_before_first.ensures.proper c.in_ok-sync_before_first.ensures.staged
     (begin_proper crash_laws _ (g.T.Tree.history c.args.tree.now) _ _ c.next_name.ensures _ _ _ c.in_ok-create.ensures.counts)
+
+pub returns-in_err-sync_before_first-clause-staged : goal.returns-in_err-sync_before_first-clause-staged
+returns-in_err-sync_before_first-clause-staged g c = on_observable (g.T.Tree.history c.args.tree.now) _ (λ v rest is contents base staged. if_failed c.from_residual.result _ _ c.from_residual.ensures.1)
+
+pub returns-in_err-sync_before_first-clause-view : goal.returns-in_err-sync_before_first-clause-view
+returns-in_err-sync_before_first-clause-view g c = if_failed c.from_residual.result _ _ c.from_residual.ensures.1
+
+pub returns-in_err-sync_before_first-clause-err : goal.returns-in_err-sync_before_first-clause-err
+returns-in_err-sync_before_first-clause-err g c = on_error c.from_residual.result _ refl
+
+pub returns-in_err-create-clause-staged : goal.returns-in_err-create-clause-staged
+returns-in_err-create-clause-staged g c = on_observable (g.T.Tree.history c.args.tree.now) _ (λ v rest is contents base staged. if_failed c.from_residual-in_err-create.result _ _ c.from_residual-in_err-create.ensures.1)
+
+pub returns-in_err-create-clause-view : goal.returns-in_err-create-clause-view
+returns-in_err-create-clause-view g c = if_failed c.from_residual-in_err-create.result _ _ c.from_residual-in_err-create.ensures.1
+
+pub returns-in_err-create-clause-err : goal.returns-in_err-create-clause-err
+returns-in_err-create-clause-err g c = on_error c.from_residual-in_err-create.result _ refl
+
+pub returns-in_err-sync_before_first-clause-counts : goal.returns-in_err-sync_before_first-clause-counts
+returns-in_err-sync_before_first-clause-counts g c = error_counted _ _ _ c.from_residual.result _ c.from_residual.ensures.1 c.in_err-sync_before_first.ensures.counts
+
+pub returns-in_err-create-clause-counts : goal.returns-in_err-create-clause-counts
+returns-in_err-create-clause-counts g c = error_counted _ _ _ c.from_residual-in_err-create.result _ c.from_residual-in_err-create.ensures.1 (later_counted _ _ _ _ _ c.in_ok-sync_before_first.ensures.counts (one_counted _ _ _ _ _ c.in_err-create.ensures.counts))
+
+pub next_name-requires : goal.next_name-requires
+next_name-requires g c = c.requires.more
+
+pub invariant_of-self : goal.invariant_of-self
+invariant_of-self g c = λ begun. subst (λ (s : Staging). s.staged < length s.intent.writes) (sym c.self.view_is) c.requires.more
+
+pub returns-clause-view : goal.returns-clause-view
+returns-clause-view g c = ap (λ (s : Staging). record s { is_open = true }) c.self.view_is
+
+pub returns-clause-counts : goal.returns-clause-counts
+returns-clause-counts g c = done_counted _ _ _ _ (later_counted _ _ _ _ _ c.in_ok-sync_before_first.ensures.counts (one_counted _ _ _ _ _ c.in_ok-create.ensures.counts))

@@ -61,3 +61,33 @@ loop-top-preserved c =
       open_now = found.1;
       lighter = omega (arith, less, c.loop-top.invariant.lighter);
     }
+
+pub take_option-requires-clause-underway : goal.take_option-requires-clause-underway
+take_option-requires-clause-underway c = c.loop-top.invariant.underway
+
+pub take_option-requires-clause-open_now : goal.take_option-requires-clause-open_now
+take_option-requires-clause-open_now c = c.loop-top.invariant.open_now
+
+pub choose-requires-clause-underway : goal.choose-requires-clause-underway
+choose-requires-clause-underway c = c.in_ok-id.ensures.underway
+
+pub step_back-requires-clause-underway : goal.step_back-requires-clause-underway
+step_back-requires-clause-underway c = c.in_ok-id.ensures.underway
+
+pub returns-in_err-id-clause-pool : goal.returns-in_err-id-clause-pool
+returns-in_err-id-clause-pool c = ap pool_of c.take_option.ensures.chosen ∙ c.loop-top.invariant.pool
+
+pub returns-in_err-choose-in-Some-clause-pool : goal.returns-in_err-choose-in-Some-clause-pool
+returns-in_err-choose-in-Some-clause-pool c = c.choose.ensures.pool ∙ (ap pool_of c.take_option.ensures.chosen ∙ c.loop-top.invariant.pool)
+
+pub returns-in-Some-clause-pool : goal.returns-in-Some-clause-pool
+returns-in-Some-clause-pool c = c.choose.ensures.pool ∙ (ap pool_of c.take_option.ensures.chosen ∙ c.loop-top.invariant.pool)
+
+pub returns-in-Some-clause-underway : goal.returns-in-Some-clause-underway
+returns-in-Some-clause-underway c = λ _. c.in_ok-choose-in-Some.ensures.underway
+
+pub returns-in_err-frame-in-None-clause-pool : goal.returns-in_err-frame-in-None-clause-pool
+returns-in_err-frame-in-None-clause-pool c = c.step_back.ensures.pool ∙ (ap pool_of c.take_option.ensures.chosen ∙ c.loop-top.invariant.pool)
+
+pub returns-in_default-clause-pool : goal.returns-in_default-clause-pool
+returns-in_default-clause-pool c = c.step_back.ensures.pool ∙ (ap pool_of c.take_option.ensures.chosen ∙ c.loop-top.invariant.pool)

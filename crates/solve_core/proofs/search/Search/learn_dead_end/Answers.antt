@@ -1,4 +1,4 @@
-use Rattle.std.proofs.Common.{◌∙◌, ℕ, List, subst, sym}
+use Rattle.std.proofs.Common.{◌∙◌, ℕ, List, refl, subst, sym}
 use Rattle.search_choices.specs.candidate_core.Rank.{SelectionProblem}
 use Rattle.search_choices.specs.Choices.{choices_of, pool_of}
 use Rattle.search_choices.specs.search_tables.Reasons.{IsReason, dead_end_reason}
@@ -26,3 +26,27 @@ returns-clause-dead c =
       within = λ k h. both.0 k (c.in_ok-store_reason.ensures.0 k h);
       dead = dead_same pool (dead_end_reason c.args.spent.now) _ c.in_ok-store_reason.ensures both.1;
     }
+
+pub returns-in_err-store_reason-clause-chosen : goal.returns-in_err-store_reason-clause-chosen
+returns-in_err-store_reason-clause-chosen c = refl
+
+pub returns-in_err-store_reason-clause-turns : goal.returns-in_err-store_reason-clause-turns
+returns-in_err-store_reason-clause-turns c = refl
+
+pub returns-in_err-learnt-clause-chosen : goal.returns-in_err-learnt-clause-chosen
+returns-in_err-learnt-clause-chosen c = refl
+
+pub returns-in_err-learnt-clause-turns : goal.returns-in_err-learnt-clause-turns
+returns-in_err-learnt-clause-turns c = refl
+
+pub returns-in_err-learn-clause-chosen : goal.returns-in_err-learn-clause-chosen
+returns-in_err-learn-clause-chosen c = refl
+
+pub returns-in_err-learn-clause-turns : goal.returns-in_err-learn-clause-turns
+returns-in_err-learn-clause-turns c = refl
+
+pub returns-clause-chosen : goal.returns-clause-chosen
+returns-clause-chosen c = refl
+
+pub returns-clause-turns : goal.returns-clause-turns
+returns-clause-turns c = refl

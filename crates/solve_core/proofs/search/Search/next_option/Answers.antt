@@ -64,3 +64,30 @@ returns-in-None-clause-chosen c = c.reason_against.ensures.chosen ∙ c.loop-id.
 
 pub returns-in-None-clause-turns : goal.returns-in-None-clause-turns
 returns-in-None-clause-turns c = c.reason_against.ensures.turns ∙ c.loop-id.invariant.turns
+
+pub reason_against-requires-clause-underway : goal.reason_against-requires-clause-underway
+reason_against-requires-clause-underway c = c.loop-id.invariant.underway
+
+pub returns-in_err-reason_against-clause-chosen : goal.returns-in_err-reason_against-clause-chosen
+returns-in_err-reason_against-clause-chosen c = c.reason_against.ensures.chosen ∙ c.loop-id.invariant.chosen
+
+pub returns-in_err-reason_against-clause-turns : goal.returns-in_err-reason_against-clause-turns
+returns-in_err-reason_against-clause-turns c = c.reason_against.ensures.turns ∙ c.loop-id.invariant.turns
+
+pub returns-in_err-rule_out-in-Some-2-clause-chosen : goal.returns-in_err-rule_out-in-Some-2-clause-chosen
+returns-in_err-rule_out-in-Some-2-clause-chosen c = c.reason_against.ensures.chosen ∙ c.loop-id.invariant.chosen
+
+pub returns-in_err-rule_out-in-Some-2-clause-turns : goal.returns-in_err-rule_out-in-Some-2-clause-turns
+returns-in_err-rule_out-in-Some-2-clause-turns c = c.reason_against.ensures.turns ∙ c.loop-id.invariant.turns
+
+pub returns-in-None-clause-underway : goal.returns-in-None-clause-underway
+returns-in-None-clause-underway c = c.in_ok-reason_against.ensures.underway
+
+pub returns-clause-underway : goal.returns-clause-underway
+returns-clause-underway c = c.loop-id.invariant.underway
+
+pub returns-clause-chosen : goal.returns-clause-chosen
+returns-clause-chosen c = c.loop-id.invariant.chosen
+
+pub returns-clause-turns : goal.returns-clause-turns
+returns-clause-turns c = c.loop-id.invariant.turns

@@ -75,3 +75,12 @@ returns-clause-found c =
     subst (λ (p : SelectionProblem). IsReason p []) c.loop-turn.invariant.pool
     (dead_empty (pool_of c.loop-turn.self.chosen) c.loop-turn.self.reason (choices_of c.loop-turn.self.chosen) c.loop-turn.invariant.dead.within
     (c.loop-turn.invariant.underway.chosen.choices ∙ no_choices c.loop-turn.self.turns.items (empty_list c.loop-turn.self.turns.items (omega (arith, c.in_default.ensures.cases.0, c.loop-turn.self.turns.ok)))) c.loop-turn.invariant.dead.dead)
+
+pub returns-in_err-frame-clause-pool : goal.returns-in_err-frame-clause-pool
+returns-in_err-frame-clause-pool c = c.pop-in-Some.ensures.pool ∙ c.loop-turn.invariant.pool
+
+pub returns-then-has-clause-pool : goal.returns-then-has-clause-pool
+returns-then-has-clause-pool c = c.pop-in-Some.ensures.pool ∙ c.loop-turn.invariant.pool
+
+pub returns-clause-pool : goal.returns-clause-pool
+returns-clause-pool c = c.loop-turn.invariant.pool

@@ -23,3 +23,60 @@ learn_dead_end-requires-clause-spent c =
 pub returns-clause-found : goal.returns-clause-found
 returns-clause-found c =
     subst (λ (z : Choices). IsDeadEnd z c.learn_dead_end.new.self.reason) (c.next_option.ensures.chosen ∙ c.is_dead_ahead.ensures.chosen) c.in_ok-learn_dead_end.ensures.dead
+
+pub is_dead_ahead-requires : goal.is_dead_ahead-requires
+is_dead_ahead-requires c = c.requires.underway
+
+pub returns-in_err-is_dead_ahead-clause-chosen : goal.returns-in_err-is_dead_ahead-clause-chosen
+returns-in_err-is_dead_ahead-clause-chosen c = c.is_dead_ahead.ensures.chosen
+
+pub returns-in_err-is_dead_ahead-clause-turns : goal.returns-in_err-is_dead_ahead-clause-turns
+returns-in_err-is_dead_ahead-clause-turns c = c.is_dead_ahead.ensures.turns
+
+pub returns-then-branch-clause-chosen : goal.returns-then-branch-clause-chosen
+returns-then-branch-clause-chosen c = c.is_dead_ahead.ensures.chosen
+
+pub returns-then-branch-clause-turns : goal.returns-then-branch-clause-turns
+returns-then-branch-clause-turns c = c.is_dead_ahead.ensures.turns
+
+pub returns-in_err-id-clause-chosen : goal.returns-in_err-id-clause-chosen
+returns-in_err-id-clause-chosen c = c.next_option.ensures.chosen ∙ c.is_dead_ahead.ensures.chosen
+
+pub returns-in_err-id-clause-turns : goal.returns-in_err-id-clause-turns
+returns-in_err-id-clause-turns c = c.next_option.ensures.turns ∙ c.is_dead_ahead.ensures.turns
+
+pub returns-in-Some-clause-chosen : goal.returns-in-Some-clause-chosen
+returns-in-Some-clause-chosen c = c.next_option.ensures.chosen ∙ c.is_dead_ahead.ensures.chosen
+
+pub returns-in-Some-clause-turns : goal.returns-in-Some-clause-turns
+returns-in-Some-clause-turns c = c.next_option.ensures.turns ∙ c.is_dead_ahead.ensures.turns
+
+pub returns-in_err-learn_dead_end-clause-chosen : goal.returns-in_err-learn_dead_end-clause-chosen
+returns-in_err-learn_dead_end-clause-chosen c = c.learn_dead_end.ensures.chosen ∙ (c.next_option.ensures.chosen ∙ c.is_dead_ahead.ensures.chosen)
+
+pub returns-in_err-learn_dead_end-clause-turns : goal.returns-in_err-learn_dead_end-clause-turns
+returns-in_err-learn_dead_end-clause-turns c = c.learn_dead_end.ensures.turns ∙ (c.next_option.ensures.turns ∙ c.is_dead_ahead.ensures.turns)
+
+pub returns-clause-chosen : goal.returns-clause-chosen
+returns-clause-chosen c = c.learn_dead_end.ensures.chosen ∙ (c.next_option.ensures.chosen ∙ c.is_dead_ahead.ensures.chosen)
+
+pub returns-clause-turns : goal.returns-clause-turns
+returns-clause-turns c = c.learn_dead_end.ensures.turns ∙ (c.next_option.ensures.turns ∙ c.is_dead_ahead.ensures.turns)
+
+pub returns-then-branch-clause-underway : goal.returns-then-branch-clause-underway
+returns-then-branch-clause-underway c = c.in_ok-is_dead_ahead.ensures.underway
+
+pub returns-then-branch-clause-found : goal.returns-then-branch-clause-found
+returns-then-branch-clause-found c = c.in_ok-is_dead_ahead.ensures.dead c.if-branch.true
+
+pub next_option-requires-clause-underway : goal.next_option-requires-clause-underway
+next_option-requires-clause-underway c = c.in_ok-is_dead_ahead.ensures.underway
+
+pub returns-in-Some-clause-underway : goal.returns-in-Some-clause-underway
+returns-in-Some-clause-underway c = c.in_ok-id.ensures.underway
+
+pub learn_dead_end-requires-clause-underway : goal.learn_dead_end-requires-clause-underway
+learn_dead_end-requires-clause-underway c = c.in_ok-id.ensures.underway
+
+pub returns-clause-underway : goal.returns-clause-underway
+returns-clause-underway c = c.in_ok-learn_dead_end.ensures.underway
