@@ -1,16 +1,14 @@
 //! The answer to a question, to which a test program adds bytes and words.
+use crate::bytes::Bytes;
 use std::alloc::{AllocError, Global};
 
-/// The answer to a question, as a text. If memory runs out, the answer takes no more bytes, and
-/// `finish` fails. So adding to an answer returns nothing.
+/// The answer to a question, as a text. Adding to an answer returns nothing, as with `Bytes`.
 #[derive(Drop)]
 pub struct Answer {
     /// The allocator of the text.
     alloc: Global,
     /// The text so far.
-    text: Vec<u8>,
-    /// Whether there was memory for all that was added.
-    outcome: Result<(), AllocError>,
+    text: Bytes,
 }
 
 impl Answer {
@@ -18,8 +16,7 @@ impl Answer {
     pub(crate) fn new(alloc: Global) -> Answer {
         Answer {
             alloc,
-            text: Vec::new(alloc),
-            outcome: Ok(()),
+            text: Bytes::new(alloc),
         }
     }
 
@@ -29,20 +26,17 @@ impl Answer {
     ///
     /// `AllocError` if memory ran out while the answer was made.
     pub(crate) fn finish(self) -> Result<Vec<u8>, AllocError> {
-        self.outcome?;
-        Ok(self.text)
+        self.text.finish()
     }
 
     /// Adds bytes.
     pub fn push(&mut self, bytes: &[u8]) {
-        if self.outcome.is_ok() {
-            self.outcome = self.text.extend_from_slice(bytes);
-        }
+        self.text.push(bytes)
     }
 
     /// Adds a word, and a space before the word if the answer is not empty.
     pub fn add_word(&mut self, word: &[u8]) {
-        if !self.text.is_empty() {
+        if !self.text.as_slice().is_empty() {
             self.push(b" ");
         }
         self.push(word)
@@ -68,9 +62,6 @@ impl Answer {
 
     /// Adds a text that was formatted, if there was memory for it.
     pub fn add_text(&mut self, text: Result<String, AllocError>) {
-        match text {
-            Ok(text) => self.push(text.as_bytes()),
-            Err(fault) => self.outcome = Err(fault),
-        }
+        self.text.push_text(text)
     }
 }

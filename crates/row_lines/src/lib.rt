@@ -6,10 +6,12 @@
 #![tactic(auto)]
 
 mod answer;
+mod bytes;
 mod reading;
 
 pub use answer::Answer;
 use base_core::Words;
+pub use bytes::Bytes;
 pub use reading::{number_of, value_named, word_at, words_behind};
 use reading::{bytes_of, words_of};
 use std::alloc::{AllocError, Global};
@@ -38,9 +40,9 @@ pub fn run_program<R: Input + Print, S: Subject>(
 ) -> io::Result<ExitCode> {
     let mut text = Vec::new(alloc);
     rt.reader().read_to_end(&mut text)?;
-    let mut report = Vec::new(alloc);
+    let mut report = Bytes::new(alloc);
     let passed = run_lines(alloc, subject, &text, &mut report)?;
-    io::writer(rt).write_all(&report)?;
+    io::writer(rt).write_all(&report.finish()?)?;
     Ok(ExitCode::from(if passed { 0 } else { 1 }))
 }
 
@@ -50,7 +52,7 @@ fn run_lines<S: Subject>(
     alloc: Global,
     subject: &mut S,
     text: &[u8],
-    report: &mut Vec<u8>,
+    report: &mut Bytes,
 ) -> Result<bool, AllocError> {
     // How many rows were run, and how many of them failed.
     let mut rows = 0u64;
@@ -64,10 +66,7 @@ fn run_lines<S: Subject>(
             }
         }
     }
-    add_number(alloc, report, u128::from(rows))?;
-    report.extend_from_slice(b" rows, ")?;
-    add_number(alloc, report, u128::from(failed))?;
-    report.extend_from_slice(b" failed\n")?;
+    report.push_text(format!(in alloc; "{rows} rows, {failed} failed\n"));
     Ok(failed == 0)
 }
 
@@ -77,10 +76,10 @@ fn run_line<S: Subject>(
     alloc: Global,
     subject: &mut S,
     line: &[u8],
-    report: &mut Vec<u8>,
+    report: &mut Bytes,
 ) -> Result<bool, AllocError> {
     let Some((question, wanted)) = parts_of(line) else {
-        add_failure(report, line, b"no row")?;
+        add_failure(report, line, b"no row");
         return Ok(false);
     };
     // The words of the question, and the expected answer, both without escapes.
@@ -92,17 +91,15 @@ fn run_line<S: Subject>(
     if found.as_slice() == wanted.as_slice() {
         return Ok(true);
     }
-    add_failure(report, line, &found)?;
+    add_failure(report, line, &found);
     Ok(false)
 }
 
 /// Adds to a report a row that fails, and the answer that was found instead of the expected one.
-fn add_failure(report: &mut Vec<u8>, line: &[u8], found: &[u8]) -> Result<(), AllocError> {
-    report.extend_from_slice(b"FAILED ")?;
-    report.extend_from_slice(line)?;
-    report.extend_from_slice(b"\n found ")?;
-    report.extend_from_slice(found)?;
-    report.extend_from_slice(b"\n")
+fn add_failure(report: &mut Bytes, line: &[u8], found: &[u8]) {
+    for part in [b"FAILED ".as_slice(), line, b"\n found ", found, b"\n"] {
+        report.push(part);
+    }
 }
 
 /// The question of a line and its expected answer: the text before the first ` ->`, and the text
@@ -114,10 +111,4 @@ fn parts_of(line: &[u8]) -> Option<(&[u8], &[u8])> {
         }
     }
     None
-}
-
-/// Adds the decimal digits of a number to a report.
-fn add_number(alloc: Global, report: &mut Vec<u8>, number: u128) -> Result<(), AllocError> {
-    let digits = format!(in alloc; "{number}")?;
-    report.extend_from_slice(digits.as_bytes())
 }
