@@ -1,19 +1,29 @@
 //! Answers questions about the parts of a container: its blocks, the values that writers write, the
 //! tests and views of payloads, and the files of packages in pieces. Other questions are about
-//! damaged containers. All rows (questions with their expected answers) are in the file `stdin` of
-//! this crate; `tests/lines.md` describes their form. The README of this crate has a row for each
-//! question.
+//! installed packages: their database, the owners of files, and what a change does with files. The
+//! last questions are about damaged containers. All rows (questions with their expected answers) are in the file
+//! `stdin` of this crate; `tests/lines.md` describes their form. The README of this crate has a row
+//! for each question.
 #![tactic(auto)]
 
 mod blocks;
 mod damage;
+mod databases;
+mod members;
+mod owners;
+mod package;
 mod pieces;
+mod plans;
 mod schemas;
+mod split;
 mod writers;
 
 use crate::blocks::FramedBlocks;
 use crate::damage::CurrentContainer;
+use crate::databases::Installed;
+use crate::owners::AddedPackages;
 use crate::pieces::Files;
+use crate::plans::Planned;
 use crate::schemas::CurrentPayload;
 use crate::writers::Containers;
 use base_core::Words;
@@ -33,17 +43,26 @@ enum Topic {
     Schemas,
     /// The contents of a package's files, which are read in pieces.
     Pieces,
+    /// The database of the installed packages.
+    Databases,
+    /// The packages that own files.
+    Owners,
+    /// What a change does with files.
+    Plans,
     /// Damaged containers.
     Damage,
 }
 
 // The words for the topics.
 #[rattlefmt::skip]
-const TOPICS: [(&[u8], Topic); 5] = [
+const TOPICS: [(&[u8], Topic); 8] = [
     (b"blocks", Topic::Blocks),
     (b"writers", Topic::Writers),
     (b"schemas", Topic::Schemas),
     (b"pieces", Topic::Pieces),
+    (b"databases", Topic::Databases),
+    (b"owners", Topic::Owners),
+    (b"plans", Topic::Plans),
     (b"damage", Topic::Damage),
 ];
 
@@ -54,6 +73,12 @@ struct Parts {
     topic: Option<Topic>,
     /// The payload that questions are about.
     payload: CurrentPayload,
+    /// The database, and the packages that the next change adds.
+    installed: Installed,
+    /// The packages that a change adds.
+    added: AddedPackages,
+    /// The change whose files are planned, and the plan.
+    planned: Planned,
     /// The container that is damaged.
     container: CurrentContainer,
 }
@@ -76,6 +101,9 @@ impl Subject for Parts {
             Some(Topic::Writers) => Containers.answer(alloc, words, answer),
             Some(Topic::Schemas) => self.payload.answer(alloc, words, answer),
             Some(Topic::Pieces) => Files.answer(alloc, words, answer),
+            Some(Topic::Databases) => self.installed.answer(alloc, words, answer),
+            Some(Topic::Owners) => self.added.answer(alloc, words, answer),
+            Some(Topic::Plans) => self.planned.answer(alloc, words, answer),
             Some(Topic::Damage) => self.container.answer(alloc, words, answer),
             None => {
                 answer.push(b"no topic");
@@ -91,6 +119,9 @@ fn main(rt: HostRuntime) -> io::Result<ExitCode> {
     let mut subject = Parts {
         topic: None,
         payload: CurrentPayload::new(alloc),
+        installed: Installed::new(alloc),
+        added: AddedPackages::new(alloc),
+        planned: Planned::new(alloc),
         container: CurrentContainer::new(alloc),
     };
     run_program(&rt, alloc, &mut subject)

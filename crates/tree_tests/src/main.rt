@@ -1,12 +1,15 @@
 //! Answers questions about what tests stand on: a tree and a sink in memory, and the texts of rows
-//! that test command lines of `apk`. All rows (questions with their expected answers) are in the
+//! that test command lines of `apk`. Other questions are about changes of several files in such a
+//! tree, and about their recovery. All rows (questions with their expected answers) are in the
 //! file `stdin` of this crate; `tests/lines.md` describes their form. The README of this crate has
 //! a row for each question.
 #![tactic(auto)]
 
+mod journal;
 mod rows;
 mod trees;
 
+use crate::journal::Sweeps;
 use crate::rows::RowText;
 use crate::trees::InMemory;
 use base_core::Words;
@@ -22,13 +25,16 @@ enum Topic {
     Trees,
     /// Texts of rows, and their reports.
     Rows,
+    /// Changes of several files, and their recovery.
+    Journal,
 }
 
 // The words for the topics.
 #[rattlefmt::skip]
-const TOPICS: [(&[u8], Topic); 2] = [
+const TOPICS: [(&[u8], Topic); 3] = [
     (b"trees", Topic::Trees),
     (b"rows", Topic::Rows),
+    (b"journal", Topic::Journal),
 ];
 
 /// The topic of the rows, and what the rows of each topic keep from one row to the next.
@@ -58,6 +64,7 @@ impl Subject for TestTools {
         match self.topic {
             Some(Topic::Trees) => self.in_memory.answer(alloc, words, answer),
             Some(Topic::Rows) => self.row_text.answer(alloc, words, answer),
+            Some(Topic::Journal) => Sweeps.answer(alloc, words, answer),
             None => {
                 answer.push(b"no topic");
                 Ok(())

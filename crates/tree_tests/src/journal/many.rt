@@ -1,7 +1,7 @@
 //! The answer to the question `many`: a journal entry (intent) with so many writes that a
 //! comparison of each pair of its names would take too long. Such an entry passes the tests of
 //! `docs/formats.md`, "Tests of a container", also the test that no name is repeated.
-use crate::trees::{add_count, long_at, put};
+use crate::journal::trees::{add_count, long_at, put};
 use adb_schema::INTENT_WORD;
 use adb_view::Val;
 use adb_write::{Writer, file_of};

@@ -1,10 +1,7 @@
-//! Tests of `journal_core`, `journal_recovery` and `journal_commit`. A change of several files is
-//! cut off, or a call fails: the rows say which files are left, and what a recovery makes of them.
-//! Other rows say which journal entries (intents) are refused. Others replace a file again and
-//! again while the names are never synced. All rows (questions with their expected answers) are in
-//! the file `stdin` of this crate; `tests/lines.md` describes their form. The README of this crate
-//! has a row for each question.
-#![tactic(auto)]
+//! Answers questions about `journal_core`, `journal_recovery` and `journal_commit`. A change of
+//! several files is cut off, or a call fails: the rows say which files are left, and what a recovery
+//! makes of them. Other rows say which journal entries (intents) are refused. Others replace a file
+//! again and again while the names are never synced.
 
 mod changing;
 mod intents;
@@ -13,15 +10,13 @@ mod replacing;
 mod sweeping;
 mod trees;
 
+use crate::journal::intents::{add_change, add_cuts, add_recovery};
+use crate::journal::many::add_many_writes;
+use crate::journal::replacing::add_replacements;
+use crate::journal::sweeping::{add_fault, add_stop};
 use base_core::Words;
-use intents::{add_change, add_cuts, add_recovery};
-use many::add_many_writes;
-use replacing::add_replacements;
-use row_lines::{Answer, Subject, run_program, value_named, word_at};
+use row_lines::{Answer, Subject, value_named, word_at};
 use std::alloc::{AllocError, Global};
-use std::io;
-use std::process::ExitCode;
-use sweeping::{add_fault, add_stop};
 
 /// The questions of rows; the README of this crate says what each question shows.
 #[derive(Clone, Copy)]
@@ -60,7 +55,7 @@ const QUESTIONS: [(&[u8], Question); 7] = [
 
 /// The subject that the rows are about. It keeps nothing, since each row makes trees of its own.
 #[derive(Drop)]
-struct Sweeps;
+pub(crate) struct Sweeps;
 
 impl Subject for Sweeps {
     // Adds the answer to the row with these words, whose first word names the question.
@@ -84,9 +79,4 @@ impl Subject for Sweeps {
             Question::Replace => add_replacements(alloc, words, answer),
         }
     }
-}
-
-// Answers the rows of standard input, one after another.
-fn main(rt: HostRuntime) -> io::Result<ExitCode> {
-    run_program(&rt, rt.alloc(), &mut Sweeps)
 }

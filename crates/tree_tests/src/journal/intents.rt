@@ -2,8 +2,8 @@
 //! files that no change of `apk` leaves; journal entries (intents) that are cut off; and changes
 //! that are stopped after some calls. The rules are in `docs/crash-safety.md`, "Recovery", the
 //! table of what a recovery finds.
-use crate::changing::{add_reached, change_named, run_change};
-use crate::trees::{add_count, add_tree, long_at, put, text_of, tree_of};
+use crate::journal::changing::{add_reached, change_named, run_change};
+use crate::journal::trees::{add_count, add_tree, long_at, put, text_of, tree_of};
 use base_core::Words;
 use journal_recovery::{RecoverFault, recover};
 use row_lines::{Answer, word_at};
