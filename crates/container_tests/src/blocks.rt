@@ -1,7 +1,7 @@
 //! Answers questions about `adb_block`: the blocks of a container, the first failed test, and the
 //! headers of blocks. The rules are in `docs/formats.md`, "Container".
 
-use adb_block::{BlockKind, Blocks, block_head, frame_of, head_len};
+use adb_block::{Block, BlockKind, Blocks, block_head, frame_of, head_len};
 use base_core::{Cause, Words};
 use row_lines::{Answer, Subject, number_of, value_named, word_at};
 use std::alloc::{AllocError, Global};
@@ -75,19 +75,22 @@ fn add_blocks(alloc: Global, file: &[u8], answer: &mut Answer) {
         // The offset that is announced for the next block.
         let at = blocks.next_at();
         match blocks.next() {
-            Ok(Some(block)) => {
-                answer.add_word(kind_name(block.kind));
-                if at != Some(block.at) {
-                    answer.add_word(b"elsewhere");
-                }
-                answer.add_word(b"at ");
-                answer.add_number(u128::from(block.at));
-                answer.add_word(block.payload)
-            }
+            Ok(Some(block)) => add_block(block, at, answer),
             // The end of the container, or an error.
             end => return add_end(alloc, &mut blocks, end.err(), answer),
         }
     }
+}
+
+/// Adds a block: its kind, its offset and its payload. `at` is the offset that was announced.
+fn add_block(block: Block<'_>, at: Option<u64>, answer: &mut Answer) {
+    answer.add_word(kind_name(block.kind));
+    if at != Some(block.at) {
+        answer.add_word(b"elsewhere");
+    }
+    answer.add_word(b"at ");
+    answer.add_number(u128::from(block.at));
+    answer.add_word(block.payload)
 }
 
 /// The word for a kind of block, as in `KINDS`.

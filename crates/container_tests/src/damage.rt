@@ -12,7 +12,7 @@ mod tally;
 use crate::damage::reading::Test;
 use crate::damage::tally::Tally;
 use base_core::Words;
-use row_lines::{Answer, Subject, value_named, word_at};
+use row_lines::{Answer, Bytes, Subject, value_named, word_at};
 use std::alloc::{AllocError, Global};
 
 /// The kinds of questions, each with the way in which files are tested.
@@ -86,9 +86,9 @@ impl Subject for CurrentContainer {
                 self.bytes.extend_from_slice(word_at(words, 1))
             }
             Some(Question::Itself(test)) => {
-                let mut line = Vec::new(alloc);
+                let mut line = Bytes::new(alloc);
                 let _ = test.read(alloc, &self.bytes, &mut line)?;
-                answer.push(&line);
+                answer.push(&line.finish()?);
                 Ok(())
             }
             Some(Question::Sweep(damage, test)) => {

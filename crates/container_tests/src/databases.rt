@@ -5,10 +5,11 @@
 mod change;
 
 use crate::databases::change::changed_database;
-use crate::package::package_file;
+use crate::members::front_of_row;
 use adb_schema::ReadFault;
 use base_core::{Name, Words};
 use db_core::Db;
+use pkg_core::Front;
 use row_lines::{Answer, Subject, value_named, word_at};
 use std::alloc::{AllocError, Global};
 
@@ -46,8 +47,9 @@ const QUESTIONS: [(&[u8], Question); 6] = [
 pub(crate) struct Installed {
     /// The bytes of the database, as the last change wrote it; no bytes at first.
     file: Vec<u8>,
-    /// The files of the packages that the next change adds, in the order of the rows.
-    coming: Vec<Vec<u8>>,
+    /// The fronts (headers and first blocks) of the packages that the next change adds, in the
+    /// order of the rows. A bad package has no front.
+    coming: Vec<Option<Front>>,
 }
 
 /// A number that is looked up in a database.
@@ -79,30 +81,15 @@ impl Subject for Installed {
         words: &Words,
         answer: &mut Answer,
     ) -> Result<(), AllocError> {
+        // What most questions are about: a name or a path.
+        let subject = word_at(words, 1);
         match value_named(&QUESTIONS, word_at(words, 0)) {
-            Some(Question::Start) => {
-                self.file.clear();
-                self.coming.clear();
-            }
-            Some(Question::Package) => self.coming.push(package_file(alloc, words)?)?,
+            Some(Question::Start) => *self = Installed::new(alloc),
+            Some(Question::Package) => self.coming.push(front_of_row(alloc, words)?)?,
             Some(Question::Change) => return self.change(alloc, words, answer),
-            Some(Question::Again) => {
-                // One set flag for each of up to 100 files; flags after the last file have no
-                // effect. There is no word after `again`, so that no package is removed.
-                let flags = [b'1'; 100];
-                let same = match changed_database(alloc, &self.file, &[], &flags, words)? {
-                    Some(file) => file == self.file,
-                    None => false,
-                };
-                answer.push(if same { b"same" } else { b"other" });
-            }
-            Some(Question::Find) => {
-                return self.look_up(alloc, LookUp::Package(word_at(words, 1)), answer);
-            }
-            Some(Question::Owner) => match Name::read(alloc, word_at(words, 1))? {
-                Some(path) => return self.look_up(alloc, LookUp::Owner(&path), answer),
-                None => answer.push(b"no name"),
-            },
+            Some(Question::Again) => return self.change_nothing(alloc, words, answer),
+            Some(Question::Find) => self.look_up(alloc, LookUp::Package(subject), answer),
+            Some(Question::Owner) => return self.look_up_owner(alloc, subject, answer),
             None => answer.push(b"no question"),
         }
         Ok(())
@@ -127,20 +114,47 @@ impl Installed {
                 self.file = file;
                 self.look_up(alloc, LookUp::Count, answer)
             }
-            None => {
-                answer.push(b"refused");
-                Ok(())
-            }
+            None => answer.push(b"refused"),
         }
+        Ok(())
     }
 
-    /// Adds to the answer a number of the database, or `none` if it has no such package.
-    fn look_up(
+    /// Answers `again`: whether a change that adds no package and removes none gives the same
+    /// bytes.
+    fn change_nothing(
         &self,
         alloc: Global,
-        wanted: LookUp<'_>,
+        words: &Words,
         answer: &mut Answer,
     ) -> Result<(), AllocError> {
+        // One set flag for each of up to 100 files; flags after the last file have no effect.
+        let flags = [b'1'; 100];
+        // There is no word after `again`, so that no package is removed.
+        let same = match changed_database(alloc, &self.file, &[], &flags, words)? {
+            Some(file) => file == self.file,
+            None => false,
+        };
+        answer.push(if same { b"same" } else { b"other" });
+        Ok(())
+    }
+
+    /// Answers `owner PATH`: adds to the answer the index of the package that lists PATH.
+    fn look_up_owner(
+        &self,
+        alloc: Global,
+        path: &[u8],
+        answer: &mut Answer,
+    ) -> Result<(), AllocError> {
+        match Name::read(alloc, path)? {
+            Some(path) => self.look_up(alloc, LookUp::Owner(&path), answer),
+            None => answer.push(b"no name"),
+        }
+        Ok(())
+    }
+
+    /// Adds to the answer a number of the database, or `none` if it has no such package. Out of
+    /// memory gives no text: the answer fails.
+    fn look_up(&self, alloc: Global, wanted: LookUp<'_>, answer: &mut Answer) {
         match Db::read(alloc, &self.file) {
             Ok(db) => {
                 let number = match wanted {
@@ -154,8 +168,7 @@ impl Installed {
                 }
             }
             Err(ReadFault::Bad(_)) => answer.push(b"bad"),
-            Err(ReadFault::Memory) => return Err(AllocError),
+            Err(ReadFault::Memory) => answer.add_text(Err(AllocError)),
         }
-        Ok(())
     }
 }

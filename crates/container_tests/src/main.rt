@@ -1,21 +1,24 @@
 //! Answers questions about the parts of a container: its blocks, the values that writers write, the
 //! tests and views of payloads, and the files of packages in pieces. Other questions are about
 //! installed packages: their database, the owners of files, and what a change does with files. The
-//! last questions are about damaged containers. All rows (questions with their expected answers) are in the file
-//! `stdin` of this crate; `tests/lines.md` describes their form. The README of this crate has a row
-//! for each question.
+//! last questions are about damaged containers. All rows (questions with their expected answers)
+//! are in the file `stdin` of this crate; `tests/lines.md` describes their form. The README of this
+//! crate has a row for each question.
 #![tactic(auto)]
 
 mod blocks;
 mod damage;
 mod databases;
+mod flags;
 mod members;
 mod owners;
 mod package;
+mod package_tree;
 mod pieces;
 mod plans;
 mod schemas;
 mod split;
+mod values;
 mod writers;
 
 use crate::blocks::FramedBlocks;

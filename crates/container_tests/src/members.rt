@@ -1,5 +1,5 @@
 //! Builds the members of a change (the packages that are installed after it): added packages, from
-//! containers, and kept packages, from a database. Their order is that of their names, as
+//! rows, and kept packages, from a database. Their order is that of their names, as
 //! `docs/formats.md`, "The database after a change", has it.
 
 ghost use Rattle.db_core.specs.adb_fields.Repeated.{package_name};
@@ -8,7 +8,8 @@ ghost use Rattle.db_core.specs.Seen.{packages_of};
 ghost use Rattle.db_core.specs.pkg_core.Values.{value_of_contents};
 ghost use Rattle.std.specs.Prelude.{◌≡◌, ◌<◌, Some, length, slice_get};
 
-use base_core::Name;
+use crate::package::package_file;
+use base_core::{Name, Words};
 use db_core::{
     Contents, Db, Front, FrontFault, MOST_MEMBERS, Members, PACKAGE_WORD, PackageFault,
     PackageView, read_front,
@@ -17,18 +18,25 @@ use std::alloc::{AllocError, Global};
 use std::marker::PhantomData;
 use tree_memory::MemoryTree;
 
-/// The front (header and first block) of the package with the bytes `file`, or None if the package
-/// is bad. The bytes are put into a tree in memory as a file, from which the front is read.
-pub(crate) fn front_of(alloc: Global, file: &[u8]) -> Result<Option<Front>, AllocError> {
+/// The front (header and first block) of the package that a row describes, or None if the package
+/// is bad.
+pub(crate) fn front_of_row(alloc: Global, row: &Words) -> Result<Option<Front>, AllocError> {
+    let file = package_file(alloc, row)?;
     // The name of the file in the tree; any name would do.
-    let Some(name) = Name::read(alloc, b"p")? else {
-        return Ok(None);
-    };
-    let mut tree = MemoryTree::new(alloc);
-    if tree.can_put(&name) {
-        tree.put(&name, file)?;
+    match Name::read(alloc, b"p")? {
+        Some(name) => front_of(alloc, &name, &file),
+        None => Ok(None),
     }
-    match read_front(alloc, &mut tree, &name, PACKAGE_WORD) {
+}
+
+/// The front of the package with the bytes `file`. The bytes are put into a tree in memory as a
+/// file of this name, from which the front is read.
+fn front_of(alloc: Global, name: &Name, file: &[u8]) -> Result<Option<Front>, AllocError> {
+    let mut tree = MemoryTree::new(alloc);
+    if tree.can_put(name) {
+        tree.put(name, file)?;
+    }
+    match read_front(alloc, &mut tree, name, PACKAGE_WORD) {
         Ok(front) => Ok(front),
         Err(FrontFault::Bad(_) | FrontFault::Disk) => Ok(None),
         Err(FrontFault::Memory) => Err(AllocError),
@@ -62,14 +70,32 @@ pub(crate) fn add_installed(members: &mut Members<'_>, i: usize) -> Result<bool,
     Ok(true)
 }
 
+/// Adds packages as added members, in this order, until one is refused. Returns false if
+/// `add_coming` refuses one.
+pub(crate) fn add_all_coming<'a>(
+    alloc: Global,
+    members: &mut Members<'a>,
+    fronts: &'a [Option<Front>],
+) -> Result<bool, AllocError> {
+    for front in fronts {
+        if !add_coming(alloc, members, front)? {
+            return Ok(false);
+        }
+    }
+    Ok(true)
+}
+
 /// Adds the package with this front as an added member. Returns false, and adds nothing, if the
-/// package is bad, if there are `MOST_MEMBERS` members already, or if its name is not after the
-/// names of the members.
+/// package is bad or has no front, if there are `MOST_MEMBERS` members already, or if its name is
+/// not after the names of the members.
 pub(crate) fn add_coming<'a>(
     alloc: Global,
     members: &mut Members<'a>,
-    front: &'a Front,
+    front: &'a Option<Front>,
 ) -> Result<bool, AllocError> {
+    let Some(front) = front else {
+        return Ok(false);
+    };
     match Contents::new(alloc, front) {
         Ok(contents) => add_contents(members, &contents),
         Err(PackageFault::Bad(_)) => Ok(false),

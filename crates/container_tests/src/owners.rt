@@ -2,9 +2,10 @@
 
 mod answer;
 
+use crate::members::front_of_row;
 use crate::owners::answer::add_owners;
-use crate::package::package_file;
 use base_core::Words;
+use pkg_core::Front;
 use row_lines::{Answer, Subject, value_named, word_at};
 use std::alloc::{AllocError, Global};
 
@@ -30,8 +31,9 @@ const QUESTIONS: [(&[u8], Question); 3] = [
 /// The packages that earlier rows have added.
 #[derive(Drop)]
 pub(crate) struct AddedPackages {
-    /// The containers of the packages, in the order of their rows.
-    packages: Vec<Vec<u8>>,
+    /// The fronts (headers and first blocks) of the packages, in the order of their rows. A bad
+    /// package has no front.
+    packages: Vec<Option<Front>>,
 }
 
 impl AddedPackages {
@@ -53,7 +55,7 @@ impl Subject for AddedPackages {
     ) -> Result<(), AllocError> {
         match value_named(&QUESTIONS, word_at(words, 0)) {
             Some(Question::New) => self.packages.clear(),
-            Some(Question::Package) => self.packages.push(package_file(alloc, words)?)?,
+            Some(Question::Package) => self.packages.push(front_of_row(alloc, words)?)?,
             Some(Question::Owners) => return add_owners(alloc, &self.packages, answer),
             None => answer.push(b"no question"),
         }

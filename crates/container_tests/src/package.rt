@@ -3,17 +3,14 @@
 //! count from 1 there, and from 0 here.
 
 use crate::split::{folder_and_name, split_at_first};
+use crate::values::Values;
 use adb_schema::{IDB_WORD, PACKAGE_WORD};
 use adb_view::Val;
-use adb_write::{Writer, file_in_place};
 use base_core::Words;
 use row_lines::{number_of, word_at};
 use sha1::Sha1;
 use sha2::{Digest, Sha256};
 use std::alloc::{AllocError, Global};
-
-/// The most bytes of a payload (`docs/formats.md`, "Canonical layout").
-const MOST_BYTES: usize = 268_435_455;
 
 /// How many fields of a package's information are written (table 3): those up to `replaces`, which
 /// has the index 16 and is the last one.
@@ -31,54 +28,46 @@ const HASHES: usize = 4;
 /// The index of the field `target` in a file's entry.
 const TARGET: usize = 5;
 
-/// The bytes before the text of a link's target (`docs/formats.md`, "The texts", field 406).
-const LINK: &[u8] = b"\x00\xa0";
-
 /// The container of the package that the row describes, without the contents of its files.
 pub(crate) fn package_file(alloc: Global, row: &Words) -> Result<Vec<u8>, AllocError> {
-    let mut writer = Writer::new(alloc);
-    let root = write_package(alloc, &mut writer, row)?;
-    container(writer, root, PACKAGE_WORD)
+    let mut values = Values::new(alloc);
+    let root = write_package(&mut values, row);
+    values.finish(root, PACKAGE_WORD)
 }
 
 /// The container of a database with the packages that these rows describe.
 pub(crate) fn database_file(alloc: Global, rows: &[Words]) -> Result<Vec<u8>, AllocError> {
-    let mut writer = Writer::new(alloc);
-    let mut packages = Vec::new(alloc);
+    let mut values = Values::new(alloc);
+    let root = write_packages(&mut values, rows);
+    values.finish(root, IDB_WORD)
+}
+
+/// Writes a database with the packages that these rows describe.
+fn write_packages(values: &mut Values, rows: &[Words]) -> Val {
+    let mut packages = Vec::new(values.alloc);
     for row in rows {
-        packages.push(write_package(alloc, &mut writer, row)?)?;
+        let package = write_package(values, row);
+        values.add(&mut packages, package);
     }
-    let packages = writer.arr(&packages)?;
-    let fields = [packages];
-    let root = writer.obj(&fields)?;
-    container(writer, root, IDB_WORD)
+    let packages = values.array(&packages);
+    values.object(&[packages])
 }
 
-/// The container whose payload is that of `writer`, with the root value `root`. A payload that is
-/// too large counts as out of memory.
-fn container(writer: Writer, root: Val, schema: u32) -> Result<Vec<u8>, AllocError> {
-    match writer.finish(root) {
-        Ok(payload) if payload.len() <= MOST_BYTES => file_in_place(schema, payload),
-        _ => Err(AllocError),
-    }
-}
-
-/// Writes the package that a row `WORD NAME VERSION PRIORITY FILES REPLACES..` describes, and
-/// returns the word (32-bit reference) of its value. FILES has commas between the files. Each of
-/// REPLACES is `NAME:VERSION:MATCH`, where MATCH are the match bits of the version operator.
-fn write_package(alloc: Global, writer: &mut Writer, row: &Words) -> Result<Val, AllocError> {
+/// Writes the package that a row `WORD NAME VERSION PRIORITY FILES REPLACES..` describes. FILES has
+/// commas between the files. Each of REPLACES is `NAME:VERSION:MATCH`, where MATCH are the match
+/// bits of the version operator.
+fn write_package(values: &mut Values, row: &Words) -> Val {
     // In the package's information, field 0 is the name, field 1 the version, and field 16
     // `replaces`.
     let mut info = [Val::of(0); INFO_FIELDS];
-    info[0] = writer.blob(word_at(row, 1))?;
-    info[1] = writer.blob(word_at(row, 2))?;
-    info[INFO_FIELDS - 1] = write_replaces(alloc, writer, row)?;
-    let info = writer.obj(&info)?;
-    let priority = write_number(writer, number_in(word_at(row, 3)))?;
-    let folders = write_folders(alloc, writer, word_at(row, 4))?;
+    info[0] = values.blob(word_at(row, 1));
+    info[1] = values.blob(word_at(row, 2));
+    info[INFO_FIELDS - 1] = write_replaces(values, row);
+    let info = values.object(&info);
+    let priority = values.number(number_in(word_at(row, 3)));
+    let folders = write_folders(values, word_at(row, 4));
     // The word 0 is null: no scripts, and no triggers.
-    let fields = [info, folders, Val::of(0), Val::of(0), priority];
-    writer.obj(&fields)
+    values.object(&[info, folders, Val::of(0), Val::of(0), priority])
 }
 
 /// The number in a word of a row, or 0 if the word is no number of at most 64 bits.
@@ -86,98 +75,105 @@ pub(crate) fn number_in(word: &[u8]) -> u64 {
     u64::try_from(number_of(word).unwrap_or(0)).unwrap_or(0)
 }
 
-/// Writes a number; 0 is written as null.
-fn write_number(writer: &mut Writer, number: u64) -> Result<Val, AllocError> {
-    if number == 0 {
-        return Ok(Val::of(0));
-    }
-    writer.int(number)
-}
-
 /// Writes the field `replaces` of the package: its entries are the words of the row from the sixth
 /// on, in the form `NAME:VERSION:MATCH`.
-fn write_replaces(alloc: Global, writer: &mut Writer, row: &Words) -> Result<Val, AllocError> {
-    let mut replaces = Vec::new(alloc);
+fn write_replaces(values: &mut Values, row: &Words) -> Val {
+    let mut replaces = Vec::new(values.alloc);
     for i in 5..row.len() {
-        let (name, rest) = split_at_first(row.word(i), b':');
-        let (version, matching) = split_at_first(rest, b':');
-        let name = writer.blob(name)?;
-        let version = writer.blob(version)?;
-        let matching = write_number(writer, number_in(matching))?;
-        replaces.push(writer.obj(&[name, version, matching])?)?;
+        let entry = write_replaced(values, row.word(i));
+        values.add(&mut replaces, entry);
     }
-    writer.arr(&replaces)
+    values.array(&replaces)
+}
+
+/// Writes an entry `NAME:VERSION:MATCH` of the field `replaces`.
+fn write_replaced(values: &mut Values, entry: &[u8]) -> Val {
+    let (name, rest) = split_at_first(entry, b':');
+    let (version, matching) = split_at_first(rest, b':');
+    let name = values.blob(name);
+    let version = values.blob(version);
+    let matching = values.number(number_in(matching));
+    values.object(&[name, version, matching])
 }
 
 /// Writes the folders of a package with their files, from the list FILES of a row. Adjacent files
 /// of the list that have the same folder are in one folder of the package.
-fn write_folders(alloc: Global, writer: &mut Writer, files: &[u8]) -> Result<Val, AllocError> {
+fn write_folders(values: &mut Values, files: &[u8]) -> Val {
     if files.is_empty() {
-        return Ok(Val::of(0));
+        return Val::of(0);
     }
-    // The folders that are written so far, and the written files of the next one.
-    let mut folders = Vec::new(alloc);
-    let mut written = Vec::new(alloc);
-    // The folder of the previous file of the list.
-    let mut previous: Option<&[u8]> = None;
+    let mut folders = Folders {
+        written: Vec::new(values.alloc),
+        name: None,
+        files: Vec::new(values.alloc),
+    };
     for file in files.split(|byte| *byte == b',') {
-        let (path, description) = path_and_description(file);
-        let (folder, name) = folder_and_name(path);
-        if let Some(last) = previous {
-            if last != folder {
-                folders.push(write_folder(writer, last, &written)?)?;
-                written.clear();
-            }
-        }
-        // A path that ends in a slash is a folder without files.
-        if !name.is_empty() {
-            written.push(write_file(alloc, writer, name, description)?)?;
-        }
-        previous = Some(folder);
+        folders.add(values, file);
     }
-    if let Some(last) = previous {
-        folders.push(write_folder(writer, last, &written)?)?;
-    }
-    writer.arr(&folders)
+    folders.close(values);
+    values.array(&folders.written)
 }
 
-/// Writes the folder with this name and with these files, which are written already.
-fn write_folder(writer: &mut Writer, name: &[u8], files: &[Val]) -> Result<Val, AllocError> {
-    let name = writer.blob(name)?;
-    let files = writer.arr(files)?;
-    // The word 0 is null: no access list.
-    writer.obj(&[name, Val::of(0), files])
+/// The folders of a package, while they are written one after another.
+#[derive(Drop)]
+struct Folders<'a> {
+    /// The folders that are written so far.
+    written: Vec<Val>,
+    /// The name of the next folder, or None before the first file.
+    name: Option<&'a [u8]>,
+    /// The files of the next folder, which are written already.
+    files: Vec<Val>,
+}
+
+impl<'a> Folders<'a> {
+    /// Adds the next file of the list. A path that ends in a slash is a folder without files.
+    fn add(&mut self, values: &mut Values, file: &'a [u8]) {
+        let (path, description) = path_and_description(file);
+        let (folder, name) = folder_and_name(path);
+        let last = self.name;
+        if !matches!(last, Some(last) if last == folder) {
+            self.close(values);
+            self.name = Some(folder);
+        }
+        if !name.is_empty() {
+            let file = write_file(values, name, description);
+            values.add(&mut self.files, file);
+        }
+    }
+
+    /// Writes the next folder with its files, if there is one.
+    fn close(&mut self, values: &mut Values) {
+        if let Some(name) = self.name {
+            let name = values.blob(name);
+            let files = values.array(&self.files);
+            // The word 0 is null: no access list.
+            let folder = values.object(&[name, Val::of(0), files]);
+            values.add(&mut self.written, folder);
+            self.files.clear();
+        }
+    }
 }
 
 /// Writes the entry of a file. The description follows the path in the row: `=BYTES` stands for
 /// these contents with a SHA-256, `#BYTES` for these with a SHA-1, `:SIZE` for a size without a
 /// digest, and `>TEXT` for a link. Without a description the file is empty.
-fn write_file(
-    alloc: Global,
-    writer: &mut Writer,
-    name: &[u8],
-    description: &[u8],
-) -> Result<Val, AllocError> {
+fn write_file(values: &mut Values, name: &[u8], description: &[u8]) -> Val {
     let mut fields = [Val::of(0); FILE_FIELDS];
-    fields[0] = writer.blob(name)?;
+    fields[0] = values.blob(name);
     match description {
         [b'=', bytes @ ..] => {
-            fields[SIZE] = write_number(writer, bytes.len() as u64)?;
-            fields[HASHES] = writer.blob(&Sha256::digest(bytes))?;
+            fields[SIZE] = values.number(bytes.len() as u64);
+            fields[HASHES] = values.blob(&Sha256::digest(bytes));
         }
         [b'#', bytes @ ..] => {
-            fields[SIZE] = write_number(writer, bytes.len() as u64)?;
-            fields[HASHES] = writer.blob(&Sha1::digest(bytes))?;
+            fields[SIZE] = values.number(bytes.len() as u64);
+            fields[HASHES] = values.blob(&Sha1::digest(bytes));
         }
-        [b':', size @ ..] => fields[SIZE] = write_number(writer, number_in(size))?,
-        [b'>', text @ ..] => {
-            let mut target = Vec::from_slice(alloc, LINK)?;
-            target.extend_from_slice(text)?;
-            fields[TARGET] = writer.blob(&target)?;
-        }
+        [b':', size @ ..] => fields[SIZE] = values.number(number_in(size)),
+        [b'>', text @ ..] => fields[TARGET] = values.link(text),
         _ => {}
     }
-    writer.obj(&fields)
+    values.object(&fields)
 }
 
 /// Splits an entry of the list FILES into the path, and the description, which begins with one of

@@ -10,7 +10,7 @@ ghost use Rattle.adb_view.specs.declared.tables.Which.TheVariants as Tables;
 mod made;
 mod package;
 
-use crate::pieces::made::{bytes_of, payload_of, positions};
+use crate::pieces::made::{bytes_of, payload_of, positions, spoil};
 use crate::pieces::package::{Asked, Reading, add_asked, add_cuts};
 use adb_schema::Checked;
 use adb_view::{Adb, Which, shape};
@@ -123,15 +123,24 @@ fn add_of_one_file(
         add_opened(alloc, &mut walk, words, answer);
         return Ok(());
     }
+    add_file(alloc, &mut walk, len, words, answer)
+}
+
+/// Answers `pieces LEN` and `pieces LEN AT`: adds the pieces of the next file of the package, which
+/// is its only one and has this length. With AT, a byte differs from that of which the digest was
+/// made.
+fn add_file(
+    alloc: Global,
+    walk: &mut Walk<'_>,
+    len: u32,
+    words: &Words,
+    answer: &mut Answer,
+) -> Result<(), AllocError> {
     let mut bytes = bytes_of(alloc, len)?;
     if words.len() > 2 {
-        let at = small_number(word_at(words, 2)) as usize;
-        if at < bytes.len() {
-            // No byte of the file is 255.
-            bytes[at] = 255;
-        }
+        spoil(&mut bytes, small_number(word_at(words, 2)) as usize);
     }
-    add_pieces(alloc, &mut walk, &bytes, answer);
+    add_pieces(alloc, walk, &bytes, answer);
     Ok(())
 }
 
@@ -157,9 +166,7 @@ fn add_opened(alloc: Global, walk: &mut Walk<'_>, words: &Words, answer: &mut An
     }
 }
 
-/// Answers `pieces LEN` and `pieces LEN AT`: adds the pieces of the next file of the package, which
-/// is its only one and has these bytes. With AT, a byte differs from that of which the digest was
-/// made.
+/// Adds the pieces of the next file of the package, which is its only one and has these bytes.
 fn add_pieces(alloc: Global, walk: &mut Walk<'_>, bytes: &[u8], answer: &mut Answer) {
     // Eight bytes of positions precede the file, which is file 1 of folder 1.
     let len = (bytes.len() as u64).saturating_add(8);

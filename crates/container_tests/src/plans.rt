@@ -4,13 +4,12 @@
 mod answer;
 mod change;
 
-use crate::members::front_of;
-use crate::package::{number_in, package_file};
-use crate::plans::change::{PackageAfter, ToldChange, add_plan};
+use crate::package::number_in;
+use crate::plans::change::{ToldChange, add_plan};
 use adb_schema::ReadFault;
 use base_core::{Name, Words};
 use db_core::Db;
-use row_lines::{Answer, Subject, value_named, word_at, words_behind};
+use row_lines::{Answer, Subject, value_named, word_at};
 use std::alloc::{AllocError, Global};
 use tree_memory::MemoryTree;
 
@@ -73,10 +72,7 @@ impl Planned {
     /// The values before the first row: no packages, an empty tree, and no plan.
     pub(crate) fn new(alloc: Global) -> Planned {
         Planned {
-            change: ToldChange {
-                before: Vec::new(alloc),
-                after: Vec::new(alloc),
-            },
+            change: ToldChange::new(alloc),
             tree: MemoryTree::new(alloc),
             calls_of_plan: 0,
             database: Vec::new(alloc),
@@ -92,35 +88,33 @@ impl Subject for Planned {
         words: &Words,
         answer: &mut Answer,
     ) -> Result<(), AllocError> {
-        let Some(question) = value_named(&QUESTIONS, word_at(words, 0)) else {
-            answer.push(b"no question");
-            return Ok(());
-        };
         // What most questions are about: a name, a path or a number.
         let subject = word_at(words, 1);
-        match question {
-            Question::New => *self = Planned::new(alloc),
-            // The package is described by all words of the row.
-            Question::Installed => self.change.before.push(words_behind(alloc, words, 0)?)?,
-            Question::Stays => {
-                let name = Vec::from_slice(alloc, subject)?;
-                self.change.after.push(PackageAfter::Kept(name))?
-            }
-            Question::Comes => {
-                let front = front_of(alloc, &package_file(alloc, words)?)?;
-                self.change.after.push(PackageAfter::Added(front))?
-            }
-            Question::File => return put_file(alloc, &mut self.tree, words, answer),
+        match value_named(&QUESTIONS, word_at(words, 0)) {
+            Some(Question::New) => *self = Planned::new(alloc),
+            Some(Question::Installed) => return self.change.install(alloc, words),
+            Some(Question::Stays) => return self.change.keep(alloc, subject),
+            Some(Question::Comes) => return self.change.add(alloc, words),
+            Some(Question::File) => return put_file(alloc, &mut self.tree, words, answer),
             // The calls on the tree count from this row on, and the first one is number 1.
-            Question::Fail => return self.tree.fail_at(&[number_in(subject)]),
-            Question::Plan { purge } => {
-                let calls_before = self.tree.calls();
-                self.database = add_plan(alloc, &mut self.tree, &self.change, purge, answer)?;
-                self.calls_of_plan = self.tree.calls().saturating_sub(calls_before)
+            Some(Question::Fail) => return self.tree.fail_at(&[number_in(subject)]),
+            Some(Question::Plan { purge }) => return self.plan(alloc, purge, answer),
+            Some(Question::Calls) => {
+                answer.add_yes_or_no(self.calls_of_plan <= number_in(subject))
             }
-            Question::Calls => answer.add_yes_or_no(self.calls_of_plan <= number_in(subject)),
-            Question::Owner => return add_owner(alloc, &self.database, subject, answer),
+            Some(Question::Owner) => return add_owner(alloc, &self.database, subject, answer),
+            None => answer.push(b"no question"),
         }
+        Ok(())
+    }
+}
+
+impl Planned {
+    /// Answers `plan` and `purge`: plans the change, and adds the plan to the answer.
+    fn plan(&mut self, alloc: Global, purge: bool, answer: &mut Answer) -> Result<(), AllocError> {
+        let calls_before = self.tree.calls();
+        self.database = add_plan(alloc, &mut self.tree, &self.change, purge, answer)?;
+        self.calls_of_plan = self.tree.calls().saturating_sub(calls_before);
         Ok(())
     }
 }
@@ -134,10 +128,24 @@ fn put_file(
     answer: &mut Answer,
 ) -> Result<(), AllocError> {
     match Name::read(alloc, word_at(words, 1))? {
-        Some(name) if tree.can_put(&name) => return tree.put(&name, word_at(words, 2)),
-        Some(_) => answer.push(b"no place"),
+        Some(name) => return put_named(tree, &name, word_at(words, 2), answer),
         None => answer.push(b"no name"),
     }
+    Ok(())
+}
+
+/// Puts a file with this name and with these bytes into the tree, or adds to the answer that this
+/// is not possible.
+fn put_named(
+    tree: &mut MemoryTree,
+    name: &Name,
+    bytes: &[u8],
+    answer: &mut Answer,
+) -> Result<(), AllocError> {
+    if tree.can_put(name) {
+        return tree.put(name, bytes);
+    }
+    answer.push(b"no place");
     Ok(())
 }
 
@@ -149,17 +157,22 @@ fn add_owner(
     path: &[u8],
     answer: &mut Answer,
 ) -> Result<(), AllocError> {
-    let Some(path) = Name::read(alloc, path)? else {
-        answer.push(b"no name");
-        return Ok(());
-    };
+    match Name::read(alloc, path)? {
+        Some(path) => add_owner_of(alloc, file, &path, answer),
+        None => answer.push(b"no name"),
+    }
+    Ok(())
+}
+
+/// Adds the name of the package that lists this path. Out of memory gives no text: the answer
+/// fails.
+fn add_owner_of(alloc: Global, file: &[u8], path: &Name, answer: &mut Answer) {
     match Db::read(alloc, file) {
-        Ok(db) => match db.owner_of(&path) {
+        Ok(db) => match db.owner_of(path) {
             Some(index) => answer.push(db.package(index).info().name()),
             None => answer.push(b"none"),
         },
         Err(ReadFault::Bad(_)) => answer.push(b"bad"),
-        Err(ReadFault::Memory) => return Err(AllocError),
+        Err(ReadFault::Memory) => answer.add_text(Err(AllocError)),
     }
-    Ok(())
 }

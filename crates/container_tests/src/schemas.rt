@@ -103,7 +103,7 @@ impl Subject for CurrentPayload {
             Question::View => return add_view(alloc, words, answer),
             Question::Container => {
                 let read = read_adb(alloc, word_at(words, 1), table_of(word_at(words, 2)));
-                return add_read(alloc, read, answer);
+                add_read(alloc, read, answer);
             }
         }
         Ok(())

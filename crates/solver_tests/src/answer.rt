@@ -8,7 +8,7 @@ use adb_view::Adb;
 use base_core::Words;
 use dep_core::{World, read_dep};
 use pool_core::{CandId, Need, Pool, PoolFault, Sealed, Upgrade};
-use row_lines::value_named;
+use row_lines::{Bytes, value_named};
 use solve_core::solve;
 use std::alloc::{AllocError, Global};
 
@@ -102,17 +102,16 @@ struct Command<'a> {
 
 /// The answer to a question, computed as often as the row says, or why there is none.
 pub(crate) fn answer(alloc: Global, row: &Row<'_>, query: &[u8]) -> Result<Vec<u8>, AllocError> {
-    let mut text = Vec::new(alloc);
+    let mut text = Bytes::new(alloc);
     match add_answer(alloc, row, query, &mut text) {
         Ok(()) => {}
         Err(RowFault::Memory) => return Err(AllocError),
-        Err(RowFault::Text) => text.extend_from_slice(NO_ROW)?,
+        Err(RowFault::Text) => text.push(NO_ROW),
         Err(RowFault::TooMany(count)) => {
-            add_number(alloc, u128::from(count), &mut text)?;
-            text.extend_from_slice(b" candidates are too many")?;
+            text.push_text(format!(in alloc; "{count} candidates are too many"))
         }
     }
-    Ok(text)
+    text.finish()
 }
 
 // Reads the question, world and the names to upgrade. Computes the answer as often as the row says
@@ -121,7 +120,7 @@ fn add_answer(
     alloc: Global,
     row: &Row<'_>,
     query: &[u8],
-    text: &mut Vec<u8>,
+    text: &mut Bytes,
 ) -> Result<(), RowFault> {
     let (word, rest) = split_word(query);
     let Some(question) = value_named(&QUESTIONS, word) else {
@@ -140,7 +139,7 @@ fn add_answer(
         },
     };
     for _ in 0..row.times {
-        text.clear();
+        *text = Bytes::new(alloc);
         add_one_answer(alloc, row, command, Query { question, rest }, text)?;
     }
     Ok(())
@@ -153,14 +152,15 @@ fn add_one_answer(
     row: &Row<'_>,
     command: Command<'_>,
     query: Query<'_>,
-    text: &mut Vec<u8>,
+    text: &mut Bytes,
 ) -> Result<(), RowFault> {
     match query.question {
-        Question::Bytes => Ok(add_number(alloc, byte_count(row), text)?),
-        Question::Packages => Ok(add_number(alloc, package_count(alloc, row)?, text)?),
-        Question::Twice => add_two_counts(alloc, row, command, text),
-        _ => add_answer_of_row(alloc, row, command, query, text),
+        Question::Bytes => add_number(alloc, byte_count(row), text),
+        Question::Packages => add_number(alloc, package_count(alloc, row)?, text),
+        Question::Twice => return add_two_counts(alloc, row, command, text),
+        _ => return add_answer_of_row(alloc, row, command, query, text),
     }
+    Ok(())
 }
 
 // Makes the pool of candidates of the row, and appends the answer about this pool.
@@ -169,7 +169,7 @@ fn add_answer_of_row(
     row: &Row<'_>,
     command: Command<'_>,
     query: Query<'_>,
-    text: &mut Vec<u8>,
+    text: &mut Bytes,
 ) -> Result<(), RowFault> {
     let pool = sealed(alloc, row, command.world, command.upgrade)?;
     Ok(add_answer_of_pool(alloc, &pool, command.world, query, text)?)
@@ -201,22 +201,17 @@ fn add_two_counts(
     alloc: Global,
     row: &Row<'_>,
     command: Command<'_>,
-    text: &mut Vec<u8>,
+    text: &mut Bytes,
 ) -> Result<(), RowFault> {
     let first = sealed(alloc, row, command.world, command.upgrade)?;
     let second = sealed(alloc, row, command.world, command.upgrade)?;
-    Ok(add_counts(alloc, first.len(), second.len(), text)?)
+    add_counts(alloc, first.len(), second.len(), text);
+    Ok(())
 }
 
 // Appends two numbers in decimal digits, with a space between them.
-fn add_counts(
-    alloc: Global,
-    first: usize,
-    second: usize,
-    text: &mut Vec<u8>,
-) -> Result<(), AllocError> {
-    let counts = format!(in alloc; "{first} {second}")?;
-    text.extend_from_slice(counts.as_bytes())
+fn add_counts(alloc: Global, first: usize, second: usize, text: &mut Bytes) {
+    text.push_text(format!(in alloc; "{first} {second}"))
 }
 
 // ---- the pool
@@ -232,23 +227,43 @@ fn sealed<'a>(
     ensures { IfOk result (λ sealed. world.entry.now ≡ sealed.world) }
 {
     let mut pool = Pool::new(alloc);
+    add_repositories(alloc, &mut pool, row)?;
+    if let Some(payload) = &row.installed {
+        add_installed(alloc, &mut pool, payload)?;
+    }
+    Ok(pool.seal(world, upgrade)?)
+}
+
+// Adds the packages of the row's repositories to the pool.
+fn add_repositories<'a>(
+    alloc: Global,
+    pool: &mut Pool<'a>,
+    row: &'a Row<'a>,
+) -> Result<(), RowFault> {
     for repository in &row.repositories {
         let Some(view) = view_of(alloc, &repository.payload) else {
             return Err(RowFault::Text);
         };
         pool.add_index(view, repository.number, repository.tag)?;
     }
-    if let Some(payload) = &row.installed {
-        let Some(view) = view_of(alloc, payload) else {
-            return Err(RowFault::Text);
-        };
-        let packages = view.packages();
-        for i in 0..packages.len() {
-            // Packages of the list count from 1.
-            pool.add_installed(packages.get(i + 1))?;
-        }
+    Ok(())
+}
+
+// Adds the packages of an index to the pool, as the installed ones.
+fn add_installed<'a>(
+    alloc: Global,
+    pool: &mut Pool<'a>,
+    payload: &'a [u8],
+) -> Result<(), RowFault> {
+    let Some(view) = view_of(alloc, payload) else {
+        return Err(RowFault::Text);
+    };
+    let packages = view.packages();
+    for i in 0..packages.len() {
+        // Packages of the list count from 1.
+        pool.add_installed(packages.get(i + 1))?;
     }
-    Ok(pool.seal(world, upgrade)?)
+    Ok(())
 }
 
 // The view of a payload as an index; None if the payload fails a test.
@@ -280,25 +295,26 @@ fn add_answer_of_pool(
     pool: &Sealed<'_>,
     world: &World,
     query: Query<'_>,
-    text: &mut Vec<u8>,
+    text: &mut Bytes,
 ) -> Result<(), AllocError>
     requires { world.now ≡ pool.now.world }
 {
     match query.question {
         Question::Offers => add_candidates(alloc, pool, pool.offers(query.rest), text),
         Question::Options => match read_dep(query.rest) {
-            Some(dep) => add_options(alloc, pool, &Need::Entry(dep), text),
-            None => text.extend_from_slice(NO_ROW),
+            Some(dep) => return add_options(alloc, pool, &Need::Entry(dep), text),
+            None => text.push(NO_ROW),
         },
-        Question::Named => add_options(alloc, pool, &Need::Named(query.rest), text),
-        Question::Select => add_selection(alloc, pool, world, text),
+        Question::Named => return add_options(alloc, pool, &Need::Named(query.rest), text),
+        Question::Select => return add_selection(alloc, pool, world, text),
         Question::Count => match solve(alloc, pool, world)? {
             Some(trace) => add_number(alloc, trace.len() as u128, text),
-            None => text.extend_from_slice(b"none"),
+            None => text.push(b"none"),
         },
         // The question `candidates`.
         _ => add_number(alloc, pool.len() as u128, text),
     }
+    Ok(())
 }
 
 // Appends the candidates for a need (a dependency or a name that an install-if asks for), best
@@ -307,10 +323,11 @@ fn add_options(
     alloc: Global,
     pool: &Sealed<'_>,
     need: &Need<'_>,
-    text: &mut Vec<u8>,
+    text: &mut Bytes,
 ) -> Result<(), AllocError> {
     let options = pool.options(alloc, need)?.into_ids();
-    add_candidates(alloc, pool, &options, text)
+    add_candidates(alloc, pool, &options, text);
+    Ok(())
 }
 
 // Appends the candidates of the preferred selection in the order in which the solver chose them, or
@@ -319,73 +336,58 @@ fn add_selection(
     alloc: Global,
     pool: &Sealed<'_>,
     world: &World,
-    text: &mut Vec<u8>,
+    text: &mut Bytes,
 ) -> Result<(), AllocError>
     requires { world.now ≡ pool.now.world }
 {
     let Some(trace) = solve(alloc, pool, world)? else {
-        return text.extend_from_slice(b"none");
+        text.push(b"none");
+        return Ok(());
     };
     for i in 0..trace.len() {
-        add_candidate(alloc, pool, trace.get(i), text)?;
+        add_candidate(alloc, pool, trace.get(i), text);
     }
     Ok(())
 }
 
 // Appends these candidates, in their order.
-fn add_candidates(
-    alloc: Global,
-    pool: &Sealed<'_>,
-    ids: &[CandId],
-    text: &mut Vec<u8>,
-) -> Result<(), AllocError> {
+fn add_candidates(alloc: Global, pool: &Sealed<'_>, ids: &[CandId], text: &mut Bytes) {
     for id in ids {
-        add_candidate(alloc, pool, *id, text)?;
+        add_candidate(alloc, pool, *id, text);
     }
-    Ok(())
 }
 
 // Appends the name and the version of a candidate, and after `/` the number of its repository
 // unless the number is 1. The number 0 stands for an installed package that no repository has.
-fn add_candidate(
-    alloc: Global,
-    pool: &Sealed<'_>,
-    id: CandId,
-    text: &mut Vec<u8>,
-) -> Result<(), AllocError> {
-    if !text.is_empty() {
-        text.push(b' ')?;
+fn add_candidate(alloc: Global, pool: &Sealed<'_>, id: CandId, text: &mut Bytes) {
+    if !text.as_slice().is_empty() {
+        text.push(b" ");
     }
     // The pool has no candidate at this place; no question gives such a place.
     let Some(details) = pool.at(id) else {
-        return text.extend_from_slice(b"none of the pool");
+        return text.push(b"none of the pool");
     };
-    text.extend_from_slice(details.name())?;
-    text.push(b'-')?;
+    text.push(details.name());
+    text.push(b"-");
     if let Some(version) = details.version() {
-        text.extend_from_slice(version.text())?;
+        text.push(version.text());
     }
-    match details.repo() {
-        Some(1) => Ok(()),
-        number => {
-            text.extend_from_slice(b"/")?;
-            add_number(alloc, u128::from(number.unwrap_or(0)), text)
-        }
+    let number = details.repo().unwrap_or(0);
+    if number != 1 {
+        text.push_text(format!(in alloc; "/{number}"));
     }
 }
 
 // ---- texts
 
 // Appends the decimal digits of a number.
-fn add_number(alloc: Global, number: u128, text: &mut Vec<u8>) -> Result<(), AllocError> {
-    let digits = format!(in alloc; "{number}")?;
-    text.extend_from_slice(digits.as_bytes())
+fn add_number(alloc: Global, number: u128, text: &mut Bytes) {
+    text.push_text(format!(in alloc; "{number}"))
 }
 
 /// Appends these parts, one after another.
-pub(crate) fn add_parts(parts: &[&[u8]], text: &mut Vec<u8>) -> Result<(), AllocError> {
+pub(crate) fn add_parts(parts: &[&[u8]], text: &mut Bytes) {
     for part in parts {
-        text.extend_from_slice(part)?;
+        text.push(part);
     }
-    Ok(())
 }

@@ -8,6 +8,7 @@ mod package;
 mod row;
 mod rows;
 
+use row_lines::Bytes;
 use std::io;
 use std::io::{Read, Write};
 use std::process::ExitCode;
@@ -17,8 +18,8 @@ fn main(rt: HostRuntime) -> io::Result<ExitCode> {
     let alloc = rt.alloc();
     let mut text = Vec::new(alloc);
     rt.stdin().read_to_end(&mut text)?;
-    let mut report = Vec::new(alloc);
+    let mut report = Bytes::new(alloc);
     let passed = rows::run_rows(alloc, &text, &mut report)?;
-    rt.stdout().write_all(&report)?;
+    rt.stdout().write_all(&report.finish()?)?;
     Ok(ExitCode::from(if passed { 0 } else { 1 }))
 }

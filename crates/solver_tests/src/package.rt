@@ -47,17 +47,22 @@ const FIELDS: [(&[u8], (usize, Form)); 5] = [
 /// skipped. If the index exceeds a limit, the result is empty.
 pub(crate) fn index_payload(alloc: Global, text: &[u8]) -> Result<Vec<u8>, AllocError> {
     let mut writer = Writer::new(alloc);
-    let mut packages = Vec::new(alloc);
-    for part in text.split(|byte| *byte == b';') {
-        add_packages(alloc, &mut writer, &mut packages, part)?;
-    }
-    let list = writer.arr(packages.as_slice())?;
-    // The first field of an index, its description, is null.
-    let root = writer.obj(&[Val::of(0), list])?;
+    let root = index_value(alloc, &mut writer, text)?;
     match writer.finish(root) {
         Ok(payload) => Ok(payload),
         Err(_) => Ok(Vec::new(alloc)),
     }
+}
+
+// Writes the value of an index with the packages of a text.
+fn index_value(alloc: Global, writer: &mut Writer, text: &[u8]) -> Result<Val, AllocError> {
+    let mut packages = Vec::new(alloc);
+    for part in text.split(|byte| *byte == b';') {
+        add_packages(alloc, writer, &mut packages, part)?;
+    }
+    let list = writer.arr(packages.as_slice())?;
+    // The first field of an index, its description, is null.
+    writer.obj(&[Val::of(0), list])
 }
 
 // Adds the package of a text to a list, as often as the text says by `N*` at its start (else once).

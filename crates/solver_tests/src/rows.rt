@@ -2,16 +2,12 @@
 //! report. The README of this crate describes the lines of rows.
 use crate::answer::{add_parts, answer};
 use crate::row::{Row, number_of, split_word};
-use row_lines::value_named;
+use row_lines::{Bytes, value_named};
 use std::alloc::{AllocError, Global};
 
 /// Runs all rows of a text, and returns whether none failed. Adds a line to the report for each
 /// answer that is not the expected one, and a last line with counts.
-pub(crate) fn run_rows(
-    alloc: Global,
-    text: &[u8],
-    report: &mut Vec<u8>,
-) -> Result<bool, AllocError> {
+pub(crate) fn run_rows(alloc: Global, text: &[u8], report: &mut Bytes) -> Result<bool, AllocError> {
     let mut run = Run {
         alloc,
         row: Row::new(alloc, b""),
@@ -23,12 +19,11 @@ pub(crate) fn run_rows(
     for line in text.split(|byte| *byte == b'\n') {
         run.take_line(line, report)?;
     }
-    run.set_question(None, report)?;
-    let counts = format!(in alloc;
+    run.set_question(None, report);
+    report.push_text(format!(in alloc;
         "{} rows, {} answers, {} failed\n",
         run.rows, run.answers, run.failed
-    )?;
-    report.extend_from_slice(counts.as_bytes())?;
+    ));
     Ok(run.failed == 0)
 }
 
@@ -93,20 +88,21 @@ struct Run<'t> {
 
 impl<'t> Run<'t> {
     // Takes one line; its first word says what to do.
-    fn take_line(&mut self, line: &'t [u8], report: &mut Vec<u8>) -> Result<(), AllocError> {
+    fn take_line(&mut self, line: &'t [u8], report: &mut Bytes) -> Result<(), AllocError> {
         let (word, rest) = split_word(line);
         let Some(kind) = value_named(&LINES, word) else {
-            return self.fail(line, b"the line is no row's", report);
+            self.fail(line, b"the line is no row's", report);
+            return Ok(());
         };
         match kind {
             Line::Comment => {}
-            Line::Row => return self.begin_row(rest, report),
+            Line::Row => self.begin_row(rest, report),
             Line::Repository => return self.row.add_repository(self.alloc, rest),
             Line::Installed => return self.row.set_installed(self.alloc, rest),
             Line::World => self.row.world = rest,
             Line::Upgrade => self.row.upgraded = rest,
             Line::Times => self.row.times = number_of(rest),
-            Line::Question => return self.set_question(Some(rest), report),
+            Line::Question => self.set_question(Some(rest), report),
             Line::Expected => return self.end_question(Some(rest), report),
             Line::Printed => return self.end_question(None, report),
         }
@@ -114,26 +110,20 @@ impl<'t> Run<'t> {
     }
 
     // Begins a new row, whose name is the first word of its title.
-    fn begin_row(&mut self, title: &'t [u8], report: &mut Vec<u8>) -> Result<(), AllocError> {
-        self.set_question(None, report)?;
+    fn begin_row(&mut self, title: &'t [u8], report: &mut Bytes) {
+        self.set_question(None, report);
         let (name, _) = split_word(title);
         self.row = Row::new(self.alloc, name);
         self.rows = self.rows.saturating_add(1);
-        Ok(())
     }
 
     // Stores a question until the line with its expected answer; None where no question follows.
     // Reports the last question as a failure if no line with its expected answer followed it.
-    fn set_question(
-        &mut self,
-        next: Option<&'t [u8]>,
-        report: &mut Vec<u8>,
-    ) -> Result<(), AllocError> {
+    fn set_question(&mut self, next: Option<&'t [u8]>, report: &mut Bytes) {
         let last = self.query.take();
         self.query = next;
-        match last {
-            None => Ok(()),
-            Some(query) => self.fail(query, b"no answer is wanted", report),
+        if let Some(query) = last {
+            self.fail(query, b"no answer is wanted", report);
         }
     }
 
@@ -142,22 +132,24 @@ impl<'t> Run<'t> {
     fn end_question(
         &mut self,
         wanted: Option<&[u8]>,
-        report: &mut Vec<u8>,
+        report: &mut Bytes,
     ) -> Result<(), AllocError> {
         let Some(query) = self.query.take() else {
-            return self.fail(wanted.unwrap_or(b"?"), b"nothing is asked", report);
+            self.fail(wanted.unwrap_or(b"?"), b"nothing is asked", report);
+            return Ok(());
         };
         self.answers = self.answers.saturating_add(1);
         let found = answer(self.alloc, &self.row, query)?;
         match wanted {
             None => add_parts(&[self.row.name, b": ", query, b": ", &found, b"\n"], report),
-            Some(wanted) if wanted == found.as_slice() => Ok(()),
+            Some(wanted) if wanted == found.as_slice() => {}
             Some(_) => self.fail(query, &found, report),
         }
+        Ok(())
     }
 
     // Appends a failure to the report: the question or the line that failed, and why. Counts it.
-    fn fail(&mut self, what: &[u8], why: &[u8], report: &mut Vec<u8>) -> Result<(), AllocError> {
+    fn fail(&mut self, what: &[u8], why: &[u8], report: &mut Bytes) {
         self.failed = self.failed.saturating_add(1);
         add_parts(
             &[b"FAILED ", self.row.name, b": ", what, b": ", why, b"\n"],

@@ -2,17 +2,22 @@
 //! result as a line. The tests are in `docs/formats.md`, "Tests of a container", and the printed
 //! text in "Dump text".
 
+ghost use Rattle.std.specs.Prelude.{◌≡◌, IfOk};
+ghost use Rattle.adb_view.specs.ShapedPayload.{table_of};
+
 use crate::damage::tally::{AnswerKind, kind_of};
+use crate::package_tree::PackageTree;
 use adb_block::Blocks;
 use adb_dump::dump;
-use adb_schema::{ReadFault, Shaped, shape};
+use adb_schema::{ReadFault, Shaped, Which, shape};
 use adb_view::Adb;
-use base_core::{Cause, Name, Text, TreeFault};
+use base_core::{Cause, Text, TreeFault};
 use package_verifier::{PackageTest, test_package};
 use pkg_core::{PackageFault, table_of_schema, verify};
 use report_core::{Refusal, write_error};
+use row_lines::Bytes;
 use std::alloc::{AllocError, Global};
-use tree_memory::{MemorySink, MemoryTree};
+use tree_memory::MemorySink;
 
 /// The ways to test a file.
 #[derive(Clone, Copy)]
@@ -33,34 +38,35 @@ impl Test {
         self,
         alloc: Global,
         file: &[u8],
-        line: &mut Vec<u8>,
+        line: &mut Bytes,
     ) -> Result<AnswerKind, AllocError> {
         let fault = match self {
             Test::Whole => fault_of(alloc, file),
             Test::Pieces => fault_in_pieces(alloc, file),
-            Test::Dump => match text_of(alloc, file) {
-                Ok(text) => {
-                    line.extend_from_slice(text.as_bytes())?;
-                    line.push(b'\n')?;
-                    return Ok(AnswerKind::Sound);
-                }
-                Err(ReadFault::Bad(cause)) => Ok(Some(cause)),
-                Err(ReadFault::Memory) => Err(AllocError),
-            },
+            Test::Dump => add_dump(alloc, file, line),
         };
         let Some(cause) = fault? else {
-            line.extend_from_slice(b"sound\n")?;
+            line.push(match self {
+                Test::Dump => b"\n",
+                _ => b"sound\n",
+            });
             return Ok(AnswerKind::Sound);
         };
-        // The text of a cause is that which `apk verify` prints for its first argument, but without
-        // `ERROR: word 1: ` before it.
-        let mut page = MemorySink::new(alloc);
-        if write_error(&Refusal::FileBad { place: 1, cause }, &mut page).is_err() {
-            return Err(AllocError);
-        }
-        let text = page.bytes();
-        line.extend_from_slice(text.strip_prefix(b"ERROR: word 1: ").unwrap_or(text))?;
+        add_cause(alloc, cause, line);
         Ok(kind_of(cause))
+    }
+}
+
+/// Adds the text of a cause, and a line end. It is the text that `apk verify` prints for its first
+/// argument, but without `ERROR: word 1: ` before it.
+fn add_cause(alloc: Global, cause: Cause, line: &mut Bytes) {
+    let mut page = MemorySink::new(alloc);
+    match write_error(&Refusal::FileBad { place: 1, cause }, &mut page) {
+        Ok(()) => {
+            let text = page.bytes();
+            line.push(text.strip_prefix(b"ERROR: word 1: ").unwrap_or(text))
+        }
+        Err(_) => line.push_made(Err(AllocError)),
     }
 }
 
@@ -73,23 +79,33 @@ fn fault_of(alloc: Global, file: &[u8]) -> Result<Option<Cause>, AllocError> {
     }
 }
 
-/// The cause of the first failed test of a file in a tree, where it has the name `p`, or None if no
-/// test fails. A package is read in pieces.
+/// The cause of the first failed test of a file in a tree, or None if no test fails. A package is
+/// read in pieces.
 fn fault_in_pieces(alloc: Global, file: &[u8]) -> Result<Option<Cause>, AllocError> {
-    let Some(name) = Name::read(alloc, b"p")? else {
-        return Err(AllocError);
-    };
-    let mut tree = MemoryTree::new(alloc);
-    if tree.can_put(&name) {
-        tree.put(&name, file)?;
-    }
-    match test_package(alloc, &mut tree, &name) {
+    match test_in_tree(alloc, file) {
         Ok(PackageTest::Sound) => Ok(None),
         Ok(PackageTest::Bad(cause)) => Ok(Some(cause)),
         Ok(PackageTest::OtherSchema) => fault_of(alloc, file),
-        // Not reached, as the tree has the file.
-        Ok(PackageTest::Absent) => Err(AllocError),
-        Err(TreeFault::Disk | TreeFault::Memory) => Err(AllocError),
+        // There is no `Absent`, as the tree has the file.
+        Ok(PackageTest::Absent) | Err(_) => Err(AllocError),
+    }
+}
+
+/// Tests a file in a tree as a package.
+fn test_in_tree(alloc: Global, file: &[u8]) -> Result<PackageTest, TreeFault> {
+    let mut package = PackageTree::new(alloc, file)?;
+    test_package(alloc, &mut package.tree, &package.name)
+}
+
+/// Adds the dump text of a container to `line`, or returns the cause of its first failed test.
+fn add_dump(alloc: Global, file: &[u8], line: &mut Bytes) -> Result<Option<Cause>, AllocError> {
+    match text_of(alloc, file) {
+        Ok(text) => {
+            line.push(text.as_bytes());
+            Ok(None)
+        }
+        Err(ReadFault::Bad(cause)) => Ok(Some(cause)),
+        Err(ReadFault::Memory) => Err(AllocError),
     }
 }
 
@@ -100,16 +116,25 @@ fn text_of(alloc: Global, file: &[u8]) -> Result<Text, ReadFault> {
     let Some(which) = table_of_schema(found) else {
         return Err(ReadFault::Bad(Cause::WrongSchema { found }));
     };
+    let values = values_in(&mut blocks, which)?;
+    Ok(dump(alloc, &values)?)
+}
+
+/// The values in the first block of a container, or the first failed test. Of the blocks after the
+/// first one, the kinds and the lengths in their headers are tested.
+fn values_in<'a>(blocks: &mut Blocks<'a>, which: Which) -> Result<Shaped<'a>, ReadFault>
+    // The values were tested by the table `which`.
+    ensures { IfOk result (λ values. table_of values ≡ which) }
+{
     let Some(block) = blocks.next()? else {
         return Err(ReadFault::Memory);
     };
-    let shaped: Shaped<'_> = shape(Adb::new(block.payload)?, which)?;
-    // Of the blocks after the first one, the kinds and the lengths in their headers are tested. The
-    // loop has a bound that is never reached, since no file has so many blocks.
+    let values = shape(Adb::new(block.payload)?, which)?;
+    // The loop has a bound that is never reached, since no file has so many blocks.
     for _ in 0..u64::MAX {
         if blocks.next()?.is_none() {
             break;
         }
     }
-    Ok(dump(alloc, &shaped)?)
+    Ok(values)
 }

@@ -3,7 +3,7 @@
 
 use crate::damage::reading::Test;
 use base_core::Cause;
-use row_lines::Answer;
+use row_lines::{Answer, Bytes};
 use sha2::{Digest, Sha256};
 use std::alloc::{AllocError, Global};
 
@@ -102,9 +102,10 @@ impl Tally {
         start: Result<String, AllocError>,
         file: &[u8],
     ) -> Result<(), AllocError> {
-        let mut line = start?.into_bytes();
+        let mut line = Bytes::new(alloc);
+        line.push_text(start);
         let kind = test.read(alloc, file, &mut line)? as usize;
-        self.digest.update(&line);
+        self.digest.update(&line.finish()?);
         self.counts[kind] = self.counts[kind].saturating_add(1);
         Ok(())
     }

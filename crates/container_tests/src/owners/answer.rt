@@ -1,7 +1,8 @@
 //! The answer to the question `owners`: who owns the files of the added packages, as text. The
 //! rules are in `docs/commands.md`, "Files that several packages list".
 
-use crate::members::{add_coming, front_of};
+use crate::flags::add_flags;
+use crate::members::add_all_coming;
 use adb_schema::FilePath;
 use db_core::{Db, MOST_MEMBERS, Members};
 use file_owners::{Owners, owners_of_files};
@@ -9,50 +10,27 @@ use pkg_core::Front;
 use row_lines::Answer;
 use std::alloc::{AllocError, Global};
 
-/// Adds to the answer who owns the files of the packages in these containers, or why this cannot be
+/// Adds to the answer who owns the files of the packages with these fronts, or why this cannot be
 /// asked. The change adds all these packages, and no package is installed before it.
-pub(crate) fn add_owners(
+pub(crate) fn add_owners<'a>(
     alloc: Global,
-    containers: &[Vec<u8>],
-    answer: &mut Answer,
-) -> Result<(), AllocError> {
-    // The fronts (headers and first blocks) of the packages.
-    let mut fronts = Vec::new(alloc);
-    for container in containers {
-        let Some(front) = front_of(alloc, container)? else {
-            answer.push(b"a package is bad");
-            return Ok(());
-        };
-        fronts.push(front)?;
-    }
-    add_owners_of(alloc, &fronts, answer)
-}
-
-/// Does what `add_owners` does, given the fronts of the packages.
-fn add_owners_of<'a>(
-    alloc: Global,
-    fronts: &'a [Front],
+    fronts: &'a [Option<Front>],
     answer: &mut Answer,
 ) -> Result<(), AllocError> {
     add_owners_beside(alloc, &Db::empty(alloc), fronts, answer)
 }
 
-/// Does what `add_owners` does, given the database before the change, of which no package is kept,
-/// and the fronts of the added packages.
+/// Does what `add_owners` does, given the database before the change, of which no package is kept.
 fn add_owners_beside<'a>(
     alloc: Global,
     db: &Db<'a>,
-    fronts: &'a [Front],
+    fronts: &'a [Option<Front>],
     answer: &mut Answer,
 ) -> Result<(), AllocError> {
     let mut members = Members::new(alloc, db);
-    for front in fronts {
-        if !add_coming(alloc, &mut members, front)? {
-            answer.push(b"a package is bad or not in order");
-            return Ok(());
-        }
-    }
-    if members.len() <= MOST_MEMBERS {
+    if !add_all_coming(alloc, &mut members, fronts)? {
+        answer.push(b"a package is bad or not in order");
+    } else if members.len() <= MOST_MEMBERS {
         add_found(&owners_of_files(alloc, &members)?, answer);
     }
     Ok(())
@@ -68,24 +46,27 @@ fn add_found(found: &Owners<'_>, answer: &mut Answer) {
         // paths, so claims of one path are adjacent. The path is added at the first of them.
         let is_first = i == 0 || !found.claims[i - 1].path.compare(path).is_eq();
         if is_first && i < found.owners.len() {
-            add_path(path, answer);
-            answer.push(b"=");
-            match found.owners[i] {
-                Some(place) => answer.add_number(u128::from(place)),
-                None => answer.push(b"?"),
-            }
+            add_owner(path, found.owners[i], answer);
         }
     }
     answer.add_word(b"");
-    for owned in &found.owned {
-        answer.push(if *owned { b"1" } else { b"0" });
-    }
+    add_flags(&found.owned, answer);
     if let Some(contested) = &found.contested {
         add_path(&contested.path, answer);
         answer.push(b":");
         answer.add_number(u128::from(contested.rivals.first));
         answer.push(b",");
         answer.add_number(u128::from(contested.rivals.second));
+    }
+}
+
+/// Adds a path, and the index of the package that owns it.
+fn add_owner(path: &FilePath<'_>, owner: Option<u32>, answer: &mut Answer) {
+    add_path(path, answer);
+    answer.push(b"=");
+    match owner {
+        Some(place) => answer.add_number(u128::from(place)),
+        None => answer.push(b"?"),
     }
 }
 

@@ -3,6 +3,7 @@
 
 ghost use Rattle.std.specs.Prelude.{◌<◌, ◌^◌, length};
 
+use row_lines::Bytes;
 use sha1::Sha1;
 use sha2::Digest;
 use std::alloc::{AllocError, Global};
@@ -40,11 +41,19 @@ pub(crate) fn positions(folder: u32, file: u32) -> [u8; 8] {
     (u64::from(file) << 32 | u64::from(folder)).to_le_bytes()
 }
 
+/// Sets the byte at this offset to 255, which is no byte of a file. Shorter bytes stay as they are.
+pub(crate) fn spoil(bytes: &mut [u8], at: usize) {
+    if at < bytes.len() {
+        bytes[at] = 255;
+    }
+}
+
 /// The container of a package with files of these sizes in one folder, and with this flaw.
 pub(crate) fn package_of(alloc: Global, sizes: &[u32], flaw: Flaw) -> Result<Vec<u8>, AllocError> {
-    let mut file = b"ADB.pckg".to_vec(alloc)?;
+    let mut file = Bytes::new(alloc);
+    file.push(b"ADB.pckg");
     // Kind 0: the block of the values.
-    add_block(&mut file, 0, &payload_of(alloc, sizes)?)?;
+    add_block(&mut file, 0, &payload_of(alloc, sizes)?);
     for i in 0..sizes.len() {
         if sizes[i] > 0 {
             // Only the last file has the flaw.
@@ -54,10 +63,10 @@ pub(crate) fn package_of(alloc: Global, sizes: &[u32], flaw: Flaw) -> Result<Vec
                 Flaw::None
             };
             // Kind 2: a block of contents. An empty file has none.
-            add_block(&mut file, 2, &contents_of(alloc, sizes, i, flaw)?)?;
+            add_block(&mut file, 2, &contents_of(alloc, sizes, i, flaw)?);
         }
     }
-    Ok(file)
+    file.finish()
 }
 
 /// The payload of the block with the contents of the file with the index `i`, counted from 0, with
@@ -75,13 +84,8 @@ fn contents_of(alloc: Global, sizes: &[u32], i: usize, flaw: Flaw) -> Result<Vec
     let mut payload = positions(1, low_word(i) + 1).to_vec(alloc)?;
     payload.extend_from_slice(&bytes_of(alloc, sizes[i])?)?;
     match flaw {
-        Flaw::Spoiled(at) => {
-            // The positions are eight bytes.
-            let at = at.saturating_add(8);
-            if at < payload.len() {
-                payload[at] = 255;
-            }
-        }
+        // The positions are eight bytes.
+        Flaw::Spoiled(at) => spoil(&mut payload, at.saturating_add(8)),
         Flaw::Shortened(len) => payload.truncate(len),
         Flaw::None | Flaw::Repeated => {}
     }
@@ -92,33 +96,10 @@ fn contents_of(alloc: Global, sizes: &[u32], i: usize, flaw: Flaw) -> Result<Vec
 /// `INFO`, in which the object at offset 12 is the package's information. The top four bits of a
 /// word are its kind: 0x1 for a number, 0x8 for a blob, 0xd for an array, 0xe for an object.
 pub(crate) fn payload_of(alloc: Global, sizes: &[u32]) -> Result<Vec<u8>, AllocError> {
-    let mut payload = INFO.to_vec(alloc)?;
-    let mut files = Vec::new(alloc);
-    let mut letter = b'a';
-    for size in sizes {
-        let hash = Sha1::digest(&bytes_of(alloc, *size)?);
-        // Two blobs: the name of the file, and its digest of 20 bytes. A blob begins with its
-        // length, which is one byte.
-        let name = low_word(payload.len());
-        payload.extend_from_slice(&[1, letter, 20])?;
-        payload.extend_from_slice(&hash)?;
-        // The fields: name, access list, size, time and hash.
-        let words = [
-            0x8000_0000 | name,
-            0,
-            0x1000_0000 | *size,
-            0,
-            0x8000_0000 | (name + 2),
-        ];
-        files.push(0xe000_0000 | add_words(&mut payload, &words)?)?;
-        letter = letter.wrapping_add(1);
-    }
-    // From here on, the names are offsets: of the array of files, the folder, the array of folders,
-    // and the root.
-    let files = add_words(&mut payload, &files)?;
-    let folder = add_words(&mut payload, &[0, 0, 0xd000_0000 | files])?;
-    let folders = add_words(&mut payload, &[0xe000_0000 | folder])?;
-    let root = add_words(&mut payload, &[0xe000_000c, 0xd000_0000 | folders])?;
+    let mut values = Bytes::new(alloc);
+    values.push(INFO);
+    let root = add_root(alloc, sizes, &mut values)?;
+    let mut payload = values.finish()?;
     // The word of the root is in the bytes 4 to 7.
     if payload.len() >= 8 {
         payload[4..8].copy_from_slice(&(0xe000_0000 | root).to_le_bytes());
@@ -126,18 +107,56 @@ pub(crate) fn payload_of(alloc: Global, sizes: &[u32]) -> Result<Vec<u8>, AllocE
     Ok(payload)
 }
 
+/// Adds the files of these sizes, their folder, and the object of the package, which is the root.
+/// Returns the offset of the root.
+fn add_root(alloc: Global, sizes: &[u32], payload: &mut Bytes) -> Result<u32, AllocError> {
+    // The words of the files.
+    let mut files = Vec::new(alloc);
+    let mut letter = b'a';
+    for size in sizes {
+        let hash = Sha1::digest(&bytes_of(alloc, *size)?);
+        files.push(0xe000_0000 | add_file(payload, letter, *size, &hash))?;
+        letter = letter.wrapping_add(1);
+    }
+    // From here on, the names are offsets: of the array of files, the folder, and the array of
+    // folders.
+    let files = add_words(payload, &files);
+    let folder = add_words(payload, &[0, 0, 0xd000_0000 | files]);
+    let folders = add_words(payload, &[0xe000_0000 | folder]);
+    Ok(add_words(payload, &[0xe000_000c, 0xd000_0000 | folders]))
+}
+
+/// Adds a file whose name is one letter, with its size and its digest of 20 bytes. Returns the
+/// offset of its object.
+fn add_file(payload: &mut Bytes, letter: u8, size: u32, hash: &[u8]) -> u32 {
+    let name = low_word(payload.as_slice().len());
+    // Two blobs: the name of the file, and its digest. A blob begins with its length, which is one
+    // byte.
+    payload.push(&[1, letter, 20]);
+    payload.push(hash);
+    // The fields: name, access list, size, time and hash.
+    let words = [
+        0x8000_0000 | name,
+        0,
+        0x1000_0000 | size,
+        0,
+        0x8000_0000 | (name + 2),
+    ];
+    add_words(payload, &words)
+}
+
 /// Adds the object or the array of these words, at an offset that is a multiple of four, and
 /// returns the offset. Before the words is their number and 1.
-fn add_words(payload: &mut Vec<u8>, words: &[u32]) -> Result<u32, AllocError> {
-    for _ in 0..(4 - payload.len() % 4) % 4 {
-        payload.push(0)?;
+fn add_words(payload: &mut Bytes, words: &[u32]) -> u32 {
+    for _ in 0..(4 - payload.as_slice().len() % 4) % 4 {
+        payload.push(&[0]);
     }
-    let at = low_word(payload.len());
-    payload.extend_from_slice(&low_word(words.len().saturating_add(1)).to_le_bytes())?;
+    let at = low_word(payload.as_slice().len());
+    payload.push(&low_word(words.len().saturating_add(1)).to_le_bytes());
     for word in words {
-        payload.extend_from_slice(&word.to_le_bytes())?;
+        payload.push(&word.to_le_bytes());
     }
-    Ok(at)
+    at
 }
 
 /// The low 28 bits of a number, which are the offset in a word of a payload.
@@ -150,13 +169,12 @@ pub(crate) fn low_word(number: usize) -> u32
 
 /// Adds a block of the kind of this number (0 is values, 2 contents), and pads it to a multiple of
 /// eight bytes.
-fn add_block(file: &mut Vec<u8>, kind: u32, payload: &[u8]) -> Result<(), AllocError> {
+fn add_block(file: &mut Bytes, kind: u32, payload: &[u8]) {
     // The header of a block has the block's kind and length; the header itself is four bytes.
     let raw = low_word(payload.len()) + 4;
-    file.extend_from_slice(&(kind << 30 | raw).to_le_bytes())?;
-    file.extend_from_slice(payload)?;
+    file.push(&(kind << 30 | raw).to_le_bytes());
+    file.push(payload);
     for _ in 0..(8 - raw % 8) % 8 {
-        file.push(0)?;
+        file.push(&[0]);
     }
-    Ok(())
 }

@@ -1,14 +1,15 @@
 //! Packages in a tree: their fronts (headers and first blocks), and their files, which are read in
 //! pieces. The tests are in `docs/formats.md`, "The other blocks", the last list.
 
+use crate::package_tree::PackageTree;
 use crate::pieces::made::{Flaw, low_word, package_of};
 use crate::pieces::{add_formatted, cause_text, part_text, small_number};
 use adb_schema::PACKAGE_WORD;
-use base_core::{Name, TreeFault, Words};
+use base_core::{TreeFault, Words};
 use package_reader::{FilePieces, Piece, PieceFault, PieceReader};
-use package_verifier::{PackageRead, read_package};
-use pkg_core::{Contents, FrontFault, PackageFault, read_front};
-use row_lines::{Answer, word_at};
+use package_verifier::{PackageRead, TestedPackage, read_package};
+use pkg_core::{Contents, Front, FrontFault, PackageFault, read_front};
+use row_lines::{Answer, Bytes, word_at};
 use std::alloc::{AllocError, Global};
 use tree_memory::MemoryTree;
 
@@ -89,18 +90,25 @@ pub(crate) fn add_cuts(
     answer: &mut Answer,
 ) -> Result<(), AllocError> {
     // The result for the length before.
-    let mut last = String::new(alloc);
+    let mut last = Vec::new(alloc);
     for len in first..=file.len() {
-        let (mut tree, name) = tree_with(alloc, &file[..len])?;
-        let found = package_text(alloc, &mut tree, &name, reading)?;
+        let found = result_of(alloc, &file[..len], reading)?;
         if found != last {
             answer.add_word(b"from ");
             answer.add_number(len as u128);
-            answer.add_word(found.as_bytes());
+            answer.add_word(&found);
         }
         last = found;
     }
     Ok(())
+}
+
+/// The result of reading a package of these bytes, as a text.
+fn result_of(alloc: Global, file: &[u8], reading: Reading) -> Result<Vec<u8>, AllocError> {
+    let mut package = PackageTree::new(alloc, file)?;
+    let mut text = Bytes::new(alloc);
+    add_package(alloc, &mut package, reading, &mut text);
+    text.finish()
 }
 
 /// Adds to `answer` the result of reading the package in `file`, and then, if the question asks for
@@ -113,20 +121,21 @@ fn add_readings(
     file: &[u8],
     answer: &mut Answer,
 ) -> Result<(), AllocError> {
-    let (mut tree, name) = tree_with(alloc, file)?;
+    let mut package = PackageTree::new(alloc, file)?;
     let reading = match asked {
         Asked::Read => Reading::CountedPieces,
         _ => Reading::Pieces,
     };
-    let text = package_text(alloc, &mut tree, &name, reading)?;
-    answer.push(text.as_bytes());
+    let mut text = Bytes::new(alloc);
+    add_package(alloc, &mut package, reading, &mut text);
+    answer.push(&text.finish()?);
     let files = low_word(sizes.len());
     match asked {
         // The file that is read again first does not exist.
-        Asked::Back => add_again(alloc, &mut tree, &name, None, files + 1, answer),
+        Asked::Back => add_again(alloc, &mut package, None, files + 1, answer),
         Asked::Change => {
             let changed = package_of(alloc, sizes, Flaw::Spoiled(number))?;
-            add_again(alloc, &mut tree, &name, Some(&changed), files, answer)
+            add_again(alloc, &mut package, Some(&changed), files, answer)
         }
         _ => Ok(()),
     }
@@ -134,84 +143,72 @@ fn add_readings(
 
 // ---- a package in a tree
 
-/// A tree with a package of these bytes, and the name of the package in the tree.
-fn tree_with(alloc: Global, file: &[u8]) -> Result<(MemoryTree, Name), AllocError> {
-    let Some(name) = Name::read(alloc, b"p")? else {
-        return Err(AllocError);
-    };
-    let mut tree = MemoryTree::new(alloc);
-    if tree.can_put(&name) {
-        tree.put(&name, file)?;
-    }
-    Ok((tree, name))
-}
-
-/// The result of reading the package under this name in the tree, as a text.
-fn package_text(
-    alloc: Global,
-    tree: &mut MemoryTree,
-    name: &Name,
-    reading: Reading,
-) -> Result<String, AllocError> {
-    let front = match read_front(alloc, tree, name, PACKAGE_WORD) {
-        Ok(Some(front)) => front,
-        Err(FrontFault::Bad(cause)) => return cause_text(alloc, cause),
+/// Adds to `text` the result of reading the package.
+fn add_package(alloc: Global, package: &mut PackageTree, reading: Reading, text: &mut Bytes) {
+    match read_front(alloc, &mut package.tree, &package.name, PACKAGE_WORD) {
+        Ok(Some(front)) => add_contents(alloc, package, &front, reading, text),
+        Err(FrontFault::Bad(cause)) => text.push_text(cause_text(alloc, cause)),
         // Not reached, as the tree has the file and does not fail.
-        Ok(None) | Err(FrontFault::Disk) => return format!(in alloc; "a fault"),
-        Err(FrontFault::Memory) => return Err(AllocError),
-    };
-    let contents = match Contents::new(alloc, &front) {
-        Ok(contents) => contents,
-        Err(PackageFault::Bad(cause)) => return cause_text(alloc, cause),
-        Err(PackageFault::Memory) => return Err(AllocError),
-    };
-    // The number of calls on the tree so far.
-    let calls = tree.calls();
-    let mut reader = PieceReader::new(&front, &contents, name);
-    match reading {
-        Reading::Front => {
-            let folders = contents.view().paths().len();
-            format!(in alloc; "a package with folders: {folders}")
-        }
-        Reading::Pieces => pieces_text(alloc, tree, &mut reader),
-        Reading::CountedPieces => {
-            let pieces = pieces_text(alloc, tree, &mut reader)?;
-            let calls = tree.calls().saturating_sub(calls);
-            let longest = tree.longest_read();
-            format!(in alloc; "{pieces} calls {calls} longest {longest}")
-        }
+        Ok(None) | Err(FrontFault::Disk) => text.push(b"a fault"),
+        Err(FrontFault::Memory) => text.push_made(Err(AllocError)),
     }
 }
 
-/// All pieces that are left, and `end` if the end was reached. After a fault, one more call is
-/// made, and the text has its result too.
-fn pieces_text(
+/// Adds to `text` the result of reading the package that has this front.
+fn add_contents(
+    alloc: Global,
+    package: &mut PackageTree,
+    front: &Front,
+    reading: Reading,
+    text: &mut Bytes,
+) {
+    let contents = match Contents::new(alloc, front) {
+        Ok(contents) => contents,
+        Err(PackageFault::Bad(cause)) => return text.push_text(cause_text(alloc, cause)),
+        Err(PackageFault::Memory) => return text.push_made(Err(AllocError)),
+    };
+    if let Reading::Front = reading {
+        let folders = contents.view().paths().len();
+        return text.push_text(format!(in alloc; "a package with folders: {folders}"));
+    }
+    // The number of calls on the tree so far.
+    let calls = package.tree.calls();
+    let mut reader = PieceReader::new(front, &contents, &package.name);
+    add_pieces(alloc, &mut package.tree, &mut reader, text);
+    if let Reading::CountedPieces = reading {
+        let calls = package.tree.calls().saturating_sub(calls);
+        let longest = package.tree.longest_read();
+        text.push_text(format!(in alloc; " calls {calls} longest {longest}"));
+    }
+}
+
+/// Adds to `text` all pieces that are left, and `end` if the end was reached. After a fault, one
+/// more call is made, and its result is added too.
+fn add_pieces(
     alloc: Global,
     tree: &mut MemoryTree,
     reader: &mut PieceReader<'_>,
-) -> Result<String, AllocError> {
-    let mut text = String::new(alloc);
+    text: &mut Bytes,
+) {
     let mut piece = Piece::new();
     // Whether a call had a fault before.
     let mut faulty = false;
     for _ in 0..MOST {
-        let step = reader.next_piece(tree, &mut piece);
-        let found: Result<String, AllocError> = match step {
-            Ok(Some(part)) => part_text(alloc, part, piece.bytes().len()),
-            Ok(None) => format!(in alloc; "end"),
-            Err(fault) => fault_text(alloc, fault),
-        };
-        if !text.is_empty() {
-            text.push_str(" ")?;
+        if !text.as_slice().is_empty() {
+            text.push(b" ");
         }
-        text.push_str(&found?)?;
-        match step {
-            Ok(Some(_)) => {}
-            Err(_) if !faulty => faulty = true,
-            _ => break,
+        match reader.next_piece(tree, &mut piece) {
+            Ok(Some(part)) => text.push_text(part_text(alloc, part, piece.bytes().len())),
+            Ok(None) => return text.push(b"end"),
+            Err(fault) => {
+                text.push_text(fault_text(alloc, fault));
+                if faulty {
+                    return;
+                }
+                faulty = true;
+            }
         }
     }
-    Ok(text)
 }
 
 /// Tests the package, and replaces it by `changed`, if these bytes are given. Then adds to `answer`
@@ -219,30 +216,35 @@ fn pieces_text(
 /// a fault.
 fn add_again(
     alloc: Global,
-    tree: &mut MemoryTree,
-    name: &Name,
+    package: &mut PackageTree,
     changed: Option<&[u8]>,
     back: u32,
     answer: &mut Answer,
 ) -> Result<(), AllocError> {
-    let package = match read_package(alloc, tree, name) {
-        Ok(PackageRead::Sound(package)) => package,
-        Ok(PackageRead::Bad(cause)) => {
-            add_formatted(answer, cause_text(alloc, cause));
-            return Ok(());
+    match read_package(alloc, &mut package.tree, &package.name) {
+        Ok(PackageRead::Sound(tested)) => {
+            if let Some(bytes) = changed {
+                package.put(bytes)?;
+            }
+            add_files(alloc, &mut package.tree, &tested, back, answer);
         }
+        Ok(PackageRead::Bad(cause)) => add_formatted(answer, cause_text(alloc, cause)),
         // Not reached, as the tree has the file and does not fail.
-        Ok(PackageRead::Absent) | Err(TreeFault::Disk) => {
-            answer.add_word(b"a fault");
-            return Ok(());
-        }
+        Ok(PackageRead::Absent) | Err(TreeFault::Disk) => answer.add_word(b"a fault"),
         Err(TreeFault::Memory) => return Err(AllocError),
-    };
-    if let Some(bytes) = changed {
-        if tree.can_put(name) {
-            tree.put(name, bytes)?;
-        }
     }
+    Ok(())
+}
+
+/// Adds to `answer` the lengths of the pieces of the files of a package, from the position `back`
+/// to the first, until a file has a fault.
+fn add_files(
+    alloc: Global,
+    tree: &mut MemoryTree,
+    package: &TestedPackage,
+    back: u32,
+    answer: &mut Answer,
+) {
     for i in 0..back {
         // All files are in folder 1, and count from 1.
         let mut file = package.file(1, back - i);
@@ -250,7 +252,6 @@ fn add_again(
             break;
         }
     }
-    Ok(())
 }
 
 /// Adds to `answer` the lengths of the pieces of a file, and returns whether the end was reached.

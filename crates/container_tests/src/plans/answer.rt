@@ -1,8 +1,9 @@
 //! The text of a plan of files, and of the fault if a change has no plan, in answers.
 //! `tests/lines.md` describes this text under `plan`.
 
+use crate::flags::add_flags;
 use base_core::Names;
-use own_core::{FilePlan, PlanFault};
+use own_core::{FilePlan, PlanFault, Write};
 use row_lines::Answer;
 use std::alloc::AllocError;
 
@@ -14,22 +15,23 @@ pub(crate) fn add_files(plan: &FilePlan, answer: &mut Answer) {
     add_names(b"-", plan.removals(), answer);
     let writes = plan.writes();
     for i in 0..writes.len() {
-        // The index of the member, and the positions of the folder and of the file in it.
-        let write = writes.get(i);
-        answer.add_word(b"+");
-        answer.push(write.name.as_bytes());
-        answer.push(b":");
-        answer.add_number(u128::from(write.member));
-        answer.push(b".");
-        answer.add_number(u128::from(write.path));
-        answer.push(b".");
-        answer.add_number(u128::from(write.file));
+        add_write(writes.get(i), answer);
     }
     add_names(b"~", plan.aside(), answer);
     add_names(b"=", plan.kept(), answer);
     answer.add_word(b"owned:");
-    for flag in plan.owned().as_slice() {
-        answer.push(if *flag { b"1" } else { b"0" });
+    add_flags(plan.owned().as_slice(), answer);
+}
+
+/// Adds a written name, with the index of its member, and the positions of the folder and of the
+/// file in the member.
+fn add_write(write: &Write, answer: &mut Answer) {
+    answer.add_word(b"+");
+    answer.push(write.name.as_bytes());
+    let numbers = [(b":", write.member), (b".", write.path), (b".", write.file)];
+    for (mark, number) in numbers {
+        answer.push(mark);
+        answer.add_number(u128::from(number));
     }
 }
 
@@ -41,8 +43,9 @@ fn add_names(prefix: &[u8], names: &Names, answer: &mut Answer) {
     }
 }
 
-/// Adds the text of the fault by which a change has no plan. Out of memory gives no text.
-pub(crate) fn add_fault(fault: PlanFault, answer: &mut Answer) -> Result<(), AllocError> {
+/// Adds the text of the fault by which a change has no plan. Out of memory gives no text: the
+/// answer fails.
+pub(crate) fn add_fault(fault: &PlanFault, answer: &mut Answer) {
     match fault {
         PlanFault::Reserved { path } => {
             answer.add_word(b"reserved");
@@ -64,7 +67,6 @@ pub(crate) fn add_fault(fault: PlanFault, answer: &mut Answer) -> Result<(), All
             answer.add_word(second.as_bytes());
         }
         PlanFault::Disk => answer.add_word(b"the tree failed"),
-        PlanFault::Memory => return Err(AllocError),
+        PlanFault::Memory => answer.add_text(Err(AllocError)),
     }
-    Ok(())
 }

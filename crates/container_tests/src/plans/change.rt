@@ -1,7 +1,7 @@
 //! Changes of packages, which are described by rows, and the plans of their files. `tests/lines.md`
 //! describes how a row gives a package; the rules of plans are in `docs/commands.md`, "What a
 //! change does with files".
-use crate::members::{add_coming, add_installed};
+use crate::members::{add_coming, add_installed, front_of_row};
 use crate::package::database_file;
 use crate::plans::answer::{add_fault, add_files};
 use adb_schema::ReadFault;
@@ -9,7 +9,7 @@ use base_core::Words;
 use db_core::{Db, Members, write_db};
 use own_core::plan;
 use pkg_core::Front;
-use row_lines::Answer;
+use row_lines::{Answer, words_behind};
 use std::alloc::{AllocError, Global};
 use tree_memory::MemoryTree;
 
@@ -17,19 +17,49 @@ use tree_memory::MemoryTree;
 #[derive(Drop)]
 pub(crate) struct ToldChange {
     /// The installed packages before the change, each as the words of its row.
-    pub before: Vec<Words>,
+    before: Vec<Words>,
     /// The packages after the change.
-    pub after: Vec<PackageAfter>,
+    after: Vec<PackageAfter>,
 }
 
 /// A package after a change.
 #[derive(Drop)]
-pub(crate) enum PackageAfter {
+enum PackageAfter {
     /// The installed package with this name is kept.
     Kept(Vec<u8>),
     /// The package with this front (header and first block) is added. A package that fails a test
     /// has no front.
     Added(Option<Front>),
+}
+
+impl ToldChange {
+    /// A change without packages.
+    pub(crate) fn new(alloc: Global) -> ToldChange {
+        ToldChange {
+            before: Vec::new(alloc),
+            after: Vec::new(alloc),
+        }
+    }
+
+    /// Adds the package that a row describes to the packages before the change.
+    pub(crate) fn install(&mut self, alloc: Global, row: &Words) -> Result<(), AllocError> {
+        self.before.push(words_behind(alloc, row, 0)?)?;
+        Ok(())
+    }
+
+    /// Adds the installed package with this name to the packages after the change.
+    pub(crate) fn keep(&mut self, alloc: Global, name: &[u8]) -> Result<(), AllocError> {
+        let name = Vec::from_slice(alloc, name)?;
+        self.after.push(PackageAfter::Kept(name))?;
+        Ok(())
+    }
+
+    /// Adds the package that a row describes to the packages after the change.
+    pub(crate) fn add(&mut self, alloc: Global, row: &Words) -> Result<(), AllocError> {
+        let front = front_of_row(alloc, row)?;
+        self.after.push(PackageAfter::Added(front))?;
+        Ok(())
+    }
 }
 
 /// Adds to the answer the plan of a change, or why it has none. With `purge`, the plan is that with
@@ -79,16 +109,17 @@ fn add_plan_of(
         answer.push(b"a package is bad, absent or not in order");
         return Ok(Vec::new(alloc));
     };
+    let mut file = Vec::new(alloc);
     match plan(alloc, db, &members, tree, purge) {
         Ok(found) => {
             add_files(&found, answer);
-            if let Ok(file) = write_db(alloc, &members, found.owned()) {
-                return Ok(file);
+            if let Ok(written) = write_db(alloc, &members, found.owned()) {
+                file = written;
             }
         }
-        Err(fault) => add_fault(fault, answer)?,
+        Err(fault) => add_fault(&fault, answer),
     }
-    Ok(Vec::new(alloc))
+    Ok(file)
 }
 
 /// The members that the packages after a change are: packages of the database, and added packages.
@@ -99,18 +130,28 @@ fn members_of<'a>(
     packages: &'a [PackageAfter],
 ) -> Result<Option<Members<'a>>, AllocError> {
     let mut members = Members::new(alloc, db);
+    let complete = add_packages(alloc, &mut members, packages)?;
+    Ok(if complete { Some(members) } else { None })
+}
+
+/// Adds packages to members, until one is bad, absent or not in the order of names. Returns false
+/// if one is.
+fn add_packages<'a>(
+    alloc: Global,
+    members: &mut Members<'a>,
+    packages: &'a [PackageAfter],
+) -> Result<bool, AllocError> {
     for package in packages {
         let added = match package {
-            PackageAfter::Kept(name) => match db.find(name) {
-                Some(i) => add_installed(&mut members, i)?,
+            PackageAfter::Kept(name) => match members.db().find(name) {
+                Some(i) => add_installed(members, i)?,
                 None => false,
             },
-            PackageAfter::Added(Some(front)) => add_coming(alloc, &mut members, front)?,
-            PackageAfter::Added(None) => false,
+            PackageAfter::Added(front) => add_coming(alloc, members, front)?,
         };
         if !added {
-            return Ok(None);
+            return Ok(false);
         }
     }
-    Ok(Some(members))
+    Ok(true)
 }

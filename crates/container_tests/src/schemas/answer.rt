@@ -1,9 +1,10 @@
 //! Adds words to an answer that only the answers of this program have. A space precedes each word,
 //! unless the answer was empty: the empty word that is added first adds this space.
+use adb_schema::ReadFault;
 use adb_view::Val;
 use base_core::Cause;
 use row_lines::Answer;
-use std::alloc::Global;
+use std::alloc::{AllocError, Global};
 
 /// Adds a word: a number in decimal digits.
 pub(crate) fn add_int(number: u64, answer: &mut Answer) {
@@ -29,5 +30,13 @@ pub(crate) fn add_outcome(alloc: Global, found: Option<Cause>, answer: &mut Answ
     match found {
         Some(cause) => add_cause(alloc, cause, answer),
         None => answer.add_word(b"ok"),
+    }
+}
+
+/// Adds why a read failed: the cause of a failed test, or that memory ran out.
+pub(crate) fn add_fault(alloc: Global, fault: ReadFault, answer: &mut Answer) {
+    match fault {
+        ReadFault::Bad(cause) => add_cause(alloc, cause, answer),
+        ReadFault::Memory => answer.add_text(Err(AllocError)),
     }
 }

@@ -3,7 +3,7 @@
 use crate::schemas::words::int_of;
 use adb_schema::Which;
 use base_core::Words;
-use row_lines::value_named;
+use row_lines::{Bytes, value_named};
 use std::alloc::{AllocError, Global};
 
 // The kind (the top four bits of a word) of a blob whose length is stored in two bytes.
@@ -47,7 +47,7 @@ pub(crate) fn table_of(name: &[u8]) -> Which {
 #[derive(Drop)]
 struct Payload {
     /// The bytes after the head.
-    values: Vec<u8>,
+    values: Bytes,
     /// The words of the arrays and objects that are not yet complete, the innermost last.
     open: Vec<Vec<u32>>,
     /// The word that refers to the root.
@@ -62,19 +62,19 @@ pub(crate) fn payload_of(
     first: usize,
 ) -> Result<Vec<u8>, AllocError> {
     let mut payload = Payload {
-        values: Vec::new(alloc),
+        values: Bytes::new(alloc),
         open: Vec::new(alloc),
         root: 0,
     };
     for i in first..words.len() {
         payload.add(alloc, words.word(i))?;
     }
-    let mut bytes = Vec::new(alloc);
+    let mut bytes = Bytes::new(alloc);
     // The head: four zero bytes, and the word of the root.
-    bytes.extend_from_slice(&[0; 4])?;
-    bytes.extend_from_slice(&payload.root.to_le_bytes())?;
-    bytes.extend_from_slice(&payload.values)?;
-    Ok(bytes)
+    bytes.push(&[0; 4]);
+    bytes.push(&payload.root.to_le_bytes());
+    bytes.push_made(payload.values.finish());
+    bytes.finish()
 }
 
 impl Payload {
@@ -97,7 +97,7 @@ impl Payload {
     /// The word that refers to the next value to be written, which is of this kind: the kind and
     /// the offset. (The remainder only keeps the sum from overflowing.)
     fn next_word(&self, kind: u32) -> u32 {
-        kind.wrapping_add((self.values.len() % 0x0100_0000 + HEAD) as u32)
+        kind.wrapping_add((self.values.as_slice().len() % 0x0100_0000 + HEAD) as u32)
     }
 
     /// Writes a text after its length, which always has two bytes here, and adds its word to the
@@ -105,8 +105,8 @@ impl Payload {
     fn add_text(&mut self, text: &[u8]) -> Result<(), AllocError> {
         let word = self.next_word(TEXT);
         let len = (text.len() % 65_536) as u16;
-        self.values.extend_from_slice(&len.to_le_bytes())?;
-        self.values.extend_from_slice(text)?;
+        self.values.push(&len.to_le_bytes());
+        self.values.push(text);
         self.add_entry(word)
     }
 
@@ -117,7 +117,7 @@ impl Payload {
             return Ok(());
         };
         let word = self.next_word(kind);
-        add_run(&mut self.values, &entries)?;
+        add_run(&mut self.values, &entries);
         self.add_entry(word)
     }
 
@@ -134,14 +134,13 @@ impl Payload {
 
 /// Writes the words of an array or of an object: first their count, which counts itself too, and
 /// then the words.
-fn add_run(bytes: &mut Vec<u8>, entries: &[u32]) -> Result<(), AllocError> {
+fn add_run(bytes: &mut Bytes, entries: &[u32]) {
     // The remainder only keeps the sum from overflowing; no row has so many words.
     let count = (entries.len() % 65_536) as u32 + 1;
-    bytes.extend_from_slice(&count.to_le_bytes())?;
+    bytes.push(&count.to_le_bytes());
     for entry in entries {
-        bytes.extend_from_slice(&entry.to_le_bytes())?;
+        bytes.push(&entry.to_le_bytes());
     }
-    Ok(())
 }
 
 /// A payload whose root is an object with the words `entries`, followed by the bytes `more`.
@@ -150,12 +149,12 @@ pub(crate) fn object_payload(
     entries: &[u32],
     more: &[u8],
 ) -> Result<Vec<u8>, AllocError> {
-    let mut payload = Vec::new(alloc);
+    let mut payload = Bytes::new(alloc);
     // The head, with the word of the root: an object at the offset 8.
-    payload.extend_from_slice(b"\0\0\0\0\x08\0\0\xe0")?;
-    add_run(&mut payload, entries)?;
-    payload.extend_from_slice(more)?;
-    Ok(payload)
+    payload.push(b"\0\0\0\0\x08\0\0\xe0");
+    add_run(&mut payload, entries);
+    payload.push(more);
+    payload.finish()
 }
 
 /// A payload whose root is an object with the numbers that the words of a row from the index 3 on

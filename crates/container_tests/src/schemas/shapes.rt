@@ -3,13 +3,13 @@
 //! added here. The rules of the tests are in `docs/formats.md`, "Tests of a container", and the
 //! words of values in "Values".
 
-use crate::schemas::answer::{add_cause, add_int, add_outcome};
+use crate::schemas::answer::{add_cause, add_fault, add_int, add_outcome};
 use crate::schemas::payloads::{object_payload, payload_of, row_payload, table_of};
 use crate::schemas::words::int_of;
 use adb_schema::{Checked, Kind, ReadFault, Shaped, Which, fields_of, shape};
 use adb_view::{Adb, Val, walk_fields};
 use base_core::{Cause, Words};
-use row_lines::{Answer, word_at};
+use row_lines::{Answer, Bytes, word_at};
 use std::alloc::{AllocError, Global};
 
 /// The word of the root in these payloads: an object (0xe) at the offset 8, after the head.
@@ -47,26 +47,29 @@ pub(crate) fn add_faults(
     answer: &mut Answer,
 ) -> Result<(), AllocError> {
     let which = table_of(table);
-    // The words of the fields before the next one, all of which are null.
-    let mut before = Vec::new(alloc);
+    let fields = fields_of(which);
     let mut reported = 0u64;
-    for field in fields_of(which) {
-        let (misfit, far) = faulty_words(field.kind);
-        if fault_after(alloc, &mut before, misfit, which)?
-            == Some(Cause::WrongKind { word: misfit })
-            && fault_after(alloc, &mut before, far, which)? == Some(Cause::Outside { word: far })
-        {
+    for i in 0..fields.len() {
+        if reports_faults(alloc, i, fields[i].kind, which)? {
             reported = reported.saturating_add(1);
         }
-        // The word 0 is NULL.
-        before.push(0)?;
     }
     add_int(reported, answer);
     // The integer 1 after the last field, followed by a word without a meaning.
-    before.push(0x1000_0001)?;
-    let found = fault_after(alloc, &mut before, 0xffff_ffff, which)?;
+    let found = fault_after(alloc, fields.len(), &[0x1000_0001, 0xffff_ffff], which)?;
     add_outcome(alloc, found, answer);
     Ok(())
+}
+
+/// Whether both faults of the field with the index `i`, which has this kind, are reported.
+fn reports_faults(alloc: Global, i: usize, kind: Kind, which: Which) -> Result<bool, AllocError> {
+    let (misfit, far) = faulty_words(kind);
+    let wrong_kind = Some(Cause::WrongKind { word: misfit });
+    let outside = Some(Cause::Outside { word: far });
+    Ok(
+        fault_after(alloc, i, &[misfit], which)? == wrong_kind
+            && fault_after(alloc, i, &[far], which)? == outside,
+    )
 }
 
 /// Two words that are faults in a field of this kind. The kind (top four bits) of the first word is
@@ -82,17 +85,21 @@ fn faulty_words(kind: Kind) -> (u32, u32) {
     }
 }
 
-/// The fault of an object of the table `which` with the words `before`, and `word` after them; None
-/// if it has no fault.
+/// The fault of an object of the table `which` whose first `nulls` fields are null, and which has
+/// these words after them; None if it has no fault.
 fn fault_after(
     alloc: Global,
-    before: &mut Vec<u32>,
-    word: u32,
+    nulls: usize,
+    words: &[u32],
     which: Which,
 ) -> Result<Option<Cause>, AllocError> {
-    before.push(word)?;
-    let payload = object_payload(alloc, before, b"")?;
-    before.pop();
+    let mut entries = Vec::new(alloc);
+    for _ in 0..nulls {
+        // The word 0 is NULL.
+        entries.push(0)?;
+    }
+    entries.extend_from_slice(words)?;
+    let payload = object_payload(alloc, &entries, b"")?;
     Ok(shaped_of(&payload, which).err())
 }
 
@@ -132,24 +139,30 @@ pub(crate) fn add_many_files(
     answer: &mut Answer,
 ) -> Result<(), AllocError> {
     let count = int_of(count) % 65_536;
-    // The folder is at the offset 20: a count of 4, and three words, namely null, null, and the
-    // array of its files. This array is at 36, and the array of folders after it.
-    let mut more = Vec::new(alloc);
-    more.extend_from_slice(b"\x04\0\0\0\0\0\0\0\0\0\0\0\x24\0\0\xd0")?;
-    // Each of both arrays has a count of words, which counts itself too, and then its entries. The
-    // entry of a file is null, and that of a folder is the object at the offset 20 (0x14).
-    for entry in &[0u32, 0xe000_0014] {
-        more.extend_from_slice(&(count + 1).to_le_bytes())?;
-        for _ in 0..count {
-            more.extend_from_slice(&entry.to_le_bytes())?;
-        }
-    }
     // The word of the array of folders: an array (0xd) at the offset 40 + 4 * N.
     let folders = 0xd000_0000 + 40 + 4 * count;
     // The package has no information, and these folders.
-    let payload = object_payload(alloc, &[0, folders], &more)?;
+    let payload = object_payload(alloc, &[0, folders], &lists_of(alloc, count)?)?;
     add_outcome(alloc, shaped_of(&payload, Which::Package).err(), answer);
     Ok(())
+}
+
+/// The values of the package of `many_files`, after its object: the folder, the array of its files,
+/// and the array of folders.
+fn lists_of(alloc: Global, count: u32) -> Result<Vec<u8>, AllocError> {
+    let mut lists = Bytes::new(alloc);
+    // The folder is at the offset 20: a count of 4, and three words, namely null, null, and the
+    // array of its files. This array is at 36, and the array of folders after it.
+    lists.push(b"\x04\0\0\0\0\0\0\0\0\0\0\0\x24\0\0\xd0");
+    // Each of both arrays has a count of words, which counts itself too, and then its entries. The
+    // entry of a file is null, and that of a folder is the object at the offset 20 (0x14).
+    for entry in &[0u32, 0xe000_0014] {
+        lists.push(&count.saturating_add(1).to_le_bytes());
+        for _ in 0..count {
+            lists.push(&entry.to_le_bytes());
+        }
+    }
+    lists.finish()
 }
 
 /// Answers `rules TABLE VALUE`: adds the first failed test of the value, or `ok` if none failed.
@@ -166,19 +179,14 @@ pub(crate) fn add_rule(
         Ok(shaped) => Checked::new(alloc, shaped),
         Err(cause) => Err(ReadFault::Bad(cause)),
     };
-    add_read(alloc, read, answer)
+    add_read(alloc, read, answer);
+    Ok(())
 }
 
-/// Adds the first failed test of a read, or `ok`. Out of memory is returned as an error.
-pub(crate) fn add_read(
-    alloc: Global,
-    read: Result<Checked<'_>, ReadFault>,
-    answer: &mut Answer,
-) -> Result<(), AllocError> {
+/// Adds the first failed test of a read, or `ok`, or that memory ran out.
+pub(crate) fn add_read(alloc: Global, read: Result<Checked<'_>, ReadFault>, answer: &mut Answer) {
     match read {
         Ok(_) => answer.add_word(b"ok"),
-        Err(ReadFault::Bad(cause)) => add_cause(alloc, cause, answer),
-        Err(ReadFault::Memory) => return Err(AllocError),
+        Err(fault) => add_fault(alloc, fault, answer),
     }
-    Ok(())
 }

@@ -5,12 +5,12 @@ ghost use Rattle.std.specs.Prelude.{◌≡◌};
 ghost use Rattle.adb_view.specs.ShapedPayload.{table_of};
 ghost use Rattle.adb_view.specs.declared.tables.Which.TheVariants as Tables;
 
-use crate::schemas::answer::{add_cause, add_int};
+use crate::schemas::answer::{add_cause, add_fault, add_int};
 use crate::schemas::payloads::{payload_of, table_of};
 use crate::schemas::shapes::shaped_of;
 use adb_schema::{
     AclView, Checked, DepView, DirInfo, FileInfo, IdbView, IntentView, List, PackageView, PkgInfo,
-    ReadFault, ScriptsView, Shaped, View, Which,
+    ScriptsView, Shaped, View, Which,
 };
 use base_core::Words;
 use row_lines::{Answer, word_at};
@@ -25,13 +25,15 @@ pub(crate) fn add_view(
 ) -> Result<(), AllocError> {
     // The value is in the words of the row from the word 2 on.
     let payload = payload_of(alloc, words, 2)?;
-    let shaped = match shaped_of(&payload, table_of(word_at(words, 1))) {
-        Ok(shaped) => shaped,
-        Err(cause) => {
-            add_cause(alloc, cause, answer);
-            return Ok(());
-        }
-    };
+    match shaped_of(&payload, table_of(word_at(words, 1))) {
+        Ok(shaped) => add_fields(alloc, shaped, answer),
+        Err(cause) => add_cause(alloc, cause, answer),
+    }
+    Ok(())
+}
+
+// Adds the fields of a value.
+fn add_fields(alloc: Global, shaped: Shaped<'_>, answer: &mut Answer) {
     let adb = shaped.adb();
     let root = adb.root();
     match shaped.which() {
@@ -42,11 +44,10 @@ pub(crate) fn add_view(
         Which::Dir => add_folder(&DirInfo::of(adb, root), answer),
         Which::Scripts => add_scripts(&ScriptsView::of(adb, root), answer),
         Which::Package => add_package(shaped, answer),
-        Which::Index => return add_index(alloc, shaped, answer),
+        Which::Index => add_index(alloc, shaped, answer),
         Which::Idb => add_database(&IdbView::of(adb, root), answer),
         Which::Intent => add_intent(&IntentView::of(adb, root), answer),
     }
-    Ok(())
 }
 
 // Adds the texts of an array, in brackets.
@@ -171,7 +172,7 @@ fn add_package(shaped: Shaped<'_>, answer: &mut Answer)
 }
 
 // Adds the fields of an index, with the names of its packages, if it passes all tests.
-fn add_index(alloc: Global, shaped: Shaped<'_>, answer: &mut Answer) -> Result<(), AllocError>
+fn add_index(alloc: Global, shaped: Shaped<'_>, answer: &mut Answer)
     // The table at the root is that of an index.
     requires { table_of shaped ≡ Tables.Index }
 {
@@ -187,10 +188,8 @@ fn add_index(alloc: Global, shaped: Shaped<'_>, answer: &mut Answer) -> Result<(
             answer.add_word(b"]");
             answer.add_word(index.pkgname_spec())
         }
-        Err(ReadFault::Bad(cause)) => add_cause(alloc, cause, answer),
-        Err(ReadFault::Memory) => return Err(AllocError),
+        Err(fault) => add_fault(alloc, fault, answer),
     }
-    Ok(())
 }
 
 // Adds the names of the packages of a database.

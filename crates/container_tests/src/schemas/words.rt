@@ -37,6 +37,12 @@ pub(crate) fn add_reads(alloc: Global, payload: &[u8], word: &[u8], answer: &mut
         return answer.add_word(b"no payload");
     };
     let value = Val::of(int_of(word));
+    add_scalars(adb, value, answer);
+    add_lists(alloc, adb, value, answer)
+}
+
+/// Adds the results of the readers of integers and blobs.
+fn add_scalars(adb: Adb<'_>, value: Val, answer: &mut Answer) {
     match adb.int(value) {
         Ok(number) => {
             answer.add_word(b"integer");
@@ -51,6 +57,10 @@ pub(crate) fn add_reads(alloc: Global, payload: &[u8], word: &[u8], answer: &mut
         }
         Err(cause) => add_fault_unless_wrong_kind(cause, value, b"blob", answer),
     }
+}
+
+/// Adds the results of the readers of arrays and objects.
+fn add_lists(alloc: Global, adb: Adb<'_>, value: Val, answer: &mut Answer) {
     match adb.arr(value) {
         Ok(found) => add_entries(alloc, found, b"array", answer),
         Err(cause) => add_fault_unless_wrong_kind(cause, value, b"array", answer),

@@ -11,7 +11,7 @@ const CALLS: u32 = 3;
 /// three calls for its next file. A package that is refused before is answered by the cause.
 pub(crate) fn add_files(alloc: Global, file: &[u8], answer: &mut Answer) -> Result<(), AllocError> {
     match Package::new(alloc, file) {
-        Ok(package) => add_calls(alloc, package, answer),
+        Ok(mut package) => add_calls(alloc, &mut package, answer),
         Err(PackageFault::Bad(cause)) => answer.add_text(format!(in alloc; "{cause:?}")),
         Err(PackageFault::Memory) => return Err(AllocError),
     }
@@ -19,21 +19,26 @@ pub(crate) fn add_files(alloc: Global, file: &[u8], answer: &mut Answer) -> Resu
 }
 
 /// Adds the identity of a package, its number of folders, and the result of each request for its
-/// next file. A result is the position of the file's folder, that of the file, and the file's
-/// bytes. It is `end` after the last file, and the cause if the package is refused.
-fn add_calls(alloc: Global, package: Package<'_>, answer: &mut Answer) {
-    let mut package = package;
+/// next file.
+fn add_calls(alloc: Global, package: &mut Package<'_>, answer: &mut Answer) {
     answer.push(&package.id());
     answer.push(b" folders ");
     answer.add_number(package.view().paths().len() as u128);
     for _ in 0..CALLS {
-        match package.next_file() {
-            Ok(Some(contents)) => {
-                answer.add_text(format!(in alloc; " {}.{} ", contents.path, contents.file));
-                answer.push(contents.bytes)
-            }
-            Ok(None) => answer.push(b" end"),
-            Err(cause) => answer.add_text(format!(in alloc; " {cause:?}")),
+        add_next(alloc, package, answer);
+    }
+}
+
+/// Adds the result of a request for the next file: the position of the file's folder, that of the
+/// file, and the file's bytes. It is `end` after the last file, and the cause if the package is
+/// refused.
+fn add_next(alloc: Global, package: &mut Package<'_>, answer: &mut Answer) {
+    match package.next_file() {
+        Ok(Some(contents)) => {
+            answer.add_text(format!(in alloc; " {}.{} ", contents.path, contents.file));
+            answer.push(contents.bytes)
         }
+        Ok(None) => answer.push(b" end"),
+        Err(cause) => answer.add_text(format!(in alloc; " {cause:?}")),
     }
 }

@@ -77,39 +77,44 @@ struct Written {
 }
 
 impl Written {
-    /// Writes `times` times the value of a word of a row, or begins a list. Each time the value
-    /// becomes an entry of the list that was begun last, if there is one. A list that ends is
+    /// Writes `times` times the value of a word of a row, or begins a list. A list that ends is
     /// written as a value; if no list has begun, nothing is written.
     fn add(&mut self, alloc: Global, part: Part<'_>, times: u64) -> Result<(), AllocError> {
-        // The words of the entries, if the value is a list.
-        let mut entries = Vec::new(alloc);
         match part {
-            Part::Open => {
-                self.open.push(entries)?;
-                return Ok(());
+            Part::Open => self.open.push(Vec::new(alloc))?,
+            Part::Array | Part::Object => {
+                if let Some(entries) = self.open.pop() {
+                    self.add_value(part, &entries, times)?;
+                }
             }
-            Part::Array | Part::Object => match self.open.pop() {
-                Some(list) => entries = list,
-                None => return Ok(()),
-            },
             Part::LeaveOut => self.words.clear(),
-            Part::Null | Part::Int(_) | Part::Blob(_) => {}
+            Part::Null | Part::Int(_) | Part::Blob(_) => self.add_value(part, &[], times)?,
         }
+        Ok(())
+    }
+
+    /// Writes a value `times` times; a list has these entries. Each time the value becomes an entry
+    /// of the list that was begun last, if there is one.
+    fn add_value(&mut self, part: Part<'_>, entries: &[Val], times: u64) -> Result<(), AllocError> {
         for _ in 0..times {
-            let word = match part {
-                Part::Null => Ok(Val::of(0)),
-                Part::Int(number) => self.writer.int(number),
-                Part::Blob(bytes) => self.writer.blob(bytes),
-                Part::Array => self.writer.arr(&entries),
-                Part::Object => self.writer.obj(&entries),
-                Part::Open | Part::LeaveOut => break,
-            }?;
+            let word = self.write(part, entries)?;
             match self.open.last_mut() {
                 Some(list) => list.push(word)?,
                 None => self.words.push(word)?,
             }
         }
         Ok(())
+    }
+
+    /// Writes a value once, and returns its word. A list has these entries.
+    fn write(&mut self, part: Part<'_>, entries: &[Val]) -> Result<Val, AllocError> {
+        match part {
+            Part::Int(number) => self.writer.int(number),
+            Part::Blob(bytes) => self.writer.blob(bytes),
+            Part::Array => self.writer.arr(entries),
+            Part::Object => self.writer.obj(entries),
+            Part::Null | Part::Open | Part::LeaveOut => Ok(Val::of(0)),
+        }
     }
 }
 
@@ -122,15 +127,7 @@ pub(crate) fn write_values(
     words: &Words,
     answer: &mut Answer,
 ) -> Result<(Writer, Val), AllocError> {
-    let mut written = Written {
-        writer: Writer::new(alloc),
-        open: Vec::new(alloc),
-        words: Vec::new(alloc),
-    };
-    for i in 1..words.len() {
-        let (part, times) = part_of(words.word(i));
-        written.add(alloc, part, times)?;
-    }
+    let written = written_of(alloc, words)?;
     let mut last = Val::of(0);
     for word in &written.words {
         last = *word;
@@ -140,6 +137,21 @@ pub(crate) fn write_values(
         }
     }
     Ok((written.writer, last))
+}
+
+/// A writer, after it has written the values that the words of a row describe, from the second word
+/// on.
+fn written_of(alloc: Global, words: &Words) -> Result<Written, AllocError> {
+    let mut written = Written {
+        writer: Writer::new(alloc),
+        open: Vec::new(alloc),
+        words: Vec::new(alloc),
+    };
+    for i in 1..words.len() {
+        let (part, times) = part_of(words.word(i));
+        written.add(alloc, part, times)?;
+    }
+    Ok(written)
 }
 
 // ---- a draft

@@ -2,11 +2,11 @@
 //! remove the file `x` and write the file `y`, whose one byte is `2`. The second change also writes
 //! the file `z`, whose one byte is `3`. The calls of a stage are in `docs/crash-safety.md`, "A
 //! change of several files", in the table of its steps.
-ghost use Rattle.std.specs.Prelude.{◌≡◌, [], ◌∷◌, ◌++◌, true, codes, IfOk, IfSome, OnOk};
+ghost use Rattle.std.specs.Prelude.{◌≡◌, ◌<◌, ◌+◌, [], ◌∷◌, ◌++◌, false, codes, length, IfOk, IfSome, OnOk};
 ghost use Rattle.journal_core.specs.Staged.{new_stage_of_removals_and_writes};
 
 use base_core::{Disk, Name, Names};
-use journal_core::Stage;
+use journal_core::{Stage, apply_all};
 use journal_recovery::recover;
 use row_lines::{Answer, value_named};
 use std::alloc::{AllocError, Global};
@@ -22,7 +22,7 @@ pub enum StagedChange {
 }
 
 /// The progress of a change, as its calls have reported it.
-#[derive(Clone, Copy, PartialEq)]
+#[derive(Clone, Copy)]
 pub enum Reached {
     /// A call has failed before the commit of the journal entry (intent) was reported.
     Nothing,
@@ -53,18 +53,78 @@ pub(crate) fn add_reached(answer: &mut Answer, reached: Reached) {
 }
 
 /// Recovers the tree, makes the change, and returns how far the change came. This is `Nothing` if
-/// the recovery fails.
-pub(crate) fn run_change(
-    alloc: Global,
-    change: StagedChange,
-    tree: &mut MemoryTree,
-) -> Result<Reached, AllocError> {
+/// the recovery fails, or if memory runs out before the change begins.
+pub(crate) fn run_change(alloc: Global, change: StagedChange, tree: &mut MemoryTree) -> Reached {
     if recover(alloc, tree).is_err() {
-        return Ok(Reached::Nothing);
+        return Reached::Nothing;
     }
     match change {
         StagedChange::OneWrite => run_one_write(alloc, tree),
         StagedChange::TwoWrites => run_two_writes(alloc, tree),
+    }
+}
+
+/// Makes the change that removes `x` and writes `y`, and returns how far it came.
+fn run_one_write(alloc: Global, tree: &mut MemoryTree) -> Reached {
+    let Ok(Some(mut stage)) = begin_one_write(alloc) else {
+        return Reached::Nothing;
+    };
+    if stage_file(&mut stage, tree, b"2").is_err() {
+        return Reached::Nothing;
+    }
+    commit(&mut stage, tree)
+}
+
+/// Makes the change that removes `x` and writes `y` and `z`, and returns how far it came.
+fn run_two_writes(alloc: Global, tree: &mut MemoryTree) -> Reached {
+    let Ok(Some(mut stage)) = begin_two_writes(alloc) else {
+        return Reached::Nothing;
+    };
+    if stage_file(&mut stage, tree, b"2").is_err() || stage_file(&mut stage, tree, b"3").is_err() {
+        return Reached::Nothing;
+    }
+    commit(&mut stage, tree)
+}
+
+// ---- the parts of a change
+
+/// The stage of the change that removes `x` and writes `y`. No file is staged so far.
+fn begin_one_write(alloc: Global) -> Result<Option<Stage>, AllocError>
+    // The stage is new, with these removals and writes.
+    ensures { IfOk result (λ found. IfSome found
+        (λ stage. stage ≡ new_stage_of_removals_and_writes (codes "x" ∷ []) (codes "y" ∷ []))) }
+{
+    let Some(removals) = one_name(alloc, b"x")? else {
+        return Ok(None);
+    };
+    let Some(writes) = one_name(alloc, b"y")? else {
+        return Ok(None);
+    };
+    match Stage::begin(alloc, &removals, &writes) {
+        Ok(stage) => Ok(Some(stage)),
+        Err(_) => Ok(None),
+    }
+}
+
+/// The stage of the change that removes `x` and writes `y` and `z`. No file is staged so far.
+fn begin_two_writes(alloc: Global) -> Result<Option<Stage>, AllocError>
+    // The stage is new, with these removals and writes.
+    ensures { IfOk result (λ found. IfSome found
+        (λ stage. stage ≡ new_stage_of_removals_and_writes (codes "x" ∷ [])
+        (codes "y" ∷ codes "z" ∷ []))) }
+{
+    let Some(removals) = one_name(alloc, b"x")? else {
+        return Ok(None);
+    };
+    let Some(writes) = one_name(alloc, b"y")? else {
+        return Ok(None);
+    };
+    let Some(writes) = one_more_name(alloc, writes, b"z")? else {
+        return Ok(None);
+    };
+    match Stage::begin(alloc, &removals, &writes) {
+        Ok(stage) => Ok(Some(stage)),
+        Err(_) => Ok(None),
     }
 }
 
@@ -94,142 +154,34 @@ fn one_more_name(alloc: Global, names: Names, bytes: &[u8]) -> Result<Option<Nam
     Ok(Some(names))
 }
 
-// ---- one write
-
-/// Makes the change that removes `x` and writes `y`, and returns how far it came.
-fn run_one_write(alloc: Global, tree: &mut MemoryTree) -> Result<Reached, AllocError> {
-    let Some(mut stage) = begin_one_write(alloc)? else {
-        return Ok(Reached::Nothing);
-    };
-    if publish_one_write(&mut stage, tree).is_err() {
-        return Ok(Reached::Nothing);
-    }
-    if act_on_one_write(&mut stage, tree).is_err() {
-        return Ok(Reached::Published);
-    }
-    Ok(Reached::Finished)
-}
-
-/// The stage of the change that removes `x` and writes `y`. No file is staged so far.
-fn begin_one_write(alloc: Global) -> Result<Option<Stage>, AllocError>
-    // The stage is new, with these removals and writes.
-    ensures { IfOk result (λ found. IfSome found
-        (λ stage. stage ≡ new_stage_of_removals_and_writes (codes "x" ∷ []) (codes "y" ∷ []))) }
-{
-    let Some(removals) = one_name(alloc, b"x")? else {
-        return Ok(None);
-    };
-    let Some(writes) = one_name(alloc, b"y")? else {
-        return Ok(None);
-    };
-    match Stage::begin(alloc, &removals, &writes) {
-        Ok(stage) => Ok(Some(stage)),
-        Err(_) => Ok(None),
-    }
-}
-
-/// Stages the file `y` with the byte `2`, and commits the journal entry.
-fn publish_one_write(stage: &mut Stage, tree: &mut MemoryTree) -> Result<(), Disk>
-    // The stage is new.
-    requires { stage.old ≡ new_stage_of_removals_and_writes (codes "x" ∷ []) (codes "y" ∷ []) }
-    // On Ok, one file is staged, and the journal entry is committed.
-    ensures { OnOk result (stage.new
-        ≡ record (new_stage_of_removals_and_writes (codes "x" ∷ []) (codes "y" ∷ [])) {
-          staged = 1;
-          published = true;
-        }) }
+/// Stages the file of the next write, with these bytes.
+fn stage_file(stage: &mut Stage, tree: &mut MemoryTree, bytes: &[u8]) -> Result<(), Disk>
+    // No staged file is begun and not yet ended.
+    requires closed { stage.old.is_open ≡ false }
+    // A write is left whose file is not staged.
+    requires more { stage.old.staged < length stage.old.intent.writes }
+    // On Ok, one more file is staged.
+    ensures { OnOk result
+        (stage.new ≡ record stage.old { staged = stage.old.staged + 1; is_open = false }) }
 {
     stage.file_begin(tree)?;
-    stage.file_append(tree, b"2")?;
-    stage.file_end(tree)?;
-    stage.publish(tree)
-}
-
-/// Does both actions of the committed change, the removal of `x` and the move to `y`, and removes
-/// the journal entry. The third `apply_one` finds no action left.
-fn act_on_one_write(stage: &mut Stage, tree: &mut MemoryTree) -> Result<(), Disk>
-    // One file is staged, and the journal entry is committed.
-    requires { stage.old
-        ≡ record (new_stage_of_removals_and_writes (codes "x" ∷ []) (codes "y" ∷ [])) {
-          staged = 1;
-          published = true;
-        } }
-{
-    stage.apply_one(tree)?;
-    stage.apply_one(tree)?;
-    stage.apply_one(tree)?;
-    stage.finish(tree)
-}
-
-// ---- two writes
-
-/// Makes the change that removes `x` and writes `y` and `z`, and returns how far it came.
-fn run_two_writes(alloc: Global, tree: &mut MemoryTree) -> Result<Reached, AllocError> {
-    let Some(mut stage) = begin_two_writes(alloc)? else {
-        return Ok(Reached::Nothing);
-    };
-    if stage_two_files(&mut stage, tree).is_err() || stage.publish(tree).is_err() {
-        return Ok(Reached::Nothing);
-    }
-    if act_on_two_writes(&mut stage, tree).is_err() {
-        return Ok(Reached::Published);
-    }
-    Ok(Reached::Finished)
-}
-
-/// The stage of the change that removes `x` and writes `y` and `z`. No file is staged so far.
-fn begin_two_writes(alloc: Global) -> Result<Option<Stage>, AllocError>
-    // The stage is new, with these removals and writes.
-    ensures { IfOk result (λ found. IfSome found
-        (λ stage. stage ≡ new_stage_of_removals_and_writes (codes "x" ∷ [])
-        (codes "y" ∷ codes "z" ∷ []))) }
-{
-    let Some(removals) = one_name(alloc, b"x")? else {
-        return Ok(None);
-    };
-    let Some(writes) = one_name(alloc, b"y")? else {
-        return Ok(None);
-    };
-    let Some(writes) = one_more_name(alloc, writes, b"z")? else {
-        return Ok(None);
-    };
-    match Stage::begin(alloc, &removals, &writes) {
-        Ok(stage) => Ok(Some(stage)),
-        Err(_) => Ok(None),
-    }
-}
-
-/// Stages the file `y` with the byte `2`, and the file `z` with the byte `3`.
-fn stage_two_files(stage: &mut Stage, tree: &mut MemoryTree) -> Result<(), Disk>
-    // The stage is new.
-    requires { stage.old
-        ≡ new_stage_of_removals_and_writes (codes "x" ∷ []) (codes "y" ∷ codes "z" ∷ []) }
-    // On Ok, two files are staged, and the journal entry is not yet committed.
-    ensures { OnOk result (stage.new
-        ≡ record (new_stage_of_removals_and_writes (codes "x" ∷ [])
-        (codes "y" ∷ codes "z" ∷ [])) { staged = 2 }) }
-{
-    stage.file_begin(tree)?;
-    stage.file_append(tree, b"2")?;
-    stage.file_end(tree)?;
-    stage.file_begin(tree)?;
-    stage.file_append(tree, b"3")?;
+    stage.file_append(tree, bytes)?;
     stage.file_end(tree)
 }
 
-/// Does the three actions of the committed change, the removal of `x` and the moves to `y` and `z`,
-/// and removes the journal entry. The fourth `apply_one` finds no action left.
-fn act_on_two_writes(stage: &mut Stage, tree: &mut MemoryTree) -> Result<(), Disk>
-    // Two files are staged, and the journal entry is committed.
-    requires { stage.old
-        ≡ record (new_stage_of_removals_and_writes (codes "x" ∷ []) (codes "y" ∷ codes "z" ∷ [])) {
-          staged = 2;
-          published = true;
-        } }
+/// Commits the journal entry of the change, does all its actions, and removes the entry. Returns
+/// how far the change came.
+fn commit(stage: &mut Stage, tree: &mut MemoryTree) -> Reached
+    // No staged file is begun and not yet ended.
+    requires closed { stage.old.is_open ≡ false }
+    // All writes have their staged files.
+    requires all { stage.old.staged ≡ length stage.old.intent.writes }
 {
-    stage.apply_one(tree)?;
-    stage.apply_one(tree)?;
-    stage.apply_one(tree)?;
-    stage.apply_one(tree)?;
-    stage.finish(tree)
+    if stage.publish(tree).is_err() {
+        return Reached::Nothing;
+    }
+    if apply_all(stage, tree).is_err() || stage.finish(tree).is_err() {
+        return Reached::Published;
+    }
+    Reached::Finished
 }

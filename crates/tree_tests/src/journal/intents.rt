@@ -89,7 +89,7 @@ pub(crate) fn add_change(
     let mut tree = tree_of(alloc, words, 3)?;
     // Each call after the first CALLS calls fails.
     tree.stop_after(long_at(words, 2));
-    add_reached(answer, run_change(alloc, change, &mut tree)?);
+    add_reached(answer, run_change(alloc, change, &mut tree));
     add_count(answer, b"writes", tree.writes());
     add_count(answer, b"maps", tree.maps());
     add_tree(alloc, &tree, answer)

@@ -5,7 +5,7 @@ use crate::journal::trees::{add_count, long_at, put};
 use adb_schema::INTENT_WORD;
 use adb_view::Val;
 use adb_write::{Writer, file_of};
-use base_core::{Name, Words};
+use base_core::Words;
 use journal_intent::PreparedIntent;
 use journal_recovery::recover;
 use row_lines::Answer;
@@ -39,7 +39,7 @@ pub(crate) fn add_many_writes(
     };
     let mut tree = MemoryTree::new(alloc);
     put_many_writes(alloc, &mut tree, &file, count, waiting)?;
-    add_count(answer, b"read", names_read(alloc, file)?);
+    add_count(answer, b"read", names_read(alloc, file));
     let recovered = recover(alloc, &mut tree).is_ok();
     answer.add_word(if recovered { b"ok" } else { b"refused" });
     add_count(answer, b"writes", tree.writes());
@@ -48,27 +48,37 @@ pub(crate) fn add_many_writes(
 }
 
 /// The name of the write with this index: `f` and a number of six digits.
-fn name_text(alloc: Global, i: usize) -> Result<String, AllocError> {
-    let number = FIRST_NUMBER.saturating_add(i);
-    format!(in alloc; "f{number}")
+fn name_of(i: usize) -> [u8; 7] {
+    let mut name = *b"f000000";
+    let mut number = FIRST_NUMBER.saturating_add(i);
+    // The last digit of the number is the last byte of the name.
+    for place in 1..name.len() {
+        name[7 - place] = b'0' + (number % 10) as u8;
+        number /= 10;
+    }
+    name
 }
 
 /// The file of a journal entry with no removals and `count` writes, or None if the writer refuses
 /// it or its payload is too long.
 fn intent_file(alloc: Global, count: usize) -> Result<Option<Vec<u8>>, AllocError> {
     let mut writer = Writer::new(alloc);
-    let mut writes = Vec::new(alloc);
-    for i in 0..count {
-        let name = name_text(alloc, i)?;
-        writes.push(writer.blob(name.as_bytes())?)?;
-    }
-    let writes = writer.arr(&writes)?;
-    // The word 0 is null: there are no removals.
-    let root = writer.obj(&[Val::of(0), writes])?;
+    let root = write_intent(alloc, &mut writer, count)?;
     match writer.finish(root) {
         Ok(payload) => file_of_payload(alloc, &payload),
         Err(_) => Ok(None),
     }
+}
+
+/// Writes the value of a journal entry with no removals and `count` writes.
+fn write_intent(alloc: Global, writer: &mut Writer, count: usize) -> Result<Val, AllocError> {
+    let mut names = Vec::new(alloc);
+    for i in 0..count {
+        names.push(writer.blob(&name_of(i))?)?;
+    }
+    let writes = writer.arr(&names)?;
+    // The word 0 is null: there are no removals.
+    writer.obj(&[Val::of(0), writes])
 }
 
 /// The file of a journal entry with this payload, or None if the payload is too long.
@@ -81,28 +91,22 @@ fn file_of_payload(alloc: Global, payload: &[u8]) -> Result<Option<Vec<u8>>, All
 
 /// How many writes of the journal entry `file` are read back with the name that belongs to their
 /// index; 0 if the entry is refused.
-fn names_read(alloc: Global, file: Vec<u8>) -> Result<u64, AllocError> {
+fn names_read(alloc: Global, file: Vec<u8>) -> u64 {
     let Ok(intent) = PreparedIntent::of_file(alloc, file) else {
-        return Ok(0);
+        return 0;
     };
     let mut read: u64 = 0;
     for i in 0..intent.writes_len() {
-        if is_name_at(alloc, intent.write(i), i)? {
+        if intent.write(i).as_bytes() == name_of(i).as_slice() {
             read = read.saturating_add(1);
         }
     }
-    Ok(read)
+    read
 }
 
-/// Whether this is the name of the write with this index.
-fn is_name_at(alloc: Global, name: &Name, i: usize) -> Result<bool, AllocError> {
-    let text = name_text(alloc, i)?;
-    Ok(name.as_bytes() == text.as_bytes())
-}
-
-/// Puts the journal entry `file` into the tree, and the files of its `count` writes. The files of
-/// the last `waiting` writes are in the staging area. The others have their final names, as if they
-/// had been moved there.
+/// Puts the files of the `count` writes of the journal entry `file` into the tree, and the entry
+/// itself. The files of the last `waiting` writes are in the staging area. The others have their
+/// final names, as if they had been moved there.
 fn put_many_writes(
     alloc: Global,
     tree: &mut MemoryTree,
@@ -112,17 +116,21 @@ fn put_many_writes(
 ) -> Result<(), AllocError> {
     let moved = count.saturating_sub(waiting);
     for i in 0..moved {
-        let name = name_text(alloc, i)?;
-        put(alloc, tree, name.as_bytes(), b"1")?;
+        put(alloc, tree, &name_of(i), b"1")?;
     }
     put(alloc, tree, b"lib/apk/intent", file)?;
     for i in moved..count {
-        // Staged files are numbered from 1.
-        let number = i + 1;
-        let staged = format!(in alloc; "lib/apk/stage/{number}")?;
-        put(alloc, tree, staged.as_bytes(), b"1")?;
+        put_staged(alloc, tree, i)?;
     }
     Ok(())
+}
+
+/// Puts the staged file of the write with this index into the tree.
+fn put_staged(alloc: Global, tree: &mut MemoryTree, i: usize) -> Result<(), AllocError> {
+    // Staged files are numbered from 1.
+    let number = i.saturating_add(1);
+    let name = format!(in alloc; "lib/apk/stage/{number}")?;
+    put(alloc, tree, name.as_bytes(), b"1")
 }
 
 /// How many files of the tree have the final name of a write: the name at an index, in byte order,
@@ -131,7 +139,7 @@ fn names_in_place(alloc: Global, tree: &MemoryTree) -> Result<u64, AllocError> {
     let names = tree.names(alloc)?;
     let mut found: u64 = 0;
     for i in 0..names.len() {
-        if is_name_at(alloc, names.get(i), i)? {
+        if names.get(i).as_bytes() == name_of(i).as_slice() {
             found = found.saturating_add(1);
         }
     }

@@ -22,6 +22,8 @@ const FIRST_FILE_WORD: usize = 3;
 struct Sweep {
     /// The change of the row.
     change: StagedChange,
+    /// How far the change came when it was last made.
+    reached: Reached,
     /// The files before the change, each as `NAME=BYTES`.
     old_files: Vec<u8>,
     /// The files after the change, each as `NAME=BYTES`.
@@ -40,6 +42,7 @@ impl Drop for Sweep {
     fn drop(self) {
         let Sweep {
             change: _,
+            reached: _,
             old_files: _,
             new_files: _,
             old: _,
@@ -47,6 +50,17 @@ impl Drop for Sweep {
             other: _,
         } = self;
     }
+}
+
+/// Which files a tree has, of those that a sweep compares.
+#[derive(Clone, Copy)]
+enum Files {
+    /// The files before the change.
+    Old,
+    /// The files after the change.
+    New,
+    /// Other files.
+    Other,
 }
 
 impl Sweep {
@@ -58,12 +72,13 @@ impl Sweep {
         };
         let mut tree = tree_of(alloc, words, FIRST_FILE_WORD)?;
         let old_files = text_of(alloc, &tree)?;
-        if run_change(alloc, change, &mut tree)? != Reached::Finished {
+        if !matches!(run_change(alloc, change, &mut tree), Reached::Finished) {
             return Ok(None);
         }
         let new_files = text_of(alloc, &tree)?;
         Ok(Some(Sweep {
             change,
+            reached: Reached::Finished,
             old_files,
             new_files,
             old: 0,
@@ -81,12 +96,29 @@ impl Sweep {
         tree: &mut MemoryTree,
         choice: u64,
     ) -> Result<(), AllocError> {
-        match settled_files(alloc, tree, choice)? {
-            Some(files) if files == self.old_files => self.old = self.old.saturating_add(1),
-            Some(files) if files == self.new_files => self.new = self.new.saturating_add(1),
+        let files = self.recovered_files(alloc, tree)?;
+        let mut image = tree.pick_image(alloc, choice)?;
+        match (files, self.recovered_files(alloc, &mut image)?) {
+            (Files::Old, Files::Old) => self.old = self.old.saturating_add(1),
+            (Files::New, Files::New) => self.new = self.new.saturating_add(1),
             _ => self.other = self.other.saturating_add(1),
         }
         Ok(())
+    }
+
+    /// Recovers the tree, and returns which files it then has: `Other` if the recovery fails.
+    fn recovered_files(&self, alloc: Global, tree: &mut MemoryTree) -> Result<Files, AllocError> {
+        if recover(alloc, tree).is_err() {
+            return Ok(Files::Other);
+        }
+        let files = text_of(alloc, tree)?;
+        if files == self.old_files {
+            return Ok(Files::Old);
+        }
+        if files == self.new_files {
+            return Ok(Files::New);
+        }
+        Ok(Files::Other)
     }
 
     /// Adds the three counts, each after its word `old`, `new` or `other`.
@@ -95,28 +127,6 @@ impl Sweep {
         add_count(answer, b"new", self.new);
         add_count(answer, b"other", self.other)
     }
-}
-
-/// Recovers the tree, and returns the files that it then has. None if the recovery fails, or if the
-/// crash image that `choice` stands for does not recover to the same files.
-fn settled_files(
-    alloc: Global,
-    tree: &mut MemoryTree,
-    choice: u64,
-) -> Result<Option<Vec<u8>>, AllocError> {
-    if recover(alloc, tree).is_err() {
-        return Ok(None);
-    }
-    let files = text_of(alloc, tree)?;
-    let mut image = tree.pick_image(alloc, choice)?;
-    if recover(alloc, &mut image).is_err() {
-        return Ok(None);
-    }
-    let again = text_of(alloc, &image)?;
-    if again != files {
-        return Ok(None);
-    }
-    Ok(Some(files))
 }
 
 // ---- `stop`: changes that are cut off
@@ -133,17 +143,36 @@ pub(crate) fn add_stop(
         answer.push(b"no change");
         return Ok(());
     };
-    let mut tree = tree_of(alloc, words, FIRST_FILE_WORD)?;
-    tree.stop_after(long_at(words, 2));
-    add_reached(answer, run_change(alloc, sweep.change, &mut tree)?);
-    add_count(answer, b"maps", tree.maps());
-    // Each number `choice` stands for a map of names, and one of three contents of unsynced files.
-    for choice in 0..tree.picks().saturating_mul(3) {
-        let mut image = tree.pick_image(alloc, choice)?;
-        sweep.count_recovery(alloc, &mut image, choice)?;
+    sweep.add_stop(alloc, words, answer)
+}
+
+impl Sweep {
+    /// Adds the answer for the change, stopped after as many calls as the row says.
+    fn add_stop(
+        &mut self,
+        alloc: Global,
+        words: &Words,
+        answer: &mut Answer,
+    ) -> Result<(), AllocError> {
+        let mut tree = tree_of(alloc, words, FIRST_FILE_WORD)?;
+        tree.stop_after(long_at(words, 2));
+        add_reached(answer, run_change(alloc, self.change, &mut tree));
+        add_count(answer, b"maps", tree.maps());
+        self.count_images(alloc, &tree)?;
+        self.add_counts(answer);
+        Ok(())
     }
-    sweep.add_counts(answer);
-    Ok(())
+
+    /// Recovers and counts each crash image of the tree.
+    fn count_images(&mut self, alloc: Global, tree: &MemoryTree) -> Result<(), AllocError> {
+        // Each number `choice` stands for a map of names, and one of three contents of unsynced
+        // files.
+        for choice in 0..tree.picks().saturating_mul(3) {
+            let mut image = tree.pick_image(alloc, choice)?;
+            self.count_recovery(alloc, &mut image, choice)?;
+        }
+        Ok(())
+    }
 }
 
 // ---- `fault`: calls that fail
@@ -160,33 +189,69 @@ pub(crate) fn add_fault(
         answer.push(b"no change");
         return Ok(());
     };
-    // How far the change comes, which is the same in each run.
-    let mut reached = Reached::Nothing;
-    // The numbers of the calls that are to fail, counted from 1: one of the first recovery, and one
-    // of the second.
-    let mut first = 1u64;
-    let mut second = 1u64;
-    for _ in 0..MOST_PAIRS {
+    sweep.add_fault(alloc, words, answer)
+}
+
+/// In which of the two recoveries after a change a call has failed.
+#[derive(Clone, Copy)]
+enum Failed {
+    /// A call of the second recovery has failed.
+    Second,
+    /// Only a call of the first recovery has failed.
+    First,
+    /// No call has failed.
+    Neither,
+}
+
+impl Sweep {
+    /// Adds the answer for the change, in which the call fails that the row names.
+    fn add_fault(
+        &mut self,
+        alloc: Global,
+        words: &Words,
+        answer: &mut Answer,
+    ) -> Result<(), AllocError> {
+        // The numbers of the calls that are to fail, counted from 1: one of the first recovery, and
+        // one of the second.
+        let mut first = 1u64;
+        let mut second = 1u64;
+        for _ in 0..MOST_PAIRS {
+            match self.count_faults(alloc, words, first, second)? {
+                Failed::Second => second = second.saturating_add(1),
+                Failed::First => {
+                    first = first.saturating_add(1);
+                    second = 1;
+                }
+                Failed::Neither => break,
+            }
+        }
+        add_reached(answer, self.reached);
+        self.add_counts(answer);
+        Ok(())
+    }
+
+    /// Makes the change, of which the call fails that the row names. Then makes two recoveries in
+    /// which the calls with these numbers are to fail, and counts a third one without a failure.
+    fn count_faults(
+        &mut self,
+        alloc: Global,
+        words: &Words,
+        first: u64,
+        second: u64,
+    ) -> Result<Failed, AllocError> {
         let mut tree = tree_of(alloc, words, FIRST_FILE_WORD)?;
         tree.fail_at(&[long_at(words, 2)])?;
-        reached = run_change(alloc, sweep.change, &mut tree)?;
-        let first_failed = recovery_fails(alloc, &mut tree, first)?;
-        let second_failed = recovery_fails(alloc, &mut tree, second)?;
-        // No call fails in the third recovery. Its last argument picks the crash image that is
-        // recovered after it.
-        sweep.count_recovery(alloc, &mut tree, second)?;
-        if second_failed {
-            second = second.saturating_add(1);
-        } else if first_failed {
-            first = first.saturating_add(1);
-            second = 1;
-        } else {
-            break;
-        }
+        self.reached = run_change(alloc, self.change, &mut tree);
+        let first_fails = recovery_fails(alloc, &mut tree, first)?;
+        let second_fails = recovery_fails(alloc, &mut tree, second)?;
+        // The last argument picks the crash image that is recovered after the third recovery.
+        self.count_recovery(alloc, &mut tree, second)?;
+        Ok(match (first_fails, second_fails) {
+            (_, true) => Failed::Second,
+            (true, false) => Failed::First,
+            (false, false) => Failed::Neither,
+        })
     }
-    add_reached(answer, reached);
-    sweep.add_counts(answer);
-    Ok(())
 }
 
 /// Whether a recovery of the tree fails if its call number `call` is to fail.

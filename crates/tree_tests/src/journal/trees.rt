@@ -1,7 +1,7 @@
 //! Trees that are made from the words of a row, and the files of a tree as words of an answer. The
 //! README of this crate describes both forms.
 use base_core::{Name, Words};
-use row_lines::{Answer, number_of, word_at};
+use row_lines::{Answer, Bytes, number_of, word_at};
 use std::alloc::{AllocError, Global};
 use tree_memory::MemoryTree;
 
@@ -48,15 +48,15 @@ pub(crate) fn put(
 /// The files of a tree as one text: each name with the bytes of its file, as `NAME=BYTES`.
 pub(crate) fn text_of(alloc: Global, tree: &MemoryTree) -> Result<Vec<u8>, AllocError> {
     let names = tree.names(alloc)?;
-    let mut text = Vec::new(alloc);
+    let mut text = Bytes::new(alloc);
     for i in 0..names.len() {
         let name = names.get(i);
-        text.extend_from_slice(name.as_bytes())?;
-        text.extend_from_slice(b"=")?;
-        text.extend_from_slice(tree.file(name).unwrap_or(b"absent"))?;
-        text.extend_from_slice(b" ")?;
+        text.push(name.as_bytes());
+        text.push(b"=");
+        text.push(tree.file(name).unwrap_or(b"absent"));
+        text.push(b" ");
     }
-    Ok(text)
+    text.finish()
 }
 
 /// Adds the files of a tree to the answer as words `NAME=BYTES`, if it has any.
