@@ -8,7 +8,6 @@ mod intents;
 mod many;
 mod replacing;
 mod sweeping;
-mod trees;
 
 use crate::journal::intents::{add_change, add_cuts, add_recovery};
 use crate::journal::many::add_many_writes;

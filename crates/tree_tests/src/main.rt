@@ -7,6 +7,7 @@
 
 mod journal;
 mod rows;
+mod tree_words;
 mod trees;
 
 use crate::journal::Sweeps;

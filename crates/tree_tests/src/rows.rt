@@ -7,7 +7,7 @@ mod echo;
 
 use crate::rows::echo::Echo;
 use base_core::Words;
-use row_lines::{Answer, Subject, value_named, word_at};
+use row_lines::{Answer, Bytes, Subject, value_named, word_at};
 use row_run::run_text;
 use std::alloc::{AllocError, Global};
 
@@ -34,25 +34,33 @@ const QUESTIONS: [(&[u8], Question); 3] = [
 #[derive(Drop)]
 pub(crate) struct RowText {
     /// The lines of the text, as earlier rows have added them.
-    text: Vec<u8>,
+    text: Bytes,
 }
 
 impl RowText {
     /// A text without lines.
     pub(crate) fn new(alloc: Global) -> RowText {
         RowText {
-            text: Vec::new(alloc),
+            text: Bytes::new(alloc),
         }
     }
 
     /// Adds the words of a row after its first word to the text, with a space between them.
-    fn add_words(&mut self, words: &Words) -> Result<(), AllocError> {
+    fn add_words(&mut self, words: &Words) {
         for i in 1..words.len() {
             if i > 1 {
-                self.text.push(b' ')?;
+                self.text.push(b" ");
             }
-            self.text.extend_from_slice(words.word(i))?;
+            self.text.push(words.word(i));
         }
+    }
+
+    /// Adds the report of the rows of the text, which is then empty.
+    fn add_report(&mut self, alloc: Global, answer: &mut Answer) -> Result<(), AllocError> {
+        let text = std::mem::replace(&mut self.text, Bytes::new(alloc)).finish()?;
+        let mut report = Vec::new(alloc);
+        run_text(alloc, &Echo, &text, &mut report)?;
+        answer.push(&report);
         Ok(())
     }
 }
@@ -67,16 +75,11 @@ impl Subject for RowText {
     ) -> Result<(), AllocError> {
         match value_named(&QUESTIONS, word_at(words, 0)) {
             Some(Question::Line) => {
-                self.add_words(words)?;
-                self.text.push(b'\n')?
+                self.add_words(words);
+                self.text.push(b"\n")
             }
-            Some(Question::LastLine) => return self.add_words(words),
-            Some(Question::Report) => {
-                let mut report = Vec::new(alloc);
-                run_text(alloc, &Echo, &self.text, &mut report)?;
-                answer.push(&report);
-                self.text.clear();
-            }
+            Some(Question::LastLine) => self.add_words(words),
+            Some(Question::Report) => return self.add_report(alloc, answer),
             None => answer.push(b"no question"),
         }
         Ok(())

@@ -5,10 +5,10 @@
 mod calls;
 mod files;
 
+use crate::tree_words::{add_tree, long_at};
 use crate::trees::calls::{Call, add_written, make_turns};
 use crate::trees::files::{
-    FileQuestion, add_counts, add_file_answer, add_is_name, add_names, add_tree, long_at,
-    plan_failures,
+    FileQuestion, add_counts, add_file_answer, add_is_name, add_names, plan_failures,
 };
 use base_core::{Name, Sink, Tree, Words, write_all};
 use row_lines::{Answer, Subject, value_named, word_at};
@@ -136,11 +136,11 @@ impl Subject for InMemory {
             Question::NewTree => self.tree = MemoryTree::new(alloc),
             Question::FailAt => return plan_failures(alloc, &mut self.tree, words),
             Question::StopAfter => self.tree.stop_after(long_at(words, 1)),
-            Question::Counts => add_counts(alloc, &self.tree, answer),
+            Question::Counts => add_counts(&self.tree, answer),
             Question::Image => {
                 let image = self.tree.pick_image(alloc, long_at(words, 1))?;
                 add_tree(alloc, &image, answer)?;
-                add_counts(alloc, &image, answer)
+                add_counts(&image, answer)
             }
             Question::Turns => return make_turns(alloc, &mut self.tree, words),
             Question::SyncNames => {

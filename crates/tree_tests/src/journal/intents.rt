@@ -3,7 +3,7 @@
 //! that are stopped after some calls. The rules are in `docs/crash-safety.md`, "Recovery", the
 //! table of what a recovery finds.
 use crate::journal::changing::{add_reached, change_named, run_change};
-use crate::journal::trees::{add_count, add_tree, long_at, put, text_of, tree_of};
+use crate::tree_words::{add_count, add_tree, long_at, put, text_of, tree_of};
 use base_core::Words;
 use journal_recovery::{RecoverFault, recover};
 use row_lines::{Answer, word_at};

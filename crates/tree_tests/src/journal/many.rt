@@ -1,11 +1,11 @@
 //! The answer to the question `many`: a journal entry (intent) with so many writes that a
 //! comparison of each pair of its names would take too long. Such an entry passes the tests of
 //! `docs/formats.md`, "Tests of a container", also the test that no name is repeated.
-use crate::journal::trees::{add_count, long_at, put};
+use crate::tree_words::{add_count, long_at, put};
 use adb_schema::INTENT_WORD;
 use adb_view::Val;
 use adb_write::{Writer, file_of};
-use base_core::Words;
+use base_core::{Name, Names, Words};
 use journal_intent::PreparedIntent;
 use journal_recovery::recover;
 use row_lines::Answer;
@@ -40,10 +40,20 @@ pub(crate) fn add_many_writes(
     let mut tree = MemoryTree::new(alloc);
     put_many_writes(alloc, &mut tree, &file, count, waiting)?;
     add_count(answer, b"read", names_read(alloc, file));
-    let recovered = recover(alloc, &mut tree).is_ok();
+    add_recovery(alloc, &mut tree, answer)
+}
+
+/// Recovers a tree. Adds whether this succeeds, how many calls on the tree wrote, and how many
+/// files have their final names.
+fn add_recovery(
+    alloc: Global,
+    tree: &mut MemoryTree,
+    answer: &mut Answer,
+) -> Result<(), AllocError> {
+    let recovered = recover(alloc, tree).is_ok();
     answer.add_word(if recovered { b"ok" } else { b"refused" });
     add_count(answer, b"writes", tree.writes());
-    add_count(answer, b"names", names_in_place(alloc, &tree)?);
+    add_count(answer, b"names", names_in_place(&tree.names(alloc)?));
     Ok(())
 }
 
@@ -57,6 +67,11 @@ fn name_of(i: usize) -> [u8; 7] {
         number /= 10;
     }
     name
+}
+
+/// Whether a name is that of the write with this index.
+fn is_name_of(name: &Name, i: usize) -> bool {
+    name.as_bytes() == name_of(i).as_slice()
 }
 
 /// The file of a journal entry with no removals and `count` writes, or None if the writer refuses
@@ -97,7 +112,7 @@ fn names_read(alloc: Global, file: Vec<u8>) -> u64 {
     };
     let mut read: u64 = 0;
     for i in 0..intent.writes_len() {
-        if intent.write(i).as_bytes() == name_of(i).as_slice() {
+        if is_name_of(intent.write(i), i) {
             read = read.saturating_add(1);
         }
     }
@@ -133,15 +148,14 @@ fn put_staged(alloc: Global, tree: &mut MemoryTree, i: usize) -> Result<(), Allo
     put(alloc, tree, name.as_bytes(), b"1")
 }
 
-/// How many files of the tree have the final name of a write: the name at an index, in byte order,
-/// is the name of the write with this index.
-fn names_in_place(alloc: Global, tree: &MemoryTree) -> Result<u64, AllocError> {
-    let names = tree.names(alloc)?;
+/// How many names of a tree are the final name of a write: the name at an index, in byte order, is
+/// the name of the write with this index.
+fn names_in_place(names: &Names) -> u64 {
     let mut found: u64 = 0;
     for i in 0..names.len() {
-        if names.get(i).as_bytes() == name_of(i).as_slice() {
+        if is_name_of(names.get(i), i) {
             found = found.saturating_add(1);
         }
     }
-    Ok(found)
+    found
 }

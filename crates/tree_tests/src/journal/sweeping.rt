@@ -2,7 +2,7 @@
 //! the recovery of each crash image; and a change one of whose calls fails, with recoveries that
 //! fail too. The rules are in `docs/crash-safety.md`, "A change of several files" and "Recovery".
 use crate::journal::changing::{Reached, StagedChange, add_reached, change_named, run_change};
-use crate::journal::trees::{add_count, long_at, text_of, tree_of};
+use crate::tree_words::{add_count, long_at, text_of, tree_of};
 use base_core::Words;
 use journal_recovery::recover;
 use row_lines::{Answer, word_at};

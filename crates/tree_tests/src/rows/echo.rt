@@ -2,6 +2,7 @@
 //! the status 1 if there is no word. Some words make this program do what no program should do.
 
 use base_core::{Disk, Name, Tree, Words, write_all};
+use row_lines::value_named;
 use row_run::Program;
 use std::alloc::{AllocError, Global};
 use tree_memory::{MemorySink, MemoryTree};
@@ -60,33 +61,63 @@ impl Program for Echo {
     }
 }
 
-/// Does with the tree what a word says. A word without an arm here does nothing.
+/// What a word makes the program do with the tree.
+#[derive(Clone, Copy)]
+enum Deed {
+    /// Makes the file `made` under its final name, and syncs it only afterwards.
+    Careless,
+    /// Makes and syncs the file under another name, and then renames it to `made`.
+    Careful,
+    /// Makes the file `made`, and does not sync it.
+    Hasty,
+    /// Syncs the names, and does not report a fault of this call.
+    Silent,
+    /// Puts the file `made` into the tree in memory without a counted call.
+    Hidden,
+    /// Reads two bytes of the file `made`.
+    Read,
+}
+
+/// The words that make the program do something with the tree.
+const DEEDS: [(&[u8], Deed); 6] = [
+    (b"careless", Deed::Careless),
+    (b"careful", Deed::Careful),
+    (b"hasty", Deed::Hasty),
+    (b"silent", Deed::Silent),
+    (b"hidden", Deed::Hidden),
+    (b"read", Deed::Read),
+];
+
+/// Does with the tree what a word says. A word that is not in `DEEDS` does nothing.
 fn act(alloc: Global, word: &[u8], tree: &mut MemoryTree) -> Result<(), Disk> {
-    match word {
-        // makes the file `made` under its final name, and syncs it only afterwards
-        b"careless" => {
-            make(alloc, tree, b"made")?;
-            settle(alloc, tree, b"made")
+    let Some(deed) = value_named(&DEEDS, word) else {
+        return Ok(());
+    };
+    let made = named(alloc, b"made")?;
+    let waiting = named(alloc, b"waiting")?;
+    perform(deed, tree, &made, &waiting)
+}
+
+/// Does a deed with the tree, given the names `made` and `waiting`.
+fn perform(deed: Deed, tree: &mut MemoryTree, made: &Name, waiting: &Name) -> Result<(), Disk> {
+    match deed {
+        Deed::Careless => {
+            make(tree, made)?;
+            settle(tree, made)
         }
-        // makes and syncs the file under another name, and then renames it to `made`
-        b"careful" => {
-            make(alloc, tree, b"waiting")?;
-            settle(alloc, tree, b"waiting")?;
-            tree.rename(&named(alloc, b"waiting")?, &named(alloc, b"made")?)?;
+        Deed::Careful => {
+            make(tree, waiting)?;
+            settle(tree, waiting)?;
+            tree.rename(waiting, made)?;
             tree.sync_names()
         }
-        // makes the file `made`, and does not sync it
-        b"hasty" => make(alloc, tree, b"made"),
-        // syncs the names, and does not report a fault of this call
-        b"silent" => {
+        Deed::Hasty => make(tree, made),
+        Deed::Silent => {
             let _ = tree.sync_names();
             Ok(())
         }
-        // puts the file `made` into the tree in memory without a counted call
-        b"hidden" => put(alloc, tree, b"made"),
-        // reads two bytes of the file `made`
-        b"read" => tree.read_at(&named(alloc, b"made")?, 0, &mut [0u8; 2]),
-        _ => Ok(()),
+        Deed::Hidden => put(tree, made),
+        Deed::Read => tree.read_at(made, 0, &mut [0u8; 2]),
     }
 }
 
@@ -99,9 +130,8 @@ fn named(alloc: Global, bytes: &[u8]) -> Result<Name, Disk> {
 }
 
 /// Puts a file with one byte into the tree in memory, without a counted call.
-fn put(alloc: Global, tree: &mut MemoryTree, name: &[u8]) -> Result<(), Disk> {
-    let name = named(alloc, name)?;
-    if tree.can_put(&name) && tree.put(&name, b"x").is_ok() {
+fn put(tree: &mut MemoryTree, name: &Name) -> Result<(), Disk> {
+    if tree.can_put(name) && tree.put(name, b"x").is_ok() {
         Ok(())
     } else {
         Err(Disk)
@@ -109,16 +139,15 @@ fn put(alloc: Global, tree: &mut MemoryTree, name: &[u8]) -> Result<(), Disk> {
 }
 
 /// Removes the file of a name, if there is one, and makes a file of one byte under this name.
-fn make(alloc: Global, tree: &mut MemoryTree, name: &[u8]) -> Result<(), Disk> {
-    let name = named(alloc, name)?;
-    tree.remove(&name)?;
-    tree.create(&name)?;
-    tree.append(&name, b"x")
+fn make(tree: &mut MemoryTree, name: &Name) -> Result<(), Disk> {
+    tree.remove(name)?;
+    tree.create(name)?;
+    tree.append(name, b"x")
 }
 
 /// Syncs a file and then the names.
-fn settle(alloc: Global, tree: &mut MemoryTree, name: &[u8]) -> Result<(), Disk> {
-    tree.sync(&named(alloc, name)?)?;
+fn settle(tree: &mut MemoryTree, name: &Name) -> Result<(), Disk> {
+    tree.sync(name)?;
     tree.sync_names()
 }
 

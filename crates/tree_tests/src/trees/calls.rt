@@ -1,6 +1,6 @@
 //! Calls on a tree in memory that write: whether each succeeds, and what is in the tree then. The
 //! rules are in `docs/crash-safety.md`, "What each call does" and "Misuses, faults and counts".
-use crate::trees::files::{add_tree, long_at};
+use crate::tree_words::{add_tree, long_at};
 use base_core::{Disk, Name, Tree, Words};
 use row_lines::{Answer, word_at};
 use std::alloc::{AllocError, Global};
@@ -71,13 +71,20 @@ pub(crate) fn make_turns(
     tree: &mut MemoryTree,
     words: &Words,
 ) -> Result<(), AllocError> {
-    let here = Name::read(alloc, word_at(words, 2))?;
-    let there = Name::read(alloc, word_at(words, 3))?;
-    if let (Some(here), Some(there)) = (here, there) {
-        for _ in 0..long_at(words, 1) {
-            let _ = tree.rename(&here, &there);
-            let _ = tree.rename(&there, &here);
-        }
-    }
+    let Some(here) = Name::read(alloc, word_at(words, 2))? else {
+        return Ok(());
+    };
+    let Some(there) = Name::read(alloc, word_at(words, 3))? else {
+        return Ok(());
+    };
+    turn(tree, &here, &there, long_at(words, 1));
     Ok(())
+}
+
+/// Renames a file from `here` to `there` and back, this many times.
+fn turn(tree: &mut MemoryTree, here: &Name, there: &Name, times: u64) {
+    for _ in 0..times {
+        let _ = tree.rename(here, there);
+        let _ = tree.rename(there, here);
+    }
 }

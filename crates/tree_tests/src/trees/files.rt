@@ -2,9 +2,10 @@
 //! fail. The rules are in `docs/crash-safety.md`, "A tree at one moment" and "Misuses, faults and
 //! counts".
 
+use crate::tree_words::{add_count, long_at};
 use crate::trees::calls::{Call, add_call, ok_or_failed};
 use base_core::{Name, Names, Tree, Words, read_all};
-use row_lines::{Answer, number_of, word_at};
+use row_lines::{Answer, word_at};
 use std::alloc::{AllocError, Global};
 use tree_memory::MemoryTree;
 
@@ -121,28 +122,18 @@ pub(crate) fn plan_failures(
 /// Adds how many calls on the tree were made, and how many of them wrote, failed, and ran out of
 /// memory (`wants`). Then adds the length of the longest read, and the number of the tree's maps of
 /// names.
-pub(crate) fn add_counts(alloc: Global, tree: &MemoryTree, answer: &mut Answer) {
-    let (calls, writes, faults) = (tree.calls(), tree.writes(), tree.faults());
-    let (wants, longest, maps) = (tree.wants(), tree.longest_read(), tree.maps());
-    // Adds the space before the counts, if the answer is not empty.
-    answer.add_word(b"");
-    answer.add_text(format!(in alloc;
-        "calls {calls} writes {writes} faults {faults} wants {wants} longest {longest} maps {maps}"
-    ))
-}
-
-/// Adds each name in the tree with the bytes of its file.
-pub(crate) fn add_tree(
-    alloc: Global,
-    tree: &MemoryTree,
-    answer: &mut Answer,
-) -> Result<(), AllocError> {
-    let names = tree.names(alloc)?;
-    for i in 0..names.len() {
-        let name = names.get(i);
-        answer.add_named(name.as_bytes(), tree.file(name).unwrap_or(b"absent"));
+pub(crate) fn add_counts(tree: &MemoryTree, answer: &mut Answer) {
+    let counts: [(&[u8], u64); 6] = [
+        (b"calls", tree.calls()),
+        (b"writes", tree.writes()),
+        (b"faults", tree.faults()),
+        (b"wants", tree.wants()),
+        (b"longest", tree.longest_read()),
+        (b"maps", tree.maps()),
+    ];
+    for (what, count) in counts {
+        add_count(answer, what, count);
     }
-    Ok(())
 }
 
 /// Answers `name TEXT`: adds whether TEXT is a valid name. If it is, the answer is yes only if the
@@ -161,15 +152,6 @@ pub(crate) fn add_is_name(
     };
     answer.add_yes_or_no(is_name);
     Ok(())
-}
-
-/// The number in the word of the row with the index `i`, counted from 0; 0 if the word is no number
-/// of 64 bits.
-pub(crate) fn long_at(words: &Words, i: usize) -> u64 {
-    match number_of(word_at(words, i)) {
-        Some(number) => u64::try_from(number).unwrap_or(0),
-        None => 0,
-    }
 }
 
 /// Answers `names WORD ..`: adds how many of the words are valid names, and each of these names.

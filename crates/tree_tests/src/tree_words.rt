@@ -1,5 +1,5 @@
-//! Trees that are made from the words of a row, and the files of a tree as words of an answer. The
-//! README of this crate describes both forms.
+//! Numbers of a row, trees that are made from its words, and the files and the counts of a tree as
+//! words of an answer. The README of this crate describes these forms.
 use base_core::{Name, Words};
 use row_lines::{Answer, Bytes, number_of, word_at};
 use std::alloc::{AllocError, Global};
