@@ -6,9 +6,10 @@ mod texts;
 
 use crate::command_lines::lines::{add_line, is_operand, is_value, repeated_words};
 use crate::command_lines::texts::{add_refusal, add_report};
-use base_core::Words;
-use row_lines::{Answer, Subject, value_named, word_at, words_behind};
+use base_core::{SinkFault, Words};
+use row_lines::{Answer, value_named, word_at, words_behind};
 use std::alloc::{AllocError, Global};
+use tree_memory::MemorySink;
 
 /// The questions; the README of this crate has the answer to each.
 #[derive(Clone, Copy)]
@@ -50,35 +51,35 @@ const QUESTIONS: [(&[u8], Question); 10] = [
     (b"report", Question::Report),
 ];
 
-/// The subject of the rows. It keeps nothing from one row to the next.
-#[derive(Drop)]
-pub(crate) struct CommandLines;
-
-impl Subject for CommandLines {
-    // Answers a question by its first word. No question depends on an earlier one.
-    fn answer(
-        &mut self,
-        alloc: Global,
-        words: &Words,
-        answer: &mut Answer,
-    ) -> Result<(), AllocError> {
-        let Some(question) = value_named(&QUESTIONS, word_at(words, 0)) else {
-            answer.push(b"no question");
-            return Ok(());
-        };
-        // The words after the first one, which names the question.
-        let rest = words_behind(alloc, words, 1)?;
-        match question {
-            Question::RepeatedWord => {
-                let line = repeated_words(alloc, &rest)?;
-                return add_line(alloc, question, &line, answer);
-            }
-            Question::Value => answer.add_yes_or_no(is_value(&rest)),
-            Question::Operand => answer.add_yes_or_no(is_operand(&rest)),
-            Question::Refusal => return add_refusal(alloc, &rest, answer),
-            Question::Report => return add_report(alloc, &rest, answer),
-            _ => return add_line(alloc, question, &rest, answer),
+/// Answers a question by its first word. No question depends on an earlier one.
+pub(crate) fn answer_about_command_lines(
+    alloc: Global,
+    words: &Words,
+    answer: &mut Answer,
+) -> Result<(), AllocError> {
+    let Some(question) = value_named(&QUESTIONS, word_at(words, 0)) else {
+        answer.push(b"no question");
+        return Ok(());
+    };
+    // The words after the first one, which names the question.
+    let rest = words_behind(alloc, words, 1)?;
+    match question {
+        Question::RepeatedWord => {
+            add_line(alloc, question, &repeated_words(alloc, &rest)?, answer)
         }
-        Ok(())
+        Question::Value => answer.add_yes_or_no(is_value(&rest)),
+        Question::Operand => answer.add_yes_or_no(is_operand(&rest)),
+        Question::Refusal => add_refusal(alloc, &rest, answer),
+        Question::Report => return add_report(alloc, &rest, answer),
+        _ => add_line(alloc, question, &rest, answer),
+    }
+    Ok(())
+}
+
+/// Adds what was written to a sink in memory, whose only fault is that memory ran out.
+fn add_written(sink: &MemorySink, outcome: Result<(), SinkFault>, answer: &mut Answer) {
+    match outcome {
+        Ok(()) => answer.push(sink.bytes()),
+        Err(_) => answer.add_text(Err(AllocError)),
     }
 }

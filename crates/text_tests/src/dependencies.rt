@@ -10,8 +10,8 @@ use crate::dependencies::worlds::{
 };
 use base_core::Words;
 use dep_core::{is_dependency_name_by_bytes_and_length, is_package_name, read_dep};
-use row_lines::{Answer, Subject, value_named, word_at};
-use std::alloc::{AllocError, Global};
+use row_lines::{Answer, value_named, word_at};
+use std::alloc::Global;
 
 /// The kinds of questions, with what is answered; the README of this crate says more.
 #[derive(Clone, Copy)]
@@ -60,42 +60,31 @@ const QUESTIONS: [(&[u8], Question); 12] = [
     (b"repositories", Question::Repositories),
 ];
 
-/// The two crates that the questions are about. Nothing is kept from one row to the next.
-#[derive(Drop)]
-pub(crate) struct Dependencies;
-
-impl Subject for Dependencies {
-    // Answers a question by its first word. Questions are independent of each other.
-    fn answer(
-        &mut self,
-        alloc: Global,
-        words: &Words,
-        answer: &mut Answer,
-    ) -> Result<(), AllocError> {
-        let Some(question) = value_named(&QUESTIONS, word_at(words, 0)) else {
-            answer.push(b"no question");
-            return Ok(());
-        };
-        // The words behind the word of the question. A word that is not there is empty.
-        let first = word_at(words, 1);
-        let second = word_at(words, 2);
-        let third = word_at(words, 3);
-        match question {
-            Question::Version => answer.add_yes_or_no(reads_as_itself(first)),
-            Question::Order => answer.push(order_of(first, second)),
-            Question::Match => answer.push(match_of(first, second, third)),
-            Question::Operators => add_operators(answer),
-            Question::Dependency => return add_dependency(alloc, read_dep(first), answer),
-            Question::Value => {
-                return add_dependency(alloc, dependency_of_fields(first, second, third), answer);
-            }
-            Question::Meets => add_meeting(first, second, third, answer),
-            Question::Name => answer.add_yes_or_no(is_dependency_name_by_bytes_and_length(first)),
-            Question::Package => answer.add_yes_or_no(is_package_name(first)),
-            Question::World => return add_world(alloc, first, answer),
-            Question::Edits => return add_edits(alloc, words, answer),
-            Question::Repositories => return add_repositories(alloc, first, answer),
+/// Answers a question about the two crates, by its first word. Questions are independent of each
+/// other.
+pub(crate) fn answer_about_dependencies(alloc: Global, words: &Words, answer: &mut Answer) {
+    let Some(question) = value_named(&QUESTIONS, word_at(words, 0)) else {
+        answer.push(b"no question");
+        return;
+    };
+    // The words behind the word of the question. A word that is not there is empty.
+    let first = word_at(words, 1);
+    let second = word_at(words, 2);
+    let third = word_at(words, 3);
+    match question {
+        Question::Version => answer.add_yes_or_no(reads_as_itself(first)),
+        Question::Order => answer.push(order_of(first, second)),
+        Question::Match => answer.push(match_of(first, second, third)),
+        Question::Operators => add_operators(answer),
+        Question::Dependency => add_dependency(alloc, read_dep(first), answer),
+        Question::Value => {
+            add_dependency(alloc, dependency_of_fields(first, second, third), answer)
         }
-        Ok(())
+        Question::Meets => add_meeting(first, second, third, answer),
+        Question::Name => answer.add_yes_or_no(is_dependency_name_by_bytes_and_length(first)),
+        Question::Package => answer.add_yes_or_no(is_package_name(first)),
+        Question::World => add_world(alloc, first, answer),
+        Question::Edits => add_edits(alloc, words, answer),
+        Question::Repositories => add_repositories(alloc, first, answer),
     }
 }

@@ -8,10 +8,10 @@ mod command_lines;
 mod dependencies;
 mod text_databases;
 
-use crate::command_lines::CommandLines;
-use crate::dependencies::Dependencies;
-use crate::text_databases::TextDatabases;
-use base_core::Words;
+use crate::command_lines::answer_about_command_lines;
+use crate::dependencies::answer_about_dependencies;
+use crate::text_databases::answer_about_text_databases;
+use base_core::{Text, Words};
 use row_lines::{Answer, Subject, run_program, value_named, word_at};
 use std::alloc::{AllocError, Global};
 use std::io;
@@ -36,7 +36,7 @@ const TOPICS: [(&[u8], Topic); 3] = [
     (b"text_databases", Topic::TextDatabases),
 ];
 
-/// The topic of the rows, and what the rows of each topic keep from one row to the next.
+/// The topic of the rows. Nothing else is kept from one row to the next.
 #[derive(Drop)]
 struct Texts {
     /// The topic that was named last, if it is one.
@@ -57,14 +57,20 @@ impl Subject for Texts {
             return Ok(());
         }
         match self.topic {
-            Some(Topic::Dependencies) => Dependencies.answer(alloc, words, answer),
-            Some(Topic::CommandLines) => CommandLines.answer(alloc, words, answer),
-            Some(Topic::TextDatabases) => TextDatabases.answer(alloc, words, answer),
-            None => {
-                answer.push(b"no topic");
-                Ok(())
-            }
+            Some(Topic::Dependencies) => answer_about_dependencies(alloc, words, answer),
+            Some(Topic::CommandLines) => return answer_about_command_lines(alloc, words, answer),
+            Some(Topic::TextDatabases) => return answer_about_text_databases(alloc, words, answer),
+            None => answer.push(b"no topic"),
         }
+        Ok(())
+    }
+}
+
+/// Adds a text that was made, if there was memory for it.
+fn add_made(text: Result<Text, AllocError>, answer: &mut Answer) {
+    match text {
+        Ok(text) => answer.push(text.as_bytes()),
+        Err(fault) => answer.add_text(Err(fault)),
     }
 }
 

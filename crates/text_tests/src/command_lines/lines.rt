@@ -1,7 +1,8 @@
 //! Command lines: which are a command, the parts of such a command, and the first wrong word of any
 //! other line. The rules are in `docs/commands.md`, "Words". The position of a word is counted from
 //! 1.
-use crate::command_lines::Question;
+use crate::add_made;
+use crate::command_lines::{Question, add_written};
 use base_core::Words;
 use command_core::{Applet, Command, Flag, OperandKind, ValueKind};
 use row_lines::{Answer, number_of, value_named, word_at};
@@ -15,60 +16,49 @@ const MOST_WORDS: usize = 100_000;
 /// Answers a question about a command line: `line`, `many`, `asked`, `command`, `values` or
 /// `letters`. If the words are no command, `line` and `many` answer which word is wrong, and the
 /// other questions `none`.
-pub(crate) fn add_line(
-    alloc: Global,
-    question: Question,
-    line: &Words,
-    answer: &mut Answer,
-) -> Result<(), AllocError> {
+pub(crate) fn add_line(alloc: Global, question: Question, line: &Words, answer: &mut Answer) {
     match read_words(alloc, line) {
-        Ok(command) => match question {
-            Question::Asked => return add_asked(alloc, &command, answer),
-            Question::Command => add_command(&command, answer),
-            Question::Values => add_values(&command, answer),
-            Question::Letters => add_letters(&command, answer),
-            Question::RepeatedWord => {
-                answer.push(b"0");
-                add_next(answer, command.operands().len() as u128);
-            }
-            _ => answer.push(b"0"),
-        },
+        Ok(command) => add_parts(alloc, question, &command, answer),
         Err(WordsFault::Usage { place }) => match question {
-            Question::Line | Question::RepeatedWord => {
-                return add_place(alloc, line, place, answer);
-            }
+            Question::Line | Question::RepeatedWord => add_place(alloc, line, place, answer),
             _ => answer.push(b"none"),
         },
-        Err(WordsFault::Memory) => return Err(AllocError),
+        Err(WordsFault::Memory) => answer.add_text(Err(AllocError)),
     }
-    Ok(())
+}
+
+/// Adds what a question asks of a command, which is no wrong line.
+fn add_parts(alloc: Global, question: Question, command: &Command, answer: &mut Answer) {
+    match question {
+        Question::Asked => add_asked(alloc, command, answer),
+        Question::Command => add_command(command, answer),
+        Question::Values => add_values(command, answer),
+        Question::Letters => add_letters(command, answer),
+        Question::RepeatedWord => {
+            answer.push(b"0");
+            add_next(answer, command.operands().len() as u128);
+        }
+        _ => answer.push(b"0"),
+    }
 }
 
 /// Adds the position of the first wrong word of a command line, and the error line with the reason.
-fn add_place(
-    alloc: Global,
-    line: &Words,
-    place: u32,
-    answer: &mut Answer,
-) -> Result<(), AllocError> {
-    let mut sink = MemorySink::new(alloc);
-    if explain_usage(line, place, &mut sink).is_err() {
-        return Err(AllocError);
-    }
+fn add_place(alloc: Global, line: &Words, place: u32, answer: &mut Answer) {
     answer.add_number(u128::from(place));
-    answer.add_word(sink.bytes());
-    Ok(())
+    answer.add_word(b"");
+    let mut sink = MemorySink::new(alloc);
+    let outcome = explain_usage(line, place, &mut sink);
+    add_written(&sink, outcome, answer)
 }
 
 /// Answers `asked WORD ..`: adds what is printed if the command asks for help or for the version of
 /// the program, and else `none`.
-fn add_asked(alloc: Global, command: &Command, answer: &mut Answer) -> Result<(), AllocError> {
+fn add_asked(alloc: Global, command: &Command, answer: &mut Answer) {
     match command.applet() {
-        Applet::Help => answer.push(help(alloc, command.operands())?.as_bytes()),
-        Applet::ProgramVersion => answer.push(version_line(alloc)?.as_bytes()),
+        Applet::Help => add_made(help(alloc, command.operands()), answer),
+        Applet::ProgramVersion => add_made(version_line(alloc), answer),
         _ => answer.push(b"none"),
     }
-    Ok(())
 }
 
 /// The command line of `N WORD WORD ..`: the words after N, of which the second is repeated N

@@ -1,5 +1,6 @@
 //! The error lines of refusals with their causes, and the texts of reports. The lines are in
 //! `docs/commands.md`, "Error lines".
+use crate::command_lines::add_written;
 use base_core::{Cause, Digest, Name, Text, Words};
 use report_core::{Refusal, Report, write_error};
 use row_lines::{Answer, number_of, value_named, word_at, words_behind};
@@ -15,10 +16,11 @@ pub(crate) fn add_report(
 ) -> Result<(), AllocError> {
     let mut report = Report::new(alloc);
     for i in 0..words.len() {
-        match number_of(words.word(i)) {
-            Some(number) => report.number(number)?,
-            None => report.push(words.word(i))?,
-        }
+        let outcome = match number_of(words.word(i)) {
+            Some(number) => report.number(number),
+            None => report.push(words.word(i)),
+        };
+        outcome?;
     }
     answer.push(report.bytes());
     Ok(())
@@ -26,21 +28,19 @@ pub(crate) fn add_report(
 
 /// Answers `refusal NAME FIELD ..`: adds the error line of the refusal with this name and these
 /// fields.
-pub(crate) fn add_refusal(
-    alloc: Global,
-    words: &Words,
-    answer: &mut Answer,
-) -> Result<(), AllocError> {
-    let Some(refusal) = refusal_of(alloc, words)? else {
-        answer.push(b"no refusal");
-        return Ok(());
-    };
-    let mut sink = MemorySink::new(alloc);
-    if write_error(&refusal, &mut sink).is_err() {
-        return Err(AllocError);
+pub(crate) fn add_refusal(alloc: Global, words: &Words, answer: &mut Answer) {
+    match refusal_of(alloc, words) {
+        Ok(Some(refusal)) => add_error_line(alloc, &refusal, answer),
+        Ok(None) => answer.push(b"no refusal"),
+        Err(fault) => answer.add_text(Err(fault)),
     }
-    answer.push(sink.bytes());
-    Ok(())
+}
+
+/// Adds the error line of a refusal.
+fn add_error_line(alloc: Global, refusal: &Refusal, answer: &mut Answer) {
+    let mut sink = MemorySink::new(alloc);
+    let outcome = write_error(refusal, &mut sink);
+    add_written(&sink, outcome, answer)
 }
 
 /// The variant of a refusal, without its fields, as a row names it.
@@ -318,12 +318,17 @@ fn cause_of(words: &Words) -> Option<Cause> {
             wanted: long,
             found: u64_at(words, 2),
         },
-        NamedCause::HashDiffers => Cause::HashDiffers {
-            wanted: digest_of(word_at(words, 1))?,
-            found: digest_of(word_at(words, 2))?,
-        },
+        NamedCause::HashDiffers => return cause_of_digests(words),
     };
     Some(cause)
+}
+
+/// The cause that a hash differs: the wanted digest and the found one follow its name.
+fn cause_of_digests(words: &Words) -> Option<Cause> {
+    Some(Cause::HashDiffers {
+        wanted: digest_of(word_at(words, 1))?,
+        found: digest_of(word_at(words, 2))?,
+    })
 }
 
 /// The digest of these bytes, by their length: SHA-1 of 20, SHA-256 of 32 and SHA-512 of 64

@@ -16,10 +16,15 @@ pub(crate) fn reads_as_itself(text: &[u8]) -> bool {
 /// Answers `order A B`: the sign (`<`, `=` or `>`) between the versions A and B, or `no order` if
 /// comparing B with A does not give the reverse.
 pub(crate) fn order_of(left: &[u8], right: &[u8]) -> &'static [u8] {
-    let (Some(left), Some(right)) = (Version::read(left), Version::read(right)) else {
-        return b"no versions";
-    };
-    match (left.compare(&right), right.compare(&left)) {
+    match (Version::read(left), Version::read(right)) {
+        (Some(left), Some(right)) => sign_of(left.compare(&right), right.compare(&left)),
+        _ => b"no versions",
+    }
+}
+
+// The sign of an order, or `no order` if the other one is not its reverse.
+fn sign_of(order: Ordering, reverse: Ordering) -> &'static [u8] {
+    match (order, reverse) {
         (Ordering::Less, Ordering::Greater) => b"<",
         (Ordering::Equal, Ordering::Equal) => b"=",
         (Ordering::Greater, Ordering::Less) => b">",
