@@ -9,3 +9,4 @@ pub mod ValueEntries
 pub mod WorkedTables
 mod ReaderFaults
 mod LeafSteps
+mod Numbers

@@ -1,5 +1,5 @@
 -- Steps of the walk, as the code makes them.
-use Rattle.std.proofs.Common.{◌≡◌, ℕ, zero, suc, ◌+◌, ◌<◌, ◌≤◌, true, false, ltb, List, [], ◌∷◌, length, get_or, drop, Some, None, Result, Ok, Err, refl, ap, ◌∙◌, arith, lit<, inl, inr, min}
+use Rattle.std.proofs.Common.{◌≡◌, ℕ, zero, suc, ◌+◌, ◌<◌, ◌≤◌, Bool, true, false, ltb, List, [], ◌∷◌, length, get_or, drop, Some, None, Result, Ok, Err, refl, sym, ap, ◌∙◌, arith, lit<, inl, inr, ◌⊎◌, min}
 use Rattle.std.proofs.lemmas.Bool.{lt-ltb, le-ltb, eqb-true}
 use Rattle.std.proofs.lemmas.Bool.Decides.{leb_tells}
 use Rattle.std.proofs.lemmas.List.{drop_more, drop_all}
@@ -11,10 +11,12 @@ use Rattle.adb_view.specs.CountedWalk.{walk_each_word}
 use Rattle.adb_view.specs.CountedWalk.{walk_visit}
 use Rattle.base_core.specs.Lists.{and_then}
 use Rattle.adb_view.specs.Visits.{or_empty, word_fault_under_shape, MOST_VALUES}
-use Rattle.std.specs.Result.{result_err, result_ok}
+use Rattle.std.specs.Result.{IsErrAnd, result_err, result_ok}
 use Rattle.std.specs.Prelude.{is_some}
 use Rattle.adb_view.specs.Schema.{table_number, table, shape_of, shapes_of}
-use Rattle.adb_view.specs.Leaves.{is_sound_leaf}
+use Rattle.adb_view.specs.Leaves.{is_sound_leaf, leaf_fault}
+use Rattle.adb_view.specs.VisitFault.{cause_of_fault, with_cause}
+use Rattle.adb_view.specs.declared.visit_fault.VisitFault.{VisitFault}
 use Rattle.adb_view.specs.Rank.{rank, rank_of_all}
 use Rattle.adb_view.specs.Shapes.{object_shape, objects_shape, texts_shape, int_shape, text_shape, hash_shape}
 use Rattle.base_core.specs.declared.cause.Cause.{Cause}
@@ -215,3 +217,70 @@ fields_leaf p fs n ws i d lt lt' few e = fields_more p fs n ws i (n + 1) d lt lt
 
 pub texts_leaf : (p : List ℕ) (n : ℕ) (ws : List ℕ) (i : ℕ) → i < length ws → n < MOST_VALUES → is_sound_leaf p Text (get_or ws i 0) ≡ true → walk_each_word (walk p (shape_of Text)) n (drop i ws) ≡ walk_each_word (walk p (shape_of Text)) (n + 1) (drop (i + 1) ws)
 texts_leaf p n ws i lt few e = each_more (walk p (shape_of Text)) n ws i (n + 1) lt (leaf_walk p Text n (get_or ws i 0) few e)
+
+-- ---- the steps that the answers name
+
+-- a count that the code has raised once is below the limit before
+pub room : (n : ℕ) → n + 1 ≤ MOST_VALUES → n < MOST_VALUES
+room n le = omega arith
+
+-- an index below a call's result is below the number that this result is
+pub below : (i n m : ℕ) → i < n → n ≡ m → i < m
+below i n m lt e = omega arith
+
+-- a count below the limit can be raised once
+pub room_left : (n m : ℕ) → n < MOST_VALUES → m ≡ n + 1 → m ≤ MOST_VALUES
+room_left n m lt e = omega arith
+
+-- a leaf without a fault is counted
+pub leaf_ok : (p : List ℕ) (kind : Kind) (n w : ℕ) → (kind ≡ Int) ⊎ ((kind ≡ Text) ⊎ (kind ≡ Hash)) → n < MOST_VALUES → None ≡ leaf_fault p kind w → Ok (n + 1) ≡ walk p (shape_of kind) n w
+leaf_ok p kind n w (inl k) lt e = rw k (sym (int_ok p n w lt (rw k at (sym e))))
+leaf_ok p kind n w (inr (inl k)) lt e = rw k (sym (text_ok p n w lt (rw k at (sym e))))
+leaf_ok p kind n w (inr (inr k)) lt e = rw k (sym (hash_ok p n w lt (rw k at (sym e))))
+
+-- the fault of a leaf is that of the walk
+pub leaf_err : (p : List ℕ) (kind : Kind) (n w : ℕ) (c : Cause) → (kind ≡ Int) ⊎ ((kind ≡ Text) ⊎ (kind ≡ Hash)) → n < MOST_VALUES → Some c ≡ leaf_fault p kind w → Err c ≡ walk p (shape_of kind) n w
+leaf_err p kind n w c (inl k) lt e = rw k (sym (int_err p n w c lt (rw k at (sym e))))
+leaf_err p kind n w c (inr (inl k)) lt e = rw k (sym (text_err p n w c lt (rw k at (sym e))))
+leaf_err p kind n w c (inr (inr k)) lt e = rw k (sym (hash_err p n w c lt (rw k at (sym e))))
+
+-- a walk that ends at a `?` has the fault of the call before
+pub stopped : {A : Type 0} (r : Result A VisitFault) (fault : VisitFault) (all : Result A Cause) → all ≡ Err (cause_of_fault fault) → IsErrAnd r (λ e. e ≡ fault) → with_cause r ≡ all
+stopped (Ok x) fault all e is = absurd is
+stopped (Err f) fault all e is = ap (λ (g : VisitFault). Err (cause_of_fault g)) is ∙ sym e
+
+-- an entry whose walk has a fault ends the walk over the entries
+pub entry_stops : (f : ℕ → ℕ → Result ℕ Cause) (n : ℕ) (ws : List ℕ) (i w : ℕ) (fault : VisitFault) (r : Result ℕ VisitFault) (all : Result ℕ Cause) → i < length ws → w ≡ get_or ws i 0 → Err (cause_of_fault fault) ≡ f n w
+    → walk_each_word f n (drop i ws) ≡ all → IsErrAnd r (λ e. e ≡ fault) → with_cause r ≡ all
+entry_stops f n ws i w fault r all lt is e before err = stopped r fault all (sym before ∙ each_stops f n ws i (cause_of_fault fault) lt (ap (f n) (sym is) ∙ sym e)) err
+
+-- after an entry whose walk has no fault, the entries behind it are left
+pub entry_more : (f : ℕ → ℕ → Result ℕ Cause) (n : ℕ) (ws : List ℕ) (i w m k : ℕ) (all : Result ℕ Cause) → i < length ws → w ≡ get_or ws i 0 → Ok k ≡ f n w → m ≡ k
+    → walk_each_word f n (drop i ws) ≡ all → walk_each_word f m (drop (i + 1) ws) ≡ all
+entry_more f n ws i w m k all lt is e same before = sym (each_more f n ws i m lt (ap (f n) (sym is) ∙ sym e ∙ ap Ok (sym same))) ∙ before
+
+-- an entry that is a text that can be read is only counted
+pub text_more : (p : List ℕ) (n : ℕ) (ws : List ℕ) (i w m : ℕ) (sound : Bool) (all : Result ℕ Cause) → i < length ws → w ≡ get_or ws i 0 → n < MOST_VALUES → sound ≡ is_sound_leaf p Text w → sound ≡ true → m ≡ n + 1
+    → walk_each_word (walk p (shape_of Text)) n (drop i ws) ≡ all → walk_each_word (walk p (shape_of Text)) m (drop (i + 1) ws) ≡ all
+text_more p n ws i w m sound all lt is few s t same before = entry_more (walk p (shape_of Text)) n ws i w m (n + 1) all lt is (sym (leaf_walk p Text n w few (sym s ∙ t))) same before
+
+-- an index below the smaller of two numbers is below both
+pub below_both : (i n a b m : ℕ) → i < n → n ≡ min a b → b ≡ m → (i < a) × (i < m)
+below_both i n a b m lt e e' = (omega arith, omega arith)
+
+-- a field whose walk has a fault ends the walk over the fields
+pub field_stops : (p : List ℕ) (fs : List Field) (n : ℕ) (ws : List ℕ) (i w : ℕ) (d : Field) (fault : VisitFault) (r : Result ℕ VisitFault) (all : Result ℕ Cause) → (i < length fs) × (i < length ws) → w ≡ get_or ws i 0
+    → Err (cause_of_fault fault) ≡ walk p (shape_of (get_or fs i d).kind) n w → fields_walk p (shapes_of (drop i fs)) n (drop i ws) ≡ all → IsErrAnd r (λ e. e ≡ fault) → with_cause r ≡ all
+field_stops p fs n ws i w d fault r all lt is e before err =
+    stopped r fault all (sym before ∙ fields_stop p fs n ws i (cause_of_fault fault) d lt.0 lt.1 (ap (walk p (shape_of (get_or fs i d).kind) n) (sym is) ∙ sym e)) err
+
+-- after a field whose walk has no fault, the fields behind it are left
+pub field_more : (p : List ℕ) (fs : List Field) (n : ℕ) (ws : List ℕ) (i w : ℕ) (d : Field) (m k : ℕ) (all : Result ℕ Cause) → (i < length fs) × (i < length ws) → w ≡ get_or ws i 0
+    → Ok k ≡ walk p (shape_of (get_or fs i d).kind) n w → m ≡ k → fields_walk p (shapes_of (drop i fs)) n (drop i ws) ≡ all → fields_walk p (shapes_of (drop (i + 1) fs)) m (drop (i + 1) ws) ≡ all
+field_more p fs n ws i w d m k all lt is e same before =
+    sym (fields_more p fs n ws i m d lt.0 lt.1 (ap (walk p (shape_of (get_or fs i d).kind) n) (sym is) ∙ sym e ∙ ap Ok (sym same))) ∙ before
+
+-- a field that is a leaf that can be read is only counted
+pub leaf_more : (p : List ℕ) (fs : List Field) (n : ℕ) (ws : List ℕ) (i w : ℕ) (d : Field) (m : ℕ) (sound : Bool) (all : Result ℕ Cause) → (i < length fs) × (i < length ws) → w ≡ get_or ws i 0 → n < MOST_VALUES
+    → sound ≡ is_sound_leaf p (get_or fs i d).kind w → sound ≡ true → m ≡ n + 1 → fields_walk p (shapes_of (drop i fs)) n (drop i ws) ≡ all → fields_walk p (shapes_of (drop (i + 1) fs)) m (drop (i + 1) ws) ≡ all
+leaf_more p fs n ws i w d m sound all lt is few s t same before = field_more p fs n ws i w d m (n + 1) all lt is (sym (leaf_walk p (get_or fs i d).kind n w few (sym s ∙ t))) same before

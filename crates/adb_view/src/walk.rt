@@ -80,7 +80,7 @@ pub fn shape(adb: Adb<'_>, which: Which) -> Result<Shaped<'_>, Cause>
 /// Visits the word `word`, as a value of the kind `kind`, and the words below it. `before` is the
 /// number of visits before, and the result is the number of visits afterwards.
 #[cycle(walk)]
-#[tactic(auto, using(crate::proofs::WalkSteps::walk_full, crate::proofs::WalkSteps::int_ok, crate::proofs::WalkSteps::int_err, crate::proofs::WalkSteps::text_ok, crate::proofs::WalkSteps::text_err, crate::proofs::WalkSteps::hash_ok, crate::proofs::WalkSteps::hash_err, crate::proofs::WalkSteps::texts_ok, crate::proofs::WalkSteps::texts_err, crate::proofs::WalkSteps::objects_ok, crate::proofs::WalkSteps::objects_err))]
+#[tactic(auto, using(crate::proofs::WalkSteps::walk_full))]
 fn walk_value(adb: Adb<'_>, kind: Kind, before: u32, word: Val) -> Result<u32, VisitFault>
     // The number of visits before is within its limit.
     requires { before ≤ MOST_VALUES }
@@ -114,7 +114,6 @@ fn walk_value(adb: Adb<'_>, kind: Kind, before: u32, word: Val) -> Result<u32, V
 /// Visits the entries of an array of texts, of which `texts` has the words. `before` and the result
 /// count visits as in `walk_value`.
 #[cycle(walk)]
-#[tactic(auto, using(crate::proofs::WalkSteps::texts_leaf, crate::proofs::WalkSteps::each_more, crate::proofs::WalkSteps::each_stops, crate::proofs::WalkSteps::each_done))]
 fn walk_texts(adb: Adb<'_>, before: u32, texts: Arr<'_>) -> Result<u32, VisitFault>
     // The number of visits before is within its limit.
     requires { before ≤ MOST_VALUES }
@@ -167,7 +166,7 @@ fn walk_objects(
 /// result count visits as in `walk_value`.
 #[cycle(walk)]
 #[inline(always)]
-#[tactic(auto, using(crate::proofs::WalkSteps::walk_full, crate::proofs::WalkSteps::object_ok, crate::proofs::WalkSteps::object_err))]
+#[tactic(auto, using(crate::proofs::WalkSteps::walk_full))]
 fn walk_object(adb: Adb<'_>, which: Which, before: u32, word: Val) -> Result<u32, VisitFault>
     // The number of visits before is within its limit.
     requires { before ≤ MOST_VALUES }
@@ -224,7 +223,7 @@ fn walk_each_field(
 /// on. `before` and the result count visits as in `walk_value`.
 #[cycle(walk)]
 #[inline(never)]
-#[tactic(auto, using(crate::proofs::WalkSteps::fields_more, crate::proofs::WalkSteps::fields_stop, crate::proofs::WalkSteps::fields_end, crate::proofs::WalkSteps::field_rank, crate::proofs::WalkSteps::fields_leaf))]
+#[tactic(auto, using(crate::proofs::WalkSteps::fields_end, crate::proofs::WalkSteps::field_rank))]
 fn walk_fields_from(
     adb: Adb<'_>,
     fields: &[Field],

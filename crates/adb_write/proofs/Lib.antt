@@ -6,6 +6,8 @@ pub mod Nearby
 pub mod StoredWords
 pub mod Held
 pub mod Appended
+mod Pieces
+mod Files
 pub mod Placed
 pub mod RoundTrip
 pub mod Limits

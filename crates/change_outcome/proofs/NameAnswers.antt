@@ -95,5 +95,9 @@ then_refused {B = B} view test d h0 h1 a b value (Err e) fault is agrees reads =
     go Disk same a = a
     go Memory same a = cc
 
+-- a reading that succeeded, and then memory ran out
+pub then_no_memory : {A B E : Type 0} (d : E) (h0 h1 : List TreeState) (a b : Counts) (value : A) (r : Result B Refused) → IsErrAnd r (λ e. e ≡ Memory) → OnlyReads {A = A} {E = E} d h0 h1 a b (Ok value) → OnlyReads {A = B} {E = Refused} Disk h0 h1 a b r
+then_no_memory d h0 h1 a b value r is reads = then_refused {U = ℕ} {C = ℕ} (λ (n : ℕ). n) (Ok 0) d h0 h1 a b value r Memory is tt reads
+
 pub no_memory : (e : Refused) → e ≡ Memory → IsDiskOrMemoryFailure e
 no_memory e is = subst IsDiskOrMemoryFailure (sym is) tt

@@ -1,6 +1,6 @@
 -- The text that a world is written as is read as that world.
-use Rattle.std.proofs.Common.{◌≡◌, ℕ, ◌+◌, Bool, true, false, cond, List, [], ◌∷◌, ◌++◌, length, get_or, Option, Some, None, Ok, refl, ap, sym, ◌∙◌, arith, subst, append_assoc, append-nil}
-use Rattle.std.specs.Prelude.{◌&&◌, ◌||◌, is_some, nat_lt, nat_le, unwrap_or}
+use Rattle.std.proofs.Common.{◌≡◌, ℕ, ◌+◌, ◌<◌, ◌≤◌, Bool, true, false, cond, List, [], ◌∷◌, ◌++◌, length, get_or, drop, Option, Some, None, Result, Ok, Err, refl, ap, sym, ◌∙◌, arith, subst, append_assoc, append-nil}
+use Rattle.std.specs.Prelude.{◌&&◌, ◌||◌, IfOk, is_some, nat_lt, nat_le, unwrap_or}
 use Rattle.std.specs.List.{All, filter, list_all}
 use Rattle.std.specs.Option.{option_and_then}
 use Rattle.std.specs.Ordering.{is_eq, match_ordering}
@@ -8,6 +8,7 @@ use Rattle.std.specs.Cmp.Lexicographic.{texts_ties}
 use Rattle.std.specs.declared.cmp.Ordering.TheVariants.{Less}
 use Rattle.std.proofs.lemmas.Bool.{and_parts}
 use Rattle.std.proofs.lemmas.Bool.Decides.{nat_tests}
+use Rattle.std.proofs.lemmas.List.{drop_all, drop_more}
 use Rattle.std.proofs.lemmas.List.Sums.{AllPass-from_list_all}
 use Rattle.std.proofs.lemmas.List.Splits.{slice_split_none, slice_split_at}
 use Rattle.version_core.specs.Order.{is_version}
@@ -131,3 +132,19 @@ unfolding world_of
 text-read_back spelled world h =
     let parts : (list_all is_dependency world ≡ true) × (is_in_order world ≡ true) = and_parts (list_all is_dependency world) (is_in_order world) h in
     lines-read spelled world [] 1 parts.0 parts.1
+
+-- a line for one more entry is appended
+pub text_more : (es : List Dependency) (i : ℕ) (d : Dependency) (x y z : List ℕ) → i < length es → d ≡ get_or es i d → y ≡ x ++ dep_text d → z ≡ y ++ 10 ∷ [] → x ++ world_text (drop i es) ≡ world_text es → z ++ world_text (drop (i + 1) es) ≡ world_text es
+text_more es i d x y z lt is line end before =
+    let rest : List ℕ = world_text (drop (i + 1) es) in
+    let here : d ∷ drop (i + 1) es ≡ drop i es = ap (λ (e : Dependency). e ∷ drop (i + 1) es) is ∙ sym (drop_more es i d lt) in
+    ap (λ (t : List ℕ). t ++ rest) (end ∙ ap (λ (t : List ℕ). t ++ 10 ∷ []) line) ∙ append_assoc (x ++ dep_text d) (10 ∷ []) rest ∙ append_assoc x (dep_text d) (10 ∷ rest) ∙ ap (λ (ds : List Dependency). x ++ world_text ds) here ∙ before
+
+-- behind the last entry the text is whole
+pub text_whole : (es : List Dependency) (i : ℕ) (x : List ℕ) → length es ≤ i → x ++ world_text (drop i es) ≡ world_text es → x ≡ world_text es
+text_whole es i x le before = sym (append-nil x) ∙ ap (λ (ds : List Dependency). x ++ world_text ds) (sym (drop_all i es le)) ∙ before
+
+-- a text made of some bytes is any text that equals them
+pub text_made : {E : Type 0} (r : Result (List ℕ) E) (x y : List ℕ) → x ≡ y → IfOk r (λ t. t ≡ x) → IfOk r (λ t. t ≡ y)
+text_made (Ok t) x y same is = is ∙ same
+text_made (Err e) x y same is = tt

@@ -10,6 +10,7 @@ pub mod Joins
 pub mod Leads
 pub mod NewFilePieces
 pub mod Proper
+pub mod Returned
 pub mod Settle
 pub mod Stays
 pub mod Suffix

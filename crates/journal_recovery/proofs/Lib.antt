@@ -1,3 +1,4 @@
+pub mod Counted
 pub mod Emptying
 pub mod Recovered
 pub mod Replaying

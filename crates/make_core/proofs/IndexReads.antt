@@ -178,6 +178,17 @@ told_err view one [] now os i o es fault r at same so made e = tt
 told_err view one (v ∷ earlier) now os i o es fault r at same so made e =
     so_far_err view (reads_of v) os i o es fault r at so one (subst (λ (t : List TreeState). IfObservable t (λ w. AgreesUnlessMemoryOrDisk one (Err fault) (found_entry o.place (files_of w (without_one_leading_dot_slash o.text))))) same made) e
 
+-- for lack of memory nothing is said of what the tree tells
+pub told_stopped : {A : Type 0} (view : A → List Plain) (history : List TreeState) (os : List Operand) (r : Result A MakeFault) → IsErrAnd r (λ e. e ≡ Memory) → IfObservable history (λ v. AgreesUnlessMemoryOrDisk view r (found_entries (reads_of v) 0 os))
+told_stopped view [] os r e = tt
+told_stopped view (v ∷ earlier) os (Ok x) e = absurd e
+told_stopped view (v ∷ earlier) os (Err fault) e = subst (λ (f : MakeFault). AgreesUnlessMemoryOrDisk view (Err f) (found_entries (reads_of v) 0 os)) (sym e) tt
+
+-- all operands are read
+pub told_all : (history : List TreeState) (os : List Operand) (i : ℕ) (es : List Plain) → length os ≤ i → IfObservable history (λ v. IsSoFar (reads_of v) os i es) → IfObservable history (λ v. found_entries (reads_of v) 0 os ≡ Ok es)
+told_all [] os i es past so = tt
+told_all (v ∷ earlier) os i es past so = so_far_all (reads_of v) os i es past so
+
 pub told_start : (history : List TreeState) (os : List Operand) (es : List Plain) → es ≡ [] → IfObservable history (λ v. IsSoFar (reads_of v) os 0 es)
 told_start history os es e = subst (λ (xs : List Plain). IfObservable history (λ v. IsSoFar (reads_of v) os 0 xs)) (sym e) (told_none history os)
 

@@ -4,6 +4,8 @@ pub use Rattle.adb_copy.proofs.adb_fields as adb_fields
 pub use Rattle.make_info.proofs as make_info
 pub use Rattle.pkg_core.proofs as pkg_core
 pub use Rattle.pkg_core.proofs.adb_schema as adb_schema
+-- of both
+pub mod Reading
 -- of `mkpkg`
 pub mod ContentSizes
 pub mod FileFields

@@ -6,6 +6,7 @@ pub mod Left
 pub mod Mapped
 pub mod Numbers
 pub mod OptionFields
+pub mod OptionTexts
 pub mod OutputFacts
 pub mod Outputs
 pub mod Reading

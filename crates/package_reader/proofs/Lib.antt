@@ -7,3 +7,4 @@ pub mod FilesFound
 pub mod Readings
 pub mod FileRead
 pub mod FileDue
+pub mod FileOpened

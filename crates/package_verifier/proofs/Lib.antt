@@ -3,3 +3,4 @@ pub mod PiecesPassed
 pub mod FileOrder
 pub mod BytesFound
 pub mod WholeTested
+pub mod FrontReads

@@ -15,7 +15,7 @@ use Rattle.package_reader.specs.pkg_core.Pieces.{PiecesRead, files_from_piece, f
 use Rattle.package_reader.specs.pkg_core.declared.file.Part.{Part}
 use Rattle.package_reader.specs.Readers.{ReturnsNextPiece, HasPieceAt, IsOfFirstExpected, IsReading, KeepsFileStart, files_to_read, returned_len, returned_len_from, name_in_tree, offset_of, package_len, start_of_file}
 use Rattle.package_reader.specs.declared.piece.PieceFault.{PieceFault}
-use Rattle.package_reader.specs.declared.piece.PieceFault.TheVariants.{Bad}
+use Rattle.package_reader.specs.declared.piece.PieceFault.TheVariants.{Bad, Disk as PieceDisk}
 use Rattle.package_reader.specs.declared.open.OpenFile.{OpenFile}
 use Rattle.package_reader.specs.declared.reader.PieceReader.{PieceReader}
 use Rattle.package_verifier.specs.Places.{AreAtPlaces, IsAtPlace, place_of_part}
@@ -39,6 +39,22 @@ reads_as name len d e h0 h1 a b value other first = record {
   others = tt;
   proper = first.proper;
 }
+
+bad_piece : (c : Cause) → Bad c ≡ PieceDisk → ⊥
+bad_piece c is = cc
+
+-- a failed test of a piece is no fault of the tree
+pub reads_refused : {A B : Type 0} (name : List ℕ) (len : ℕ) (h0 h1 : List TreeState) (a b : Counts) (fault : PieceFault) (c : Cause) (other : B) → fault ≡ Bad c → ReadsFile {A = A} {E = PieceFault} name len PieceDisk h0 h1 a b (Err fault) → ReadsFile {A = B} {E = TreeFault} name len DiskFault h0 h1 a b (Ok other)
+reads_refused {A} name len h0 h1 a b fault c other is first =
+    let bad = subst (λ (f : PieceFault). ReadsFile {A = A} {E = PieceFault} name len PieceDisk h0 h1 a b (Err f)) is first in
+    record {
+      same = bad.same;
+      goes_on = bad.goes_on;
+      disk = λ failed. absurd (no_fault other DiskFault failed);
+      kept = bad.others (bad_piece c);
+      others = tt;
+      proper = bad.proper;
+    }
 
 -- if nothing is read
 proper_still : (h : List TreeState) (name : List ℕ) (len n : ℕ) → IfObservable h (λ v. IsFileOfLength name len v → n ≡ n)

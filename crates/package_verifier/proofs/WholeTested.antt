@@ -119,6 +119,11 @@ refused_by : (h : List TreeState) (name : List ℕ) (cause : Cause) → (found :
 refused_by h name cause (None, told, bad) = absurd bad
 refused_by h name cause (Some file, told, bad) = (Some file, told, values_first file cause (front_alike file cause bad))
 
+-- no file is there
+pub absent_read : (h : List TreeState) (name : List ℕ) → (found : Option (List ℕ)) × IfObservable h (λ v. found ≡ files_of v name) × IsFrontRead PACKAGE_WORD found (Ok None) → IsReadOfSome h name Reads.Absent
+absent_read h name (None, told, is) = (None, told, tt)
+absent_read h name (Some file, told, is) = absurd is
+
 pub refused : (h : List TreeState) (name : List ℕ) (cause first : Cause) (why : FrontFault) → cause ≡ first → why ≡ Bad first → (found : Option (List ℕ)) × IfObservable h (λ v. found ≡ files_of v name) × IsFrontRead PACKAGE_WORD found (Err why) → IsReadOfSome h name (Reads.Bad cause)
 refused h name cause first why same is front =
     refused_by h name cause

@@ -1,5 +1,5 @@
 -- The walk finds the winner, if there is one.
-use Rattle.std.proofs.Common.{◌≡◌, ℕ, suc, zero, ◌-◌, ◌<◌, ◌≤◌, Bool, true, false, cond, List, [], ◌∷◌, length, map, drop, take, Option, Some, None, refl, ap, sym, ◌∙◌, subst, arith, true≢false, inl, inr}
+use Rattle.std.proofs.Common.{◌≡◌, ℕ, suc, zero, ◌+◌, ◌-◌, ◌<◌, ◌≤◌, Bool, true, false, cond, List, [], ◌∷◌, length, map, drop, take, Option, Some, None, refl, ap, sym, ◌∙◌, subst, arith, true≢false, inl, inr}
 use Rattle.std.specs.Prelude.{◌||◌, ◌&&◌, ◌⊎◌, ◌==◌, if◌then◌else◌, not, option_map, slice_index_or}
 use Rattle.std.specs.List.{find, list_any}
 use Rattle.std.proofs.lemmas.List.{take_all}
@@ -180,3 +180,26 @@ pub two_rivals : {X : Type 0} (beats : ℕ → ℕ → Bool) (f : X → ℕ) (xs
 unfolding first_with_unbeaten_rival
 two_rivals beats f [] d o h e = absurd (true≢false h)
 two_rivals beats f (x ∷ xs) d o h e = ap (option_map (rivals_of (f x))) (sym e)
+
+-- ---- the test whether a member beats all others, claim by claim
+
+-- if one claim's member is another and not beaten, not all others are beaten
+pub unbeaten_here : {X : Type 0} (beats : ℕ → ℕ → Bool) (f : X → ℕ) (one : ℕ) (xs : List X) (i : ℕ) (d : X) → i < length xs → ((one == f (slice_index_or xs i d)) || beats one (f (slice_index_or xs i d))) ≡ false
+    → are_all_others_beaten_by beats (map f (drop i xs)) one ≡ false
+unbeaten_here beats f one [] i d l h = absurd (omega arith)
+unbeaten_here beats f one (x ∷ xs) zero d l h = ap (λ b. b && are_all_others_beaten_by beats (map f xs) one) h
+unbeaten_here beats f one (x ∷ xs) (suc i) d l h = unbeaten_here beats f one xs i d (omega arith) h
+
+-- if one claim's member is the same or beaten, the claims after it decide
+beaten_here : {X : Type 0} (beats : ℕ → ℕ → Bool) (f : X → ℕ) (one : ℕ) (xs : List X) (i : ℕ) (d : X) → i < length xs → ((one == f (slice_index_or xs i d)) || beats one (f (slice_index_or xs i d))) ≡ true
+    → are_all_others_beaten_by beats (map f (drop i xs)) one ≡ are_all_others_beaten_by beats (map f (drop (suc i) xs)) one
+beaten_here beats f one [] i d l h = absurd (omega arith)
+beaten_here beats f one (x ∷ xs) zero d l h = ap (λ b. b && are_all_others_beaten_by beats (map f xs) one) h
+beaten_here beats f one (x ∷ xs) (suc i) d l h = beaten_here beats f one xs i d (omega arith) h
+
+-- the same, with the index after it as the loop counts it
+pub beaten_next : {X : Type 0} (beats : ℕ → ℕ → Bool) (f : X → ℕ) (one : ℕ) (xs : List X) (i : ℕ) (d : X) → i < length xs → ((one == f (slice_index_or xs i d)) || beats one (f (slice_index_or xs i d))) ≡ true
+    → are_all_others_beaten_by beats (map f (drop (i + 1) xs)) one ≡ are_all_others_beaten_by beats (map f (drop i xs)) one
+beaten_next beats f one xs i d l h =
+    let next : i + 1 ≡ suc i = omega arith in
+    ap (λ (n : ℕ). are_all_others_beaten_by beats (map f (drop n xs)) one) next ∙ sym (beaten_here beats f one xs i d l h)

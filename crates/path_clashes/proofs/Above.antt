@@ -1,5 +1,5 @@
 -- Folders above a name, and a walk over its slashes.
-use Rattle.std.proofs.Common.{◌≡◌, ⊎_elim, ℕ, ◌<◌, ◌≤◌, Bool, true, false, List, [], ◌∷◌, ◌++◌, length, get_or, take, drop, Option, Some, refl, sym, ap, subst, ◌∙◌, arith, take-append-drop}
+use Rattle.std.proofs.Common.{◌≡◌, ⊎_elim, ℕ, ◌+◌, ◌<◌, ◌≤◌, Bool, true, false, List, [], ◌∷◌, ◌++◌, length, get_or, take, drop, Option, Some, None, refl, sym, ap, subst, ◌∙◌, arith, take-append-drop}
 use Rattle.std.specs.Prelude.{bytes_eq}
 use Rattle.std.proofs.lemmas.Bool.{cases_lt, false_from_ne_true}
 use Rattle.std.proofs.lemmas.List.{get_or-take, length-take-le, take-take}
@@ -31,6 +31,28 @@ shared_folder before name folder len within same above short =
         sym (take-take (length folder) len before (omega arith))
         ∙ (ap (take (length folder)) same ∙ (take-take (length folder) len name (omega arith) ∙ at.2))
 
+-- a folder above two texts is shorter than a number of bytes at which one text ends, or their bytes differ
+pub folder_in_front : (one other folder : List ℕ) (n : ℕ) → (n < length one → n < length other → get_or one n 0 ≡ get_or other n 0 → ⊥) → IsFolderOf folder one → IsFolderOf folder other → length folder < n
+folder_in_front one other folder n ends above also =
+    ⊎_elim (λ short. short) (λ upto. absurd (ends (omega (arith, upto, at.0)) (omega (arith, upto, there.0)) (equal upto))) (cases_lt (length folder) n)
+  where
+    at : (length folder < length one) × (get_or one (length folder) 0 ≡ 47) × (take (length folder) one ≡ folder)
+    at = at_folder folder one above
+
+    there : (length folder < length other) × (get_or other (length folder) 0 ≡ 47) × (take (length folder) other ≡ folder)
+    there = at_folder folder other also
+
+    inside : n < length folder → get_or one n 0 ≡ get_or other n 0
+    inside l =
+        sym (get_or-take (length folder) one n 0 l)
+        ∙ (ap (λ (l : List ℕ). get_or l n 0) (at.2 ∙ sym there.2) ∙ get_or-take (length folder) other n 0 l)
+
+    equal : n ≤ length folder → get_or one n 0 ≡ get_or other n 0
+    equal upto =
+        ⊎_elim inside
+        (λ over. let is : length folder ≡ n = omega (arith, upto, over) in ap (λ k. get_or one k 0) (sym is) ∙ ((at.1 ∙ sym there.1) ∙ ap (λ k. get_or other k 0) is))
+        (cases_lt n (length folder))
+
 -- of two folders above a name the longer one does not come first
 pub longer_folder : (short long name : List ℕ) → IsFolderOf short name → IsFolderOf long name → length short ≤ length long → precedes long short ≡ false
 longer_folder short long name above also upto =
@@ -60,6 +82,39 @@ nothing_above folder above = omega (arith, (at_folder folder [] above).0)
 abbrev pub IsNoneUpto : NameChange → Files → List ℕ → ℕ → ℕ → Type 0
 IsNoneUpto change files name len i =
     (other : List ℕ) → IsFolderOf other name → len ≤ length other → length other < i → is_present_after_change change files other ≡ true → ⊥
+
+-- at the start of the walk no folder was passed
+pub none_at_start : (change : NameChange) (files : Files) (name : List ℕ) (len : ℕ) → IsNoneUpto change files name len len
+none_at_start change files name len = λ other above upto short after. omega (arith, upto, short)
+
+-- the walk goes on where none ends at `i`
+none_past : (change : NameChange) (files : Files) (name : List ℕ) (len i : ℕ) → ((other : List ℕ) → IsFolderOf other name → length other ≡ i → is_present_after_change change files other ≡ true → ⊥)
+    → IsNoneUpto change files name len i → IsNoneUpto change files name len (i + 1)
+none_past change files name len i here none = λ other above upto short after.
+    ⊎_elim (λ early. none other above upto early after) (λ late. here other above (omega (arith, late, short)) after) (cases_lt (length other) i)
+
+-- past a byte that is no slash, which ends no folder
+pub none_past_byte : (change : NameChange) (files : Files) (name : List ℕ) (len i : ℕ) → (get_or name i 0 ≡ 47 → ⊥) → IsNoneUpto change files name len i → IsNoneUpto change files name len (i + 1)
+none_past_byte change files name len i no_slash =
+    none_past change files name len i (λ other above ends after. no_slash (ap (λ k. get_or name k 0) (sym ends) ∙ (at_folder other name above).1))
+
+-- past a folder that is not there after the change
+pub none_past_folder : (change : NameChange) (files : Files) (name : List ℕ) (len i : ℕ) (found : Option (List ℕ)) → found ≡ None → found ≡ name_if_holds (is_present_after_change change files (take i name)) (take i name)
+    → IsNoneUpto change files name len i → IsNoneUpto change files name len (i + 1)
+none_past_folder change files name len i found is told = none_past change files name len i here
+  where
+    off : (b : Bool) → None ≡ name_if_holds b (take i name) → b ≡ true → ⊥
+    off true e on = absurd (cc)
+    off false e on = absurd (cc)
+
+    here : (other : List ℕ) → IsFolderOf other name → length other ≡ i → is_present_after_change change files other ≡ true → ⊥
+    here other above ends after =
+        let same : other ≡ take i name = sym (at_folder other name above).2 ∙ ap (λ k. take k name) ends in
+        off (is_present_after_change change files (take i name)) (sym is ∙ told) (subst (λ (l : List ℕ). is_present_after_change change files l ≡ true) same after)
+
+-- at the end of the walk there is none
+pub none_at_end : (change : NameChange) (files : Files) (name : List ℕ) (len i : ℕ) → length name ≤ i → IsNoneUpto change files name len i → IsShortestFolderOrNone change files name len None
+none_at_end change files name len i all none = λ other above upto after. none other above upto (omega (arith, all, (at_folder other name above).0)) after
 
 pub found_at_slash : (change : NameChange) (files : Files) (name : List ℕ) (len i : ℕ) → len ≤ i → i < length name → get_or name i 0 ≡ 47 → is_present_after_change change files (take i name) ≡ true → IsNoneUpto change files name len i → IsShortestFolderOrNone change files name len (Some (take i name))
 found_at_slash change files name len i long within slash there none = record {

@@ -1,6 +1,7 @@
 -- re-exported crates: a crate that depends on this one can use their definitions without depending on them too
 pub use Rattle.adb_fields.proofs as adb_fields
 pub mod FolderLike
+pub mod FolderAfter
 pub mod PairOrder
 pub mod Above
 pub mod Below
@@ -8,6 +9,8 @@ pub mod Paths
 pub mod NearClash
 pub mod SoFar
 pub mod Observed
+pub mod Present
+pub mod Reading
 pub mod NoName
 pub mod OneFirst
 pub mod OneName

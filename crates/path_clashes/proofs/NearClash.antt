@@ -8,6 +8,10 @@ use Rattle.path_clashes.specs.NearName.{IsClashNear, IsShortestFolderOrNone, IsF
 use Rattle.path_clashes.proofs.Above.{longer_folder, name_behind, not_same, shared_folder}
 use Rattle.path_clashes.proofs.PairOrder.{other_path, same_other, same_path}
 
+-- near a name that is the same as the one before it, nothing has to be found
+pub same_told : (change : NameChange) (files : Files) (before name : List ℕ) → before ≡ name → IsClashNear change files before name None
+same_told change files before name same = record { is_one = tt; above = λ folder above. inl (subst (IsFolderOf folder) (sym same) above); below = λ other present_files. inl same }
+
 module _ (change : NameChange) (files : Files) where
   pub counts_is_after : (name : List ℕ) → change.counts_as_written name ≡ true → is_present_after_change change files name ≡ true
   counts_is_after name counts = or_right (is_some (files name) && not (change.does_release name)) (change.counts_as_written name) counts

@@ -16,3 +16,13 @@ observed_by_two (v ∷ old) h P Q R same step p q = step v p (subst (λ (l : Lis
 pub observed_whole : (h : List TreeState) → All IsWellFormed h → IfObservable h IsWellFormed
 observed_whole [] all = tt
 observed_whole (v ∷ h) all = all 0 v (omega arith)
+
+-- what holds without a state holds of the newest one
+pub observed_always : (h : List TreeState) (P : Type 0) → P → IfObservable h (λ v. P)
+observed_always [] P holds = tt
+observed_always (v ∷ h) P holds = holds
+
+-- what holds of each state holds of the newest one
+pub observed_each : (h : List TreeState) (P : TreeState → Type 0) → ((v : TreeState) → P v) → IfObservable h P
+observed_each [] P each = tt
+observed_each (v ∷ h) P each = each v

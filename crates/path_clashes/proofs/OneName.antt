@@ -1,5 +1,5 @@
 -- Files of which one name, if any, is present.
-use Rattle.std.proofs.Common.{◌≡◌, ◌⊎◌, inl, inr, ℕ, ◌<◌, ◌≤◌, Bool, true, false, cond, List, [], length, get_or, take, map, Option, Some, None, refl, sym, ap, subst, ◌∙◌, arith}
+use Rattle.std.proofs.Common.{◌≡◌, ◌⊎◌, inl, inr, ℕ, ◌+◌, ◌<◌, ◌≤◌, Bool, true, false, cond, List, [], length, get_or, take, map, Option, Some, None, refl, sym, ap, subst, ◌∙◌, arith}
 use Rattle.std.specs.Prelude.{not, ◌&&◌, ◌||◌, bytes_eq, is_some}
 use Rattle.std.specs.List.{All, find}
 use Rattle.std.specs.Cmp.Lexicographic.{bytes_decides}
@@ -14,7 +14,7 @@ use Rattle.base_core.specs.ByteOrder.{precedes}
 use Rattle.path_clashes.specs.Clash.{NameChange, is_present_after_change}
 use Rattle.path_clashes.specs.NearName.{IsShortestFolderOrNone, IsFirstNameBelowOrNone, files_with_only_name, name_if_holds}
 use Rattle.path_clashes.specs.WrittenPaths.{name_change_of_paths}
-use Rattle.path_clashes.proofs.Above.{IsNoneUpto, found_told}
+use Rattle.path_clashes.proofs.Above.{IsNoneUpto, found_told, none_past_folder}
 use Rattle.path_clashes.proofs.Below.{IsFirstPassing, find-Some}
 use Rattle.path_clashes.proofs.NoName.{not_a_path}
 use Rattle.path_clashes.proofs.PairOrder.{precedes_itself}
@@ -77,6 +77,13 @@ module _ (change : NameChange) where
 
       longer : length folder ≡ i
       longer = ap length (named (is_present_after_change change (files_with_only_name (Some folder)) (take i name)) (sym is ∙ at_folder)) ∙ length-take-le i name (omega arith)
+
+  -- past a folder that is not there after the change
+  pub none_past_alone : (name : List ℕ) (len i : ℕ) (found : Option (List ℕ)) → found ≡ None → found ≡ name_if_holds (is_present_after_change change (files_with_only_name found) (take i name)) (take i name)
+      → IsNoneUpto change (files_with_only_name None) name len i → IsNoneUpto change (files_with_only_name None) name len (i + 1)
+  none_past_alone name len i found is told =
+      none_past_folder change (files_with_only_name None) name len i found is
+      (subst (λ (o : Option (List ℕ)). found ≡ name_if_holds (is_present_after_change change (files_with_only_name o) (take i name)) (take i name)) is told)
 
 -- what is no name is not written
 pub no_name_alone : (paths : List FilePath) (does_release : List ℕ → Bool) (name : List ℕ) → All IsName (map joined_path paths) → is_name name ≡ false

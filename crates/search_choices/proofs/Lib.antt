@@ -3,3 +3,4 @@ pub use Rattle.search_tables.proofs as search_tables
 pub use Rattle.search_tables.proofs.candidate_core as candidate_core
 pub mod Consistency
 pub mod Asking
+pub mod NextFrames

@@ -13,3 +13,4 @@ pub mod Planned
 mod Rows
 pub mod Sinking
 pub mod Undoing
+mod Pieces

@@ -1,6 +1,7 @@
 use Rattle.std.proofs.Common.{arith}
 use Rattle.base_core.specs.declared.tree.TreeFault.TheVariants.{Disk}
 use Rattle.base_core.proofs.Counting.{readings_none}
+use Rattle.base_core.proofs.ReadAfter.{reading_as, second_reading_failed}
 use Rattle.audit_core.proofs.AuditSteps.{named_at, nothing_reported, nothing_said, reported_all, reported_more}
 use Rattle.audit_core.proofs.Reading.{reads_on}
 use Rattle.audit_core.proofs.comparing.audit_records.Goals as goal
@@ -23,3 +24,9 @@ loop-record-preserved g c = record {
 
 pub returns-clause-report : goal.returns-clause-report
 returns-clause-report g c = reported_all _ c.args.records.now c.loop-record.record-index _ (omega (arith, c.loop-record-test.false)) c.loop-record.invariant.report
+
+pub returns-in_err-audit_record-clause-tree : goal.returns-in_err-audit_record-clause-tree
+returns-in_err-audit_record-clause-tree g c = second_reading_failed _ _ _ _ _ _ _ _ _ c.from_residual.result c.from_residual.ensures.1 c.loop-record.invariant.tree c.in_err-audit_record.ensures.tree
+
+pub returns-clause-tree : goal.returns-clause-tree
+returns-clause-tree g c = reading_as _ _ _ _ _ _ _ c.loop-record.invariant.tree

@@ -1,4 +1,4 @@
-use Rattle.std.proofs.Common.{◌≡◌, ◌∙◌, Some, None, Ok, Err, refl, ap, sym}
+use Rattle.std.proofs.Common.{◌≡◌, ◌∙◌, ℕ, Some, None, Ok, Err, refl, ap, sym}
 use Rattle.std.specs.Prelude.{option_map}
 use Rattle.change_outcome.specs.MembersAfter.{no_member_unless_removal_needs_script, kept_member_found}
 use Rattle.db_core.specs.Seen.{packages_of}
@@ -7,7 +7,10 @@ use Rattle.package_changes.specs.Seen.{change_seen, placed_name_seen}
 use Rattle.change_inputs.specs.candidate_core.Values.{candidate_value}
 use Rattle.change_outcome.specs.Arrivals.{IsPackageRead}
 use Rattle.change_outcome.specs.NameReads.{IsNameRead, added_package_read, member_of_name_by_read}
-use Rattle.change_outcome.proofs.NameAnswers.{answer_handed, by_any_read, part_refused, test_refused}
+use Rattle.base_core.proofs.Counting.{readings_none}
+use Rattle.base_core.proofs.ReadAfter.{reading_as, reading_off}
+use Rattle.change_inputs.specs.declared.root.Refused.TheVariants.{Disk}
+use Rattle.change_outcome.proofs.NameAnswers.{answer_handed, by_any_read, part_refused, test_refused, then_refused}
 use Rattle.change_outcome.proofs.NameSteps.{by_none, comes_found, comes_refused, goes}
 use Rattle.change_outcome.proofs.arrivals.read_name.Goals as goal
 
@@ -58,3 +61,21 @@ returns-in_ok-pkg-in-Some-candidate-clause-found g c =
     let n = placed_name_seen c.args.name.now in
     comes_found before c.args.pool.now c.args.repositories.now c.args.no_scripts n h (change_seen c.in-Some.change) (candidate_value c.in-Some-candidate.c) c.in_ok-pkg-in-Some-candidate.pkg
     (ap (option_map change_seen) c.in-Some.is) (sym c.candidate.ensures ∙ ap (option_map candidate_value) c.in-Some-candidate.is) c.in_ok-pkg-in-Some-candidate.ensures.found
+
+pub returns-in_default-clause-tree : goal.returns-in_default-clause-tree
+returns-in_default-clause-tree g c = readings_none Disk _ _ _
+
+pub returns-in_err-test_removed-in-None-clause-tree : goal.returns-in_err-test_removed-in-None-clause-tree
+returns-in_err-test_removed-in-None-clause-tree g c =
+    let h = g.T.Tree.history c.args.tree.now in
+    let counts = g.T.Tree.counts c.args.tree.now in
+    then_refused {A = ℕ} {U = Unit {0}} (λ _. None) _ Disk h h counts counts 0 c.from_residual.result c.in_err-test_removed-in-None.field-0.0 c.from_residual.ensures.1 c.in_err-test_removed-in-None.ensures (readings_none Disk h counts 0)
+
+pub returns-in_ok-test_removed-in-None-clause-tree : goal.returns-in_ok-test_removed-in-None-clause-tree
+returns-in_ok-test_removed-in-None-clause-tree g c = readings_none Disk _ _ _
+
+pub returns-in_err-pkg-in-Some-candidate-clause-tree : goal.returns-in_err-pkg-in-Some-candidate-clause-tree
+returns-in_err-pkg-in-Some-candidate-clause-tree g c = reading_off _ _ _ _ _ _ c.from_residual-in_err-pkg-in-Some-candidate.result c.from_residual-in_err-pkg-in-Some-candidate.ensures.1 c.in_err-pkg-in-Some-candidate.ensures.tree
+
+pub returns-in_ok-pkg-in-Some-candidate-clause-tree : goal.returns-in_ok-pkg-in-Some-candidate-clause-tree
+returns-in_ok-pkg-in-Some-candidate-clause-tree g c = reading_as _ _ _ _ _ _ _ c.in_ok-pkg-in-Some-candidate.ensures.tree

@@ -2,6 +2,7 @@ use Rattle.std.proofs.Common.{◌∙◌, [], ◌∷◌}
 use Rattle.base_core.specs.Tree.{CanRename}
 use Rattle.journal_core.proofs.Chain.{IsAny, any_now, proper_now, step_now}
 use Rattle.journal_core.proofs.Maps.{maps_on, names_maps, rename_maps}
+use Rattle.journal_core.proofs.Counted.{error_counted, if_failed, later_counted, one_counted}
 use Rattle.journal_core.proofs.History.{on_observable}
 use Rattle.journal_core.proofs.OneCall.{now_is}
 use Rattle.journal_commit.proofs.Settle.{first_done, first_failed, full_now, names_called, names_settled, rename_done, rename_failed}
@@ -61,3 +62,21 @@ returns-clause-proper g c =
     proper_now IsAny _ _ _ c.sync_all_names-2.result (step_now (CanRename c.args.from.now c.args.to.now) IsAny _ _ _ can c.in_ok-rename.ensures.moves (λ w q. tt)) c.sync_all_names-2.ensures.counts (λ w q. tt)
     ∙ proper_now (CanRename c.args.from.now c.args.to.now) _ _ _ _ can c.in_ok-rename.ensures.counts (λ w q. q)
     ∙ proper_now IsAny _ _ _ _ (any_now _ v rest is) c.in_ok-sync_all_names.ensures.counts (λ w q. tt))
+
+pub returns-in_err-sync_all_names-clause-settled : goal.returns-in_err-sync_all_names-clause-settled
+returns-in_err-sync_all_names-clause-settled g c = on_observable (g.T.Tree.history c.args.tree.now) _ (λ v rest is bytes start full. if_failed c.from_residual.result _ _ c.from_residual.ensures.1)
+
+pub returns-in_err-sync_all_names-clause-counts : goal.returns-in_err-sync_all_names-clause-counts
+returns-in_err-sync_all_names-clause-counts g c = error_counted _ _ _ c.from_residual.result _ c.from_residual.ensures.1 (one_counted _ _ _ _ _ c.in_err-sync_all_names.ensures.counts)
+
+pub returns-in_err-rename-clause-settled : goal.returns-in_err-rename-clause-settled
+returns-in_err-rename-clause-settled g c = on_observable (g.T.Tree.history c.args.tree.now) _ (λ v rest is bytes start full. if_failed c.from_residual-in_err-rename.result _ _ c.from_residual-in_err-rename.ensures.1)
+
+pub returns-in_err-rename-clause-counts : goal.returns-in_err-rename-clause-counts
+returns-in_err-rename-clause-counts g c = error_counted _ _ _ c.from_residual-in_err-rename.result _ c.from_residual-in_err-rename.ensures.1 (later_counted _ _ _ _ _ (one_counted _ _ _ _ _ c.in_ok-sync_all_names.ensures.counts) (one_counted _ _ _ _ _ c.in_err-rename.ensures.counts))
+
+pub returns-in_err-sync_all_names-clause-proper : goal.returns-in_err-sync_all_names-clause-proper
+returns-in_err-sync_all_names-clause-proper g c = on_observable (g.T.Tree.history c.args.tree.now) _ (λ v rest is may. proper_now IsAny _ _ _ _ (any_now _ v rest is) c.in_err-sync_all_names.ensures.counts (λ w q. tt))
+
+pub returns-clause-counts : goal.returns-clause-counts
+returns-clause-counts g c = later_counted _ _ _ _ c.sync_all_names-2.result (one_counted _ _ _ _ _ c.in_ok-sync_all_names.ensures.counts) (later_counted _ _ _ _ c.sync_all_names-2.result (one_counted _ _ _ _ _ c.in_ok-rename.ensures.counts) (one_counted _ _ _ _ _ c.sync_all_names-2.ensures.counts))

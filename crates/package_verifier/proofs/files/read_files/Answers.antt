@@ -16,7 +16,7 @@ use Rattle.package_verifier.specs.Places.{AreFilesTested}
 use Rattle.package_verifier.specs.declared.files.FilesTest.TheVariants as Tests
 use Rattle.package_verifier.specs.declared.places.FilePlace.{FilePlace}
 use Rattle.package_verifier.proofs.FullPieces.{full_pieces}
-use Rattle.package_verifier.proofs.PiecesPassed.{IsPassedTo, IsReadBy, all_stand, kept_places, nearer, none_passed, one_fails, one_passed, reads_as, reads_nothing, told_from}
+use Rattle.package_verifier.proofs.PiecesPassed.{IsPassedTo, IsReadBy, all_stand, kept_places, nearer, none_passed, one_fails, one_passed, reads_as, reads_nothing, reads_refused, told_from}
 use Rattle.package_verifier.proofs.files.read_files.Goals as goal
 
 pub pieces-init : goal.pieces-init
@@ -80,3 +80,9 @@ returns-in-Err-Bad-clause-files g c =
     told_from _ _ _ _ _ c.new-reader.result c.pieces.reader c.next_piece.new.self c.pieces.places.items c.next_piece.new.piece (Err (Bad c.in-Err-Bad.cause)) (λ pkg. pieces_read_from_blocks es (block_stream_from (position_after_front c.args.front.now pkg))) (λ pkg. AreFilesTested (files_read_from_blocks es (block_stream_from (position_after_front c.args.front.now pkg))) pkg (Tests.Bad _)) inv.tree.same c.new-reader.ensures.name c.new-reader.ensures.len c.new-reader.ensures.offset inv.name inv.len inv.passed (subst (λ (f : PieceFault). IsReadBy (g.T.Tree.history c.pieces.tree) c.pieces.reader c.next_piece.new.piece (Err f) c.next_piece.new.self) c.in-Err-Bad.field-0-is c.in-Err-Bad.ensures.piece)
     (λ pkg l answer. one_fails c.pieces.reader c.pieces.places.items pkg _ c.in-Err-Bad.cause _ l (c.the_pieces_are_refused_for_the_first_fault_of_the_blocks.ensures es (block_stream_from (position_after_front c.args.front.now pkg))) answer.0 ∙ ap (λ (x : Cause). Some x) (sym c.in-Err-Bad.cause-is))
     c.new-reader.ensures.pieces
+
+pub returns-in-Err-Bad-clause-tree : goal.returns-in-Err-Bad-clause-tree
+returns-in-Err-Bad-clause-tree g c =
+    let inv = c.pieces.invariant in
+    reads_as _ _ DiskFault DiskFault _ _ _ _ (Tests.Bad c.in-Err-Bad.cause) _
+    (rw c.new-reader.ensures.len at (renamed _ _ _ _ _ _ _ _ _ c.new-reader.ensures.name (reads_in_a_row _ _ DiskFault DiskFault _ _ _ _ _ _ tt _ inv.tree (reads_refused _ _ _ _ _ _ _ _ (Tests.Bad c.in-Err-Bad.cause) c.in-Err-Bad.field-0-is (rw inv.len at (renamed _ _ _ _ _ _ _ _ _ inv.name c.in-Err-Bad.ensures.tree))))))

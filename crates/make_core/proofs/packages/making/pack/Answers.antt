@@ -2,6 +2,7 @@ use Rattle.std.proofs.Common.{Ok, Err}
 use Rattle.make_core.proofs.MadeParts.{sizes_held, values_allowed}
 use Rattle.make_core.proofs.MadeRuns.{both_as, folders_fault, info_fault, package_as, parts_made, quiet_answer, scripts_as, scripts_fault}
 use Rattle.package_files.proofs.ReadLemmas.{explained_as, same_fault}
+use Rattle.base_core.proofs.ReadAfter.{reading_off, second_reading_failed}
 use Rattle.make_core.proofs.packages.making.pack.Goals as goal
 
 pub read_scripts-requires : goal.read_scripts-requires
@@ -37,3 +38,10 @@ pub returns-clause-tree : goal.returns-clause-tree
 returns-clause-tree g c =
     quiet_answer c.in_ok-packing.packing _ _ _ _ c.package.result
     (c.consecutive_reads_compose.ensures.two _ _ _ _ _ _ _ _ _ c.in_ok-scripts.ensures.tree c.in_ok-packing.ensures.tree) c.package.ensures.disk
+
+pub returns-in_err-scripts-clause-tree : goal.returns-in_err-scripts-clause-tree
+returns-in_err-scripts-clause-tree g c = reading_off _ _ _ _ _ _ c.from_residual.result c.from_residual.ensures.1 c.in_err-scripts.ensures.tree
+
+pub returns-in_err-packing-clause-tree : goal.returns-in_err-packing-clause-tree
+returns-in_err-packing-clause-tree g c =
+    second_reading_failed _ _ _ _ _ _ _ _ _ c.from_residual-in_err-packing.result c.from_residual-in_err-packing.ensures.1 c.in_ok-scripts.ensures.tree c.in_err-packing.ensures.tree

@@ -1,8 +1,10 @@
 -- The file that is open is the next one.
 use Rattle.std.proofs.Common.{ap, sym, ◌∙◌}
 use Rattle.package_reader.specs.Readers.{files_to_read_in}
+use Rattle.package_reader.proofs.FileOpened.{opens_end, opens_file, opens_none}
 use Rattle.package_reader.proofs.FileRead.{ends_within}
-use Rattle.pkg_core.proofs.SeenBytes.{reads_err}
+use Rattle.pkg_core.proofs.ReadCalls.{nothing_read}
+use Rattle.pkg_core.proofs.SeenBytes.{reads_err, reads_ok}
 use Rattle.package_reader.specs.declared.piece.PieceFault.TheVariants.{Disk as DiskFault}
 use Rattle.package_reader.proofs.BlockSeen.{not_ok}
 use Rattle.package_reader.proofs.Readings.{open_already, start_found, start_kept}
@@ -36,3 +38,30 @@ returns-in_err-found-clause-tree g c = reads_err _ _ DiskFault _ _ _ _ c.in_err-
 
 pub returns-clause-start : goal.returns-clause-start
 returns-clause-start g c = start_found c.args.self.now c.in-Some-2.found (sym c.take.ensures.value ∙ c.in_default.is)
+
+pub returns-in_err-found-clause-file : goal.returns-in_err-found-clause-file
+returns-in_err-found-clause-file g c = opens_none _ c.args.self.now _ _ c.from_residual.result c.from_residual.ensures.1 (sym c.take.ensures.value ∙ c.in_default.is) c.in_err-found.ensures.file
+
+pub returns-in-Some-clause-tree : goal.returns-in-Some-clause-tree
+returns-in-Some-clause-tree g c = nothing_read _ _ DiskFault _ _ _
+
+pub returns-in_default-2-clause-file : goal.returns-in_default-2-clause-file
+returns-in_default-2-clause-file g c = opens_end _ c.args.self.now c.next_file.new.place (sym c.take.ensures.value ∙ c.in_default.is) (rw c.in_default-2.is at c.in_ok-found.ensures.file)
+
+pub returns-in_default-2-clause-opens : goal.returns-in_default-2-clause-opens
+returns-in_default-2-clause-opens g c = ap (files_to_read_in c.args.self.now.place) (sym c.take.ensures.value ∙ c.in_default.is) ∙ (rw c.in_default-2.is at c.in_ok-found.ensures.walk)
+
+pub returns-in_default-2-clause-tree : goal.returns-in_default-2-clause-tree
+returns-in_default-2-clause-tree g c = reads_ok _ _ DiskFault _ _ _ _ _ _ c.in_ok-found.ensures.tree
+
+pub returns-clause-file : goal.returns-clause-file
+returns-clause-file g c = opens_file _ c.args.self.now c.next_file.new.place c.in-Some-2.found (sym c.take.ensures.value ∙ c.in_default.is) (rw c.in-Some-2.is at c.in_ok-found.ensures.file)
+
+pub returns-clause-opens : goal.returns-clause-opens
+returns-clause-opens g c = ap (files_to_read_in c.args.self.now.place) (sym c.take.ensures.value ∙ c.in_default.is) ∙ (rw c.in-Some-2.is at c.in_ok-found.ensures.walk)
+
+pub returns-clause-room : goal.returns-clause-room
+returns-clause-room g c = rw c.in-Some-2.is at c.in_ok-found.ensures.room
+
+pub returns-clause-tree : goal.returns-clause-tree
+returns-clause-tree g c = reads_ok _ _ DiskFault _ _ _ _ _ _ c.in_ok-found.ensures.tree
