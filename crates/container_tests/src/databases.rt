@@ -13,6 +13,9 @@ use pkg_core::Front;
 use row_lines::{Answer, Subject, value_named, word_at};
 use std::alloc::{AllocError, Global};
 
+// The greatest number of files that the databases of the rows have.
+const MOST_FILES: usize = 100;
+
 /// The kinds of questions, with what is answered; the README of this crate says more.
 #[derive(Clone, Copy)]
 enum Question {
@@ -127,8 +130,8 @@ impl Installed {
         words: &Words,
         answer: &mut Answer,
     ) -> Result<(), AllocError> {
-        // One set flag for each of up to 100 files; flags after the last file have no effect.
-        let flags = [b'1'; 100];
+        // One set flag for each file; flags after the last file have no effect.
+        let flags = [b'1'; MOST_FILES];
         // There is no word after `again`, so that no package is removed.
         let same = match changed_database(alloc, &self.file, &[], &flags, words)? {
             Some(file) => file == self.file,

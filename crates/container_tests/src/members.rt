@@ -9,34 +9,21 @@ ghost use Rattle.db_core.specs.pkg_core.Values.{value_of_contents};
 ghost use Rattle.std.specs.Prelude.{◌≡◌, ◌<◌, Some, length, slice_get};
 
 use crate::package::package_file;
-use base_core::{Name, Words};
+use crate::package_tree::PackageTree;
+use base_core::Words;
 use db_core::{
     Contents, Db, Front, FrontFault, MOST_MEMBERS, Members, PACKAGE_WORD, PackageFault,
     PackageView, read_front,
 };
 use std::alloc::{AllocError, Global};
 use std::marker::PhantomData;
-use tree_memory::MemoryTree;
 
 /// The front (header and first block) of the package that a row describes, or None if the package
 /// is bad.
 pub(crate) fn front_of_row(alloc: Global, row: &Words) -> Result<Option<Front>, AllocError> {
     let file = package_file(alloc, row)?;
-    // The name of the file in the tree; any name would do.
-    match Name::read(alloc, b"p")? {
-        Some(name) => front_of(alloc, &name, &file),
-        None => Ok(None),
-    }
-}
-
-/// The front of the package with the bytes `file`. The bytes are put into a tree in memory as a
-/// file of this name, from which the front is read.
-fn front_of(alloc: Global, name: &Name, file: &[u8]) -> Result<Option<Front>, AllocError> {
-    let mut tree = MemoryTree::new(alloc);
-    if tree.can_put(name) {
-        tree.put(name, file)?;
-    }
-    match read_front(alloc, &mut tree, name, PACKAGE_WORD) {
+    let mut package = PackageTree::new(alloc, &file)?;
+    match read_front(alloc, &mut package.tree, &package.name, PACKAGE_WORD) {
         Ok(front) => Ok(front),
         Err(FrontFault::Bad(_) | FrontFault::Disk) => Ok(None),
         Err(FrontFault::Memory) => Err(AllocError),
