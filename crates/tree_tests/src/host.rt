@@ -1,17 +1,14 @@
 //! Answers questions about `host_tree`, the tree of the host, on the folder in which this program
-//! runs. The rules are in `docs/crash-safety.md`, "What the host's tree does". All rows (questions
-//! with their expected answers) are in the file `stdin` of this crate; `tests/lines.md` describes
-//! their form. The README of this crate has a row for each question.
-#![tactic(auto)]
+//! runs. The rules are in `docs/crash-safety.md`, "What the host's tree does". The files of the
+//! folder stay from one row to the next.
 
 use base_core::{Disk, Name, Tree, TreeFault, Words};
 use host_files::{Host, Lock};
 use host_tree::HostTree;
-use row_lines::{Answer, Subject, number_of, run_program, value_named, word_at};
+use row_lines::{Answer, Subject, number_of, value_named, word_at};
 use std::alloc::{AllocError, Global};
 use std::os::unix::fs::symlink;
-use std::process::ExitCode;
-use std::{fs, io, str};
+use std::{fs, str};
 
 /// The most bytes that a row may read, and the greatest offset at which it may read.
 const MOST_BYTES: u128 = 1_000_000;
@@ -65,11 +62,11 @@ const QUESTIONS: [(&[u8], Question); 13] = [
 
 /// The folder in which the program runs, and the tree whose root is this folder.
 #[derive(Drop)]
-struct HostFolder<'a, R: Host> {
+pub(crate) struct HostFolder<'a, R: Host> {
     /// The runtime, by which rows also call the host without the tree.
     rt: &'a R,
-    /// The tree that is tested.
-    tree: HostTree<'a, R>,
+    /// The tree that is tested. The first call on it locks the folder.
+    pub(crate) tree: HostTree<'a, R>,
 }
 
 impl<'a, R: Host> Subject for HostFolder<'a, R> {
@@ -102,6 +99,14 @@ impl<'a, R: Host> Subject for HostFolder<'a, R> {
 }
 
 impl<'a, R: Host> HostFolder<'a, R> {
+    /// The folder before the first call on its tree, which will lock the folder.
+    pub(crate) fn new(rt: &'a R, alloc: Global) -> HostFolder<'a, R> {
+        HostFolder {
+            rt,
+            tree: HostTree::new(rt, alloc, Lock::Exclusive),
+        }
+    }
+
     /// Answers a question about the file `name`, which is the second word of the row. Further words
     /// are arguments of the question.
     fn add_answer(
@@ -210,18 +215,4 @@ fn add_outcome<E: Drop>(answer: &mut Answer, outcome: Result<(), E>) {
         Ok(()) => answer.push(b"ok"),
         Err(_) => answer.push(b"fault"),
     }
-}
-
-/// Runs the rows of standard input in the folder in which the program runs, and returns the exit
-/// status.
-fn main(rt: HostRuntime) -> io::Result<ExitCode> {
-    let alloc = rt.alloc();
-    let mut folder = HostFolder {
-        rt: &rt,
-        tree: HostTree::new(&rt, alloc, Lock::Exclusive),
-    };
-    let code = run_program(&rt, alloc, &mut folder);
-    // Releases the lock on the folder.
-    folder.tree.leave();
-    code
 }
