@@ -11,22 +11,23 @@ use Rattle.std.specs.declared.cmp.Ordering.TheVariants.{Less, Equal, Greater}
 use Rattle.std.specs.Cmp.Lexicographic.{bytes_decides, nat_list_cmp_total}
 use Rattle.std.proofs.lemmas.Bool.{cases_lt, and_parts, or_cases, cases_Bool}
 use Rattle.std.proofs.lemmas.Map.Text.{is_eq-slice_cmp}
-use Rattle.search_tables.proofs.pool_core.Filtered.{meeting_offers}
+use Rattle.search_needs.proofs.search_tables.pool_core.Filtered.{meeting_offers}
 use Rattle.dep_core.specs.Dependency.{Dependency}
-use Rattle.search_tables.specs.candidate_core.Candidates.{Candidate, Need, entry, is_eligible_with_positive_install_if, named, offers_name, meets_dependency}
-use Rattle.search_tables.specs.candidate_core.Rank.{SelectionProblem, bytes_cmp, candidate_at, meets_at}
-use Rattle.search_tables.specs.candidate_core.Options.{IsIn, options_for}
-use Rattle.search_tables.proofs.candidate_core.Places.{place_of}
-use Rattle.search_tables.specs.Selection.{AreAllMembersOf, is_met, is_unmet, names_whose_install_if_applies, install_if_applies, least_name, lesser_name, needs, next_need, needs_of_world_and_chosen}
-use Rattle.search_tables.specs.Reasons.{FrameValue, IsFrameOf}
-use Rattle.search_tables.specs.InstallIf.{AreUsableInstallIfsByName, AreNoneTriggeredBelow, IsLeastTriggeredInstallIf, IsNoInstallIfTriggered, all_met, is_install_if_triggered_at, is_triggered_by_install_if, has_lesser_name, install_if_at, is_eligible_with_positive_install_if_at, name_at, is_install_if_triggered_at_rank}
-use Rattle.search_tables.specs.NameTable.{items_under_name}
-use Rattle.search_tables.specs.Queue.{is_unmet_dep, queue_of}
-use Rattle.search_tables.proofs.Theory.{in_append, in_right, none_or_some}
-use Rattle.search_tables.proofs.PoolFacts.{any_in, filter_in, in_filter, in_map, map_in, least_in}
-use Rattle.search_tables.proofs.Satisfying.{any_one, one_any}
-use Rattle.search_tables.proofs.Queued.{any_append}
-use Rattle.search_tables.proofs.Places.{there_is}
+use Rattle.search_needs.specs.candidate_core.Candidates.{Candidate, Need, entry, is_eligible_with_positive_install_if, named, offers_name, meets_dependency}
+use Rattle.search_needs.specs.candidate_core.Rank.{SelectionProblem, bytes_cmp, candidate_at, meets_at}
+use Rattle.search_needs.specs.candidate_core.Options.{IsIn, options_for}
+use Rattle.search_needs.proofs.candidate_core.Places.{place_of}
+use Rattle.search_needs.specs.search_tables.Selection.{AreAllMembersOf, is_met, is_unmet, names_whose_install_if_applies, install_if_applies, least_name, lesser_name, needs, next_need, needs_of_world_and_chosen}
+use Rattle.search_needs.specs.search_tables.Reasons.{FrameValue, IsFrameOf}
+use Rattle.search_needs.specs.TriggeredInstallIf.{AreNoneTriggeredBelow, IsLeastTriggeredInstallIf, IsNoInstallIfTriggered, all_met, is_install_if_triggered_at, is_triggered_by_install_if, is_install_if_triggered_at_rank}
+use Rattle.search_needs.specs.search_tables.InstallIf.{AreUsableInstallIfsByName, has_lesser_name, install_if_at, is_eligible_with_positive_install_if_at, name_at}
+use Rattle.search_needs.specs.search_tables.NameTable.{items_under_name}
+use Rattle.search_needs.specs.search_tables.Queue.{is_unmet_dep, queue_of}
+use Rattle.search_needs.proofs.search_tables.Theory.{in_append, in_right, none_or_some}
+use Rattle.search_needs.proofs.search_tables.PoolFacts.{any_in, filter_in, in_filter, in_map, map_in, least_in}
+use Rattle.search_needs.proofs.search_tables.Satisfying.{any_one, one_any}
+use Rattle.search_needs.proofs.search_tables.Queued.{any_append}
+use Rattle.search_needs.proofs.search_tables.Places.{there_is}
 use Rattle.search_choices.proofs.Consistency.{passing_is_within, none_raised}
 
 -- ---- places and ranks

@@ -5,29 +5,30 @@ use Rattle.std.specs.Bool.{MatchBool}
 use Rattle.dep_core.specs.Dependency.{Dependency}
 use Rattle.std.specs.Option.{option_map_or}
 use Rattle.std.specs.List.{filter, find, flat_map}
-use Rattle.search_tables.specs.candidate_core.Candidates.{Candidate, Need, entry, named}
-use Rattle.search_tables.specs.candidate_core.Rank.{SelectionProblem, candidate_at_passes}
-use Rattle.search_tables.specs.candidate_core.Candidates.{is_eligible}
-use Rattle.search_tables.specs.Reasons.{IsFrameTaking, ruled_out_options}
+use Rattle.search_needs.specs.candidate_core.Candidates.{Candidate, Need, entry, named}
+use Rattle.search_needs.specs.candidate_core.Rank.{SelectionProblem, candidate_at_passes}
+use Rattle.search_needs.specs.candidate_core.Candidates.{is_eligible}
+use Rattle.search_needs.specs.search_tables.Reasons.{IsFrameTaking, ruled_out_options}
 use Rattle.std.proofs.lemmas.Bool.{cases_Bool}
-use Rattle.search_tables.specs.candidate_core.Options.{IsIn, options_for}
-use Rattle.search_tables.specs.Selection.{AreAllMembersOf, names_whose_install_if_applies, depends_at, is_met, is_unmet, needs, positive_needs, next_need, needs_of_world_and_chosen}
-use Rattle.search_tables.specs.Reasons.{FrameValue, IsFrameOf}
-use Rattle.search_tables.specs.InstallIf.{AreUsableInstallIfsByName, AreNoneTriggeredBelow}
-use Rattle.search_tables.specs.Queue.{AreFirstDepsMet, RaisedDepValue, is_unmet_dep, queue_of, raised_deps_at, raised_deps, raised_deps_from}
-use Rattle.search_tables.specs.Conflicts.{AreConflictsOf, HasDepends, ListedConflictValue, conflicts_among, conflicts_in, conflicts_of_name_in}
-use Rattle.search_tables.specs.Excluders.{IsConflictTable}
-use Rattle.search_tables.specs.NameTable.{items_under_name}
-use Rattle.search_tables.specs.Reasons.{HasOptions}
+use Rattle.search_needs.specs.candidate_core.Options.{IsIn, options_for}
+use Rattle.search_needs.specs.search_tables.Selection.{AreAllMembersOf, names_whose_install_if_applies, depends_at, is_met, is_unmet, needs, positive_needs, next_need, needs_of_world_and_chosen}
+use Rattle.search_needs.specs.search_tables.Reasons.{FrameValue, IsFrameOf}
+use Rattle.search_needs.specs.TriggeredInstallIf.{AreNoneTriggeredBelow}
+use Rattle.search_needs.specs.search_tables.InstallIf.{AreUsableInstallIfsByName}
+use Rattle.search_needs.specs.search_tables.Queue.{AreFirstDepsMet, RaisedDepValue, is_unmet_dep, queue_of, raised_deps_at, raised_deps, raised_deps_from}
+use Rattle.search_needs.specs.search_tables.Conflicts.{AreConflictsOf, HasDepends, ListedConflictValue, conflicts_among, conflicts_in, conflicts_of_name_in}
+use Rattle.search_needs.specs.search_tables.Excluders.{IsConflictTable}
+use Rattle.search_needs.specs.search_tables.NameTable.{items_under_name}
+use Rattle.search_needs.specs.search_tables.Reasons.{HasOptions}
 use Rattle.search_choices.specs.Choices.{AreCheckpointsOfLaterChoices, IsConsistent, choices_of, install_ifs_of, pool_of}
-use Rattle.search_tables.specs.declared.conflicts.Conflicts.{Conflicts}
-use Rattle.search_tables.specs.declared.install_ifs.InstallIfs.{InstallIfs}
+use Rattle.search_needs.specs.search_tables.declared.conflicts.Conflicts.{Conflicts}
+use Rattle.search_needs.specs.search_tables.declared.install_ifs.InstallIfs.{InstallIfs}
 use Rattle.search_choices.specs.declared.choices.Choices.{Choices}
-use Rattle.search_tables.specs.declared.queue.Checkpoint.{Checkpoint}
-use Rattle.search_tables.proofs.Theory.{in_left, in_right, in_append}
-use Rattle.search_tables.proofs.PoolFacts.{find_in, pool_facts}
-use Rattle.search_tables.proofs.ConflictTables.{listed_more}
-use Rattle.search_tables.proofs.Queued.{find_here, past_end, met_more, met_next, queue_more}
+use Rattle.search_needs.specs.search_tables.declared.queue.Checkpoint.{Checkpoint}
+use Rattle.search_needs.proofs.search_tables.Theory.{in_left, in_right, in_append}
+use Rattle.search_needs.proofs.search_tables.PoolFacts.{find_in, pool_facts}
+use Rattle.search_needs.proofs.search_tables.ConflictTables.{listed_more}
+use Rattle.search_needs.proofs.search_tables.Queued.{find_here, past_end, met_more, met_next, queue_more}
 
 module _ (pool : SelectionProblem) (install_ifs : List ℕ) where
   abbrev pub IsBefore : List ℕ → Checkpoint → Type 0

@@ -2,10 +2,10 @@
 use Rattle.std.proofs.Common.{◌≡◌, ◌∙◌, List, ℕ, sym, subst}
 use Rattle.std.specs.Prelude.{Option, None, Result, Ok, Err, IfOk, IsErrAnd, MatchOption}
 use Rattle.std.specs.List.{find}
-use Rattle.search_tables.specs.candidate_core.Rank.{SelectionProblem}
-use Rattle.search_tables.specs.Queue.{RaisedDepValue, is_unmet_dep, queue_of}
-use Rattle.search_tables.specs.Reasons.{FrameValue, IsFrameOf}
-use Rattle.search_tables.specs.Selection.{next_need}
+use Rattle.search_needs.specs.candidate_core.Rank.{SelectionProblem}
+use Rattle.search_needs.specs.search_tables.Queue.{RaisedDepValue, is_unmet_dep, queue_of}
+use Rattle.search_needs.specs.search_tables.Reasons.{FrameValue, IsFrameOf}
+use Rattle.search_needs.specs.search_tables.Selection.{next_need}
 
 -- each raised dependency is met if the queue has none at its cursor
 pub all_met : (p q : SelectionProblem) (t u : List ℕ) (front : Option RaisedDepValue) → q ≡ p → u ≡ t → None ≡ front → front ≡ find (is_unmet_dep p t) (queue_of p t) → find (is_unmet_dep q u) (queue_of q u) ≡ None

@@ -2,14 +2,15 @@
 -- of a document: serves the contracts of `src/choices.rt` and `src/search.rt` of `solve_core`. The
 -- search is described in `docs/selection.md`, "How the search works".
 use Rattle.std.specs.Prelude.{◌≡◌, ◌<◌, length, ℕ, List, [], ◌∷◌, ◌++◌}
-use Rattle.search_tables.specs.candidate_core.Rank.{SelectionProblem}
-use Rattle.search_tables.specs.candidate_core.Options.{IsIn}
-use Rattle.search_tables.specs.Conflicts.{AreConflictsOf}
-use Rattle.search_tables.specs.Excluders.{IsConflictTable}
-use Rattle.search_tables.specs.InstallIf.{AreUsableInstallIfsByName, AreNoneTriggeredBelow}
-use Rattle.search_tables.specs.Queue.{AreFirstDepsMet, queue_of}
-use Rattle.search_tables.specs.declared.queue.Checkpoint.{Checkpoint}
-use Rattle.search_tables.specs.Reasons.{FrameValue, AreCompatible, AreTurnsFrom, choices_of_turns}
+use Rattle.search_needs.specs.candidate_core.Rank.{SelectionProblem}
+use Rattle.search_needs.specs.candidate_core.Options.{IsIn}
+use Rattle.search_needs.specs.search_tables.Conflicts.{AreConflictsOf}
+use Rattle.search_needs.specs.search_tables.Excluders.{IsConflictTable}
+use Rattle.search_needs.specs.TriggeredInstallIf.{AreNoneTriggeredBelow}
+use Rattle.search_needs.specs.search_tables.InstallIf.{AreUsableInstallIfsByName}
+use Rattle.search_needs.specs.search_tables.Queue.{AreFirstDepsMet, queue_of}
+use Rattle.search_needs.specs.search_tables.declared.queue.Checkpoint.{Checkpoint}
+use Rattle.search_needs.specs.search_tables.Reasons.{FrameValue, AreCompatible, AreTurnsFrom, choices_of_turns}
 use Rattle.search_choices.specs.declared.choices.Choices.{Choices}
 
 -- the pool of whose candidates some choices are made

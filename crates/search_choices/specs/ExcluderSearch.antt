@@ -2,13 +2,13 @@
 -- contracts of `src/choices/excluders.rt`. `Excluders` of `search_tables` has what excludes a candidate.
 use Rattle.std.specs.Prelude.{◌≡◌, ℕ, Option, Some, Result, IfOk, MatchOption, OnOk}
 use Rattle.std.specs.declared.alloc.AllocError.{AllocError}
-use Rattle.search_tables.specs.candidate_core.Candidates.{Candidate}
-use Rattle.search_tables.specs.candidate_core.Options.{IsIn}
-use Rattle.search_tables.specs.candidate_core.PackageMatches.{AreMatchesAmong}
-use Rattle.search_tables.specs.candidate_core.Rank.{candidate_at}
-use Rattle.search_tables.specs.candidate_core.declared.package_matches.PackageMatches.{PackageMatches}
-use Rattle.search_tables.specs.Conflicts.{AreConflictsOf}
-use Rattle.search_tables.specs.Excluders.{IsConflictTable, IsExcluderAmongChoices}
+use Rattle.search_needs.specs.candidate_core.Candidates.{Candidate}
+use Rattle.search_needs.specs.candidate_core.Options.{IsIn}
+use Rattle.search_needs.specs.candidate_core.PackageMatches.{AreMatchesAmong}
+use Rattle.search_needs.specs.candidate_core.Rank.{candidate_at}
+use Rattle.search_needs.specs.candidate_core.declared.package_matches.PackageMatches.{PackageMatches}
+use Rattle.search_needs.specs.search_tables.Conflicts.{AreConflictsOf}
+use Rattle.search_needs.specs.search_tables.Excluders.{IsConflictTable, IsExcluderAmongChoices}
 use Rattle.search_choices.specs.Choices.{choices_of, pool_of}
 use Rattle.search_choices.specs.declared.choices.Choices.{Choices}
 

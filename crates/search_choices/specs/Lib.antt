@@ -2,8 +2,8 @@
 -- selection is taken", and "How the search works".
 
 -- re-exported crates: a crate that depends on this one can use their definitions without depending on them too
-pub use Rattle.search_tables.specs as search_tables
-pub use Rattle.search_tables.specs.candidate_core as candidate_core
+pub use Rattle.search_needs.specs.search_tables as search_tables
+pub use Rattle.search_needs.specs.candidate_core as candidate_core
 -- cited by the contracts of this crate's calls
 pub mod Choices
 -- used by contracts of private calls only

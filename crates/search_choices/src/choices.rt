@@ -5,24 +5,24 @@ ghost use Rattle.std.specs.Prelude.{◌≡◌, ◌≤◌, ℕ, List, [], ◌∷�
 ghost use Rattle.std.specs.List.{find};
 ghost use Rattle.dep_core.specs.Dependency.{Dependency};
 ghost use Rattle.dep_core.specs.Meets.{dependency};
-ghost use Rattle.search_tables.specs.candidate_core.Candidates.{Candidate, entry};
-ghost use Rattle.search_tables.specs.candidate_core.Candidates.{offers_name};
-ghost use Rattle.search_tables.specs.candidate_core.Options.{IsIn, options_for};
-ghost use Rattle.search_tables.specs.candidate_core.PackageMatches.{AreMatchesAmong};
-ghost use Rattle.search_tables.specs.InstallIf.{AreNoneTriggeredBelow, IsLeastTriggeredInstallIf, IsNoInstallIfTriggered, is_install_if_triggered_at_rank};
-ghost use Rattle.search_tables.specs.NameTable.{items_under_name};
-ghost use Rattle.search_tables.specs.Queue.{AreFirstDepsMet, is_unmet_dep, queue_of};
-ghost use Rattle.search_tables.specs.Selection.{depends_at, is_met, next_need};
-ghost use Rattle.search_tables.specs.Reasons.{IsFrameOf};
+ghost use Rattle.search_needs.specs.candidate_core.Candidates.{Candidate, entry};
+ghost use Rattle.search_needs.specs.candidate_core.Candidates.{offers_name};
+ghost use Rattle.search_needs.specs.candidate_core.Options.{IsIn, options_for};
+ghost use Rattle.search_needs.specs.candidate_core.PackageMatches.{AreMatchesAmong};
+ghost use Rattle.search_needs.specs.TriggeredInstallIf.{AreNoneTriggeredBelow, IsLeastTriggeredInstallIf, IsNoInstallIfTriggered, is_install_if_triggered_at_rank};
+ghost use Rattle.search_needs.specs.search_tables.NameTable.{items_under_name};
+ghost use Rattle.search_needs.specs.search_tables.Queue.{AreFirstDepsMet, is_unmet_dep, queue_of};
+ghost use Rattle.search_needs.specs.search_tables.Selection.{depends_at, is_met, next_need};
+ghost use Rattle.search_needs.specs.search_tables.Reasons.{IsFrameOf};
 ghost use Rattle.search_choices.specs.Choices.{IsConsistent, choices_of, install_ifs_of, pool_of};
-ghost use Rattle.search_tables.specs.Conflicts.{AreConflictsOf};
-ghost use Rattle.search_tables.specs.Excluders.{IsConflictTable};
+ghost use Rattle.search_needs.specs.search_tables.Conflicts.{AreConflictsOf};
+ghost use Rattle.search_needs.specs.search_tables.Excluders.{IsConflictTable};
 
 mod excluders;
 
 use crate::trace::Trace;
 use dep_core::World;
-use search_tables::{
+use search_needs::{
     CandId, CandidateSet, Checkpoint, Conflicts, Deps, Details, Frame, InstallIfs, NeedRef,
     PackageDep, PackageMatches, RaisedDep, Sealed, is_held_met, is_met_by_latest_or_other,
     is_triggered_by_install_if, queue_all, queue_world, raisers,

@@ -10,9 +10,9 @@ mod choices;
 mod trace;
 
 pub use choices::Choices;
-// Names of `search_tables` and the crates below it that users of this crate need.
-pub use search_tables::{
-    CandId, Candidate, CandidateSet, Details, Frame, PackageMatches, RuledOutOption, Sealed,
-    SortedWords, is_same_id_by_nonempty_prefix, options_are_the_best_first, rank_is_total,
+// Names of `search_needs` and the crates below it that users of this crate need.
+pub use search_needs::{
+    CandId, Candidate, CandidateSet, Details, Frame, NeedRef, PackageMatches, RuledOutOption,
+    Sealed, SortedWords, is_same_id_by_nonempty_prefix, options_are_the_best_first, rank_is_total,
 };
 pub use trace::Trace;

@@ -1,7 +1,7 @@
 //! The choices that lead to the preferred selection, as `solve` of `solve_core` returns them.
 ghost use Rattle.std.specs.Prelude.{◌≡◌, ◌<◌, IfOk, Some, length, slice_get};
 
-use search_tables::CandId;
+use search_needs::CandId;
 use std::alloc::{AllocError, Global};
 use std::marker::Model;
 

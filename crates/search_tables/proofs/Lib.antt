@@ -7,11 +7,10 @@ pub mod PoolFacts
 pub mod Marks
 pub mod Members
 pub mod Satisfying
-pub mod Offered
+pub mod ListLoops
 pub mod Queued
 pub mod NameTables
 pub mod ConflictTables
 pub mod Places
 pub mod ByteOrder
-pub mod RaiserLists
 pub mod Excluders

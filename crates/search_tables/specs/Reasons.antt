@@ -1,7 +1,7 @@
 -- Why options are ruled out, and the state of a search. A reason is a list of candidates that no
 -- satisfying selection contains together. The rule is in `docs/selection.md`, "How the search works";
--- the words in `docs/names.md`, "Choosing packages". Serves the contracts of `src/frame.rt`, and in
--- `solve_core` those of `src/search.rt`.
+-- the words in `docs/names.md`, "Choosing packages". Serves the contracts of
+-- `src/candidate_set.rt`, and in `solve_core` those of `src/search.rt`.
 use Rattle.std.specs.Prelude.{◌≡◌, ℕ, true, List, [], ◌∷◌, ◌++◌, Some, None}
 use Rattle.pool_core.specs.candidate_core.Candidates.{Need}
 use Rattle.pool_core.specs.candidate_core.Rank.{SelectionProblem, is_better, is_eligible_at, meets_at}

@@ -14,8 +14,7 @@ use crate::clauses::Clause;
 use crate::known::Known;
 use crate::selection::options_are_as_promised;
 use dep_core::Dep;
-use search_choices::{CandId, CandidateSet, Details, Sealed};
-use search_tables::NeedRef;
+use search_choices::{CandId, CandidateSet, Details, NeedRef, Sealed};
 use std::alloc::{AllocError, Global};
 
 /// The most options of a need that is made a clause. A need with more options rarely forces one.

@@ -6,18 +6,18 @@
 ghost use Rattle.std.specs.Prelude.{◌≡◌, ◌<◌, ℕ, length, true, false, IfOk, MatchOption, OnOk, Some, is_some, slice_get};
 ghost use Rattle.dep_core.specs.Dependency.{Dependency};
 ghost use Rattle.dep_core.specs.Meets.{dependency};
-ghost use Rattle.search_tables.specs.candidate_core.Candidates.{entry, occupies_name};
-ghost use Rattle.search_tables.specs.candidate_core.Options.{IsIn};
-ghost use Rattle.search_tables.specs.candidate_core.PackageMatches.{AreMatchesAmong};
-ghost use Rattle.search_tables.specs.candidate_core.Rank.{candidate_at_passes};
+ghost use Rattle.search_needs.specs.candidate_core.Candidates.{entry, occupies_name};
+ghost use Rattle.search_needs.specs.candidate_core.Options.{IsIn};
+ghost use Rattle.search_needs.specs.candidate_core.PackageMatches.{AreMatchesAmong};
+ghost use Rattle.search_needs.specs.candidate_core.Rank.{candidate_at_passes};
 ghost use Rattle.search_choices.specs.Choices.{IsConsistent, choices_of, pool_of};
 ghost use Rattle.search_choices.specs.ExcluderSearch.{FindsExcluder, HasConflictsOfChoices, IsUnchosenCandidate};
-ghost use Rattle.search_tables.specs.Excluders.{IsExcluderAmongChoices, IsNotExcludedAt};
-ghost use Rattle.search_tables.specs.Selection.{exclude_each_other, is_met, occupied_names};
+ghost use Rattle.search_needs.specs.search_tables.Excluders.{IsExcluderAmongChoices, IsNotExcludedAt};
+ghost use Rattle.search_needs.specs.search_tables.Selection.{exclude_each_other, is_met, occupied_names};
 
 use super::Choices;
 use dep_core::Dep;
-use search_tables::{CandId, Details, PackageDep, PackageMatches, choice_meeting_own, occupant};
+use search_needs::{CandId, Details, PackageDep, PackageMatches, choice_meeting_own, occupant};
 use std::alloc::AllocError;
 
 impl<'p> Choices<'p> {

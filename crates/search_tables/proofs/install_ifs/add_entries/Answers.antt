@@ -4,7 +4,7 @@ use Rattle.dep_core.specs.Meets.{dependency}
 use Rattle.pool_core.specs.candidate_core.Options.{AreAllMembersOf, IsIn}
 use Rattle.search_tables.specs.NameTable.{items_under_name}
 use Rattle.search_tables.proofs.NameTables.{item_there, items_kept, members_on}
-use Rattle.search_tables.proofs.Offered.{each_all, each_on}
+use Rattle.search_tables.proofs.ListLoops.{each_all, each_on}
 use Rattle.search_tables.proofs.install_ifs.add_entries.Goals as goal
 
 pub loop-i-init : goal.loop-i-init

@@ -3,7 +3,7 @@ use Rattle.std.specs.Prelude.{option_to_list}
 use Rattle.std.proofs.lemmas.List.{take_all}
 use Rattle.search_tables.specs.candidate_core.Options.{IsIn}
 use Rattle.search_tables.proofs.candidate_core.Steps.{take_one_more}
-use Rattle.search_tables.proofs.Offered.{in_more}
+use Rattle.search_tables.proofs.ListLoops.{in_more}
 use Rattle.unmet_world.proofs.refutation.are_left.Goals as goal
 
 pub loop-i-init : goal.loop-i-init

@@ -1,9 +1,9 @@
 use Rattle.std.proofs.Common.{ℕ, List, true, subst}
-use Rattle.search_tables.specs.candidate_core.Candidates.{Candidate}
-use Rattle.search_tables.proofs.candidate_core.WantedVersions.{if_ok_map}
+use Rattle.search_needs.specs.candidate_core.Candidates.{Candidate}
+use Rattle.search_needs.proofs.candidate_core.WantedVersions.{if_ok_map}
 use Rattle.search_choices.specs.Choices.{choices_of, pool_of}
-use Rattle.search_tables.specs.Excluders.{IsNotExcludedAt}
-use Rattle.search_tables.proofs.Excluders.{match_none, no_excluder}
+use Rattle.search_needs.specs.search_tables.Excluders.{IsNotExcludedAt}
+use Rattle.search_needs.proofs.search_tables.Excluders.{match_none, no_excluder}
 use Rattle.search_choices.proofs.choices.Choices.excluder.Goals as goal
 
 pub returns-in-Some-clause-found : goal.returns-in-Some-clause-found

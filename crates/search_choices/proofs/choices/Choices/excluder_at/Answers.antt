@@ -1,12 +1,12 @@
 use Rattle.std.proofs.Common.{◌≡◌, ◌<◌, ◌∙◌, ℕ, List, length, sym, subst}
 use Rattle.std.specs.Prelude.{None, Option, Some, slice_get}
-use Rattle.search_tables.specs.candidate_core.Candidates.{Candidate}
-use Rattle.search_tables.specs.candidate_core.Packages.{candidates_of_packages}
-use Rattle.search_tables.proofs.candidate_core.NamedVersions.{matches_among, own_matches}
+use Rattle.search_needs.specs.candidate_core.Candidates.{Candidate}
+use Rattle.search_needs.specs.candidate_core.Packages.{candidates_of_packages}
+use Rattle.search_needs.proofs.candidate_core.NamedVersions.{matches_among, own_matches}
 use Rattle.search_choices.specs.Choices.{choices_of, pool_of}
-use Rattle.search_tables.specs.Conflicts.{AreConflictsOf}
-use Rattle.search_tables.proofs.Excluders.{found_against, found_occupant, match_both, none_against}
-use Rattle.search_tables.proofs.Places.{there_is}
+use Rattle.search_needs.specs.search_tables.Conflicts.{AreConflictsOf}
+use Rattle.search_needs.proofs.search_tables.Excluders.{found_against, found_occupant, match_both, none_against}
+use Rattle.search_needs.proofs.search_tables.Places.{there_is}
 use Rattle.search_choices.proofs.choices.Choices.excluder_at.Goals as goal
 
 pub choice_against-requires-clause-within : goal.choice_against-requires-clause-within

@@ -2,11 +2,11 @@ use Rattle.std.proofs.Common.{◌≡◌, ◌≤◌, List, false, length, sym, su
 use Rattle.std.specs.Prelude.{is_some}
 use Rattle.dep_core.specs.Dependency.{Dependency}
 use Rattle.dep_core.specs.Meets.{dependency}
-use Rattle.search_tables.specs.candidate_core.Options.{IsIn}
+use Rattle.search_needs.specs.candidate_core.Options.{IsIn}
 use Rattle.search_choices.specs.Choices.{choices_of, pool_of}
-use Rattle.search_tables.specs.Excluders.{IsNotExcludedAt}
-use Rattle.search_tables.proofs.Places.{there_is}
-use Rattle.search_tables.proofs.Offered.{each_all, each_on}
+use Rattle.search_needs.specs.search_tables.Excluders.{IsNotExcludedAt}
+use Rattle.search_needs.proofs.search_tables.Places.{there_is}
+use Rattle.search_needs.proofs.search_tables.ListLoops.{each_all, each_on}
 use Rattle.search_choices.proofs.choices.Choices.excluder_by_provides.Goals as goal
 
 pub loop-i-init : goal.loop-i-init

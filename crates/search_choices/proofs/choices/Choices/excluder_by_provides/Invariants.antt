@@ -2,10 +2,10 @@
 use Rattle.std.proofs.Common.{◌≡◌, false, take}
 use Rattle.std.specs.Prelude.{is_some}
 use Rattle.dep_core.specs.Dependency.{Dependency}
-use Rattle.search_tables.specs.candidate_core.Options.{IsIn}
-use Rattle.search_tables.specs.candidate_core.PackageMatches.{AreMatchesAmong}
+use Rattle.search_needs.specs.candidate_core.Options.{IsIn}
+use Rattle.search_needs.specs.candidate_core.PackageMatches.{AreMatchesAmong}
 use Rattle.search_choices.specs.Choices.{choices_of, pool_of}
-use Rattle.search_tables.specs.Excluders.{IsNotExcludedAt}
+use Rattle.search_needs.specs.search_tables.Excluders.{IsNotExcludedAt}
 use Rattle.search_choices.proofs.choices.Choices.excluder_by_provides.Given as goal
 
 abbrev pub invariant-loop-i : goal.invariant-loop-i

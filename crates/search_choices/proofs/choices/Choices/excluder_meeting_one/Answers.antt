@@ -2,11 +2,11 @@ use Rattle.std.proofs.Common.{◌≡◌, ◌∙◌, ℕ, sym, subst}
 use Rattle.std.specs.Prelude.{Some, slice_get}
 use Rattle.dep_core.specs.Dependency.{Dependency}
 use Rattle.dep_core.specs.Meets.{dependency}
-use Rattle.search_tables.specs.candidate_core.Candidates.{Candidate}
-use Rattle.search_tables.proofs.candidate_core.WantedVersions.{if_ok_map}
+use Rattle.search_needs.specs.candidate_core.Candidates.{Candidate}
+use Rattle.search_needs.proofs.candidate_core.WantedVersions.{if_ok_map}
 use Rattle.search_choices.specs.Choices.{choices_of, pool_of}
-use Rattle.search_tables.proofs.Excluders.{found_meeting, match_both}
-use Rattle.search_tables.proofs.Places.{there_is}
+use Rattle.search_needs.proofs.search_tables.Excluders.{found_meeting, match_both}
+use Rattle.search_needs.proofs.search_tables.Places.{there_is}
 use Rattle.search_choices.proofs.choices.Choices.excluder_meeting_one.Goals as goal
 
 pub choice_meeting_own-requires-clause-held : goal.choice_meeting_own-requires-clause-held

@@ -1,6 +1,6 @@
 use Rattle.std.proofs.Common.{◌∙◌, sym}
 use Rattle.dep_core.specs.Meets.{dependency}
-use Rattle.search_tables.proofs.Excluders.{occupied_by_entry}
+use Rattle.search_needs.proofs.search_tables.Excluders.{occupied_by_entry}
 use Rattle.search_choices.proofs.choices.Choices.excluder_of_entry.Goals as goal
 
 pub excluder_at-requires-clause-occupied : goal.excluder_at-requires-clause-occupied

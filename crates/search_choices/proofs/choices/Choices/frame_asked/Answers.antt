@@ -1,7 +1,7 @@
 use Rattle.std.proofs.Common.{ℕ, List, sym, subst}
-use Rattle.search_tables.specs.candidate_core.Rank.{SelectionProblem}
+use Rattle.search_needs.specs.candidate_core.Rank.{SelectionProblem}
 use Rattle.search_choices.specs.Choices.{choices_of, pool_of}
-use Rattle.search_tables.specs.Reasons.{IsFrameOf}
+use Rattle.search_needs.specs.search_tables.Reasons.{IsFrameOf}
 use Rattle.search_choices.proofs.Asking.{none_asked}
 use Rattle.search_choices.proofs.choices.Choices.frame_asked.Goals as goal
 

@@ -1,7 +1,7 @@
 use Rattle.std.proofs.Common.{◌≡◌, ◌∙◌, ℕ, List, [], true, sym, ap}
-use Rattle.search_tables.specs.candidate_core.Candidates.{named}
-use Rattle.search_tables.specs.candidate_core.Options.{options_for}
-use Rattle.search_tables.specs.InstallIf.{all_met}
+use Rattle.search_needs.specs.candidate_core.Candidates.{named}
+use Rattle.search_needs.specs.candidate_core.Options.{options_for}
+use Rattle.search_needs.specs.TriggeredInstallIf.{all_met}
 use Rattle.search_choices.specs.Choices.{choices_of, pool_of}
 use Rattle.search_choices.proofs.Asking.{asks_all, least_within, open_asked}
 use Rattle.search_choices.proofs.choices.Choices.frame_named.Goals as goal

@@ -1,10 +1,10 @@
 use Rattle.std.proofs.Common.{◌≡◌, ℕ, List, sym, subst}
 use Rattle.std.specs.Prelude.{Some, slice_get}
-use Rattle.search_tables.specs.candidate_core.Options.{IsIn}
-use Rattle.search_tables.proofs.candidate_core.WantedVersions.{if_ok_map}
+use Rattle.search_needs.specs.candidate_core.Options.{IsIn}
+use Rattle.search_needs.proofs.candidate_core.WantedVersions.{if_ok_map}
 use Rattle.search_choices.specs.Choices.{choices_of, pool_of}
-use Rattle.search_tables.specs.Queue.{RaisedDepValue}
-use Rattle.search_tables.proofs.Places.{there_is}
+use Rattle.search_needs.specs.search_tables.Queue.{RaisedDepValue}
+use Rattle.search_needs.proofs.search_tables.Places.{there_is}
 use Rattle.search_choices.proofs.Consistency.{met_by, past_by, raised_of_choice}
 use Rattle.search_choices.proofs.choices.Choices.is_front_met.Goals as goal
 

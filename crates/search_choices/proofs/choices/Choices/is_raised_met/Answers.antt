@@ -3,11 +3,11 @@ use Rattle.std.specs.Prelude.{Option, Some, slice_get}
 use Rattle.std.specs.Option.{option_map_or}
 use Rattle.dep_core.specs.Dependency.{Dependency}
 use Rattle.dep_core.specs.Meets.{dependency}
-use Rattle.search_tables.specs.candidate_core.Candidates.{Candidate, entry}
-use Rattle.search_tables.proofs.candidate_core.WantedVersions.{if_ok_map}
+use Rattle.search_needs.specs.candidate_core.Candidates.{Candidate, entry}
+use Rattle.search_needs.proofs.candidate_core.WantedVersions.{if_ok_map}
 use Rattle.search_choices.specs.Choices.{choices_of, pool_of}
-use Rattle.search_tables.specs.Queue.{RaisedDepValue}
-use Rattle.search_tables.specs.Selection.{depends_at, is_met}
+use Rattle.search_needs.specs.search_tables.Queue.{RaisedDepValue}
+use Rattle.search_needs.specs.search_tables.Selection.{depends_at, is_met}
 use Rattle.search_choices.proofs.choices.Choices.is_raised_met.Goals as goal
 
 pub returns-in-None-clause-met : goal.returns-in-None-clause-met

@@ -1,7 +1,7 @@
 use Rattle.std.proofs.Common.{◌≡◌, ◌∙◌, inl, inr, ℕ, List, sym, subst, arith}
 use Rattle.dep_core.specs.Dependency.{Dependency}
-use Rattle.search_tables.specs.candidate_core.Options.{IsIn}
-use Rattle.search_tables.specs.NameTable.{items_under_name}
+use Rattle.search_needs.specs.candidate_core.Options.{IsIn}
+use Rattle.search_needs.specs.search_tables.NameTable.{items_under_name}
 use Rattle.search_choices.proofs.Asking.{offered_names}
 use Rattle.search_choices.proofs.choices.Choices.least_rank_asking.Goals as goal
 

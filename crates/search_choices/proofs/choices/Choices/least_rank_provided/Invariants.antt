@@ -1,9 +1,9 @@
 use Rattle.std.proofs.Common.{◌≡◌, ◌≤◌, ◌<◌, ℕ, false, take}
 use Rattle.dep_core.specs.Dependency.{Dependency}
-use Rattle.search_tables.specs.candidate_core.Options.{IsIn}
+use Rattle.search_needs.specs.candidate_core.Options.{IsIn}
 use Rattle.search_choices.specs.Choices.{choices_of, install_ifs_of, pool_of}
-use Rattle.search_tables.specs.InstallIf.{is_install_if_triggered_at_rank}
-use Rattle.search_tables.specs.NameTable.{items_under_name}
+use Rattle.search_needs.specs.TriggeredInstallIf.{is_install_if_triggered_at_rank}
+use Rattle.search_needs.specs.search_tables.NameTable.{items_under_name}
 use Rattle.search_choices.proofs.choices.Choices.least_rank_provided.Given as goal
 
 abbrev pub invariant-loop-i : goal.invariant-loop-i

@@ -1,9 +1,9 @@
 use Rattle.std.proofs.Common.{◌≡◌, ◌≤◌, ◌<◌, ◌+◌, ◌∙◌, ◌++◌, ◌∷◌, [], ℕ, List, false, take, length, get_or, sym, subst, arith}
 use Rattle.std.proofs.lemmas.List.{take_more, take_all}
-use Rattle.search_tables.specs.candidate_core.Options.{IsIn}
+use Rattle.search_needs.specs.candidate_core.Options.{IsIn}
 use Rattle.search_choices.specs.Choices.{choices_of, install_ifs_of, pool_of}
-use Rattle.search_tables.specs.InstallIf.{is_install_if_triggered_at_rank}
-use Rattle.search_tables.proofs.Offered.{in_more}
+use Rattle.search_needs.specs.TriggeredInstallIf.{is_install_if_triggered_at_rank}
+use Rattle.search_needs.proofs.search_tables.ListLoops.{in_more}
 use Rattle.search_choices.proofs.choices.Choices.least_rank_waiting.Goals as goal
 
 pub loop-rank-preserved : goal.loop-rank-preserved

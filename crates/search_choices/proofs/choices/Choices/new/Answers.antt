@@ -1,7 +1,7 @@
 use Rattle.std.proofs.Common.{◌∙◌, ◌++◌, [], List, ap, refl}
 use Rattle.std.specs.Prelude.{None}
 use Rattle.dep_core.specs.Dependency.{Dependency}
-use Rattle.search_tables.specs.Queue.{RaisedDepValue, raised_deps}
+use Rattle.search_needs.specs.search_tables.Queue.{RaisedDepValue, raised_deps}
 use Rattle.search_choices.proofs.Consistency.{consistent_start}
 use Rattle.search_choices.proofs.choices.Choices.new.Goals as goal
 

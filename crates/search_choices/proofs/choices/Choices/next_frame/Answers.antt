@@ -1,10 +1,10 @@
 use Rattle.std.proofs.Common.{◌∙◌, [], sym, ap}
 use Rattle.std.specs.Prelude.{option_to_list}
-use Rattle.search_tables.specs.candidate_core.Candidates.{entry}
-use Rattle.search_tables.specs.candidate_core.Options.{options_for}
-use Rattle.search_tables.specs.candidate_core.Rank.{SelectionProblem}
+use Rattle.search_needs.specs.candidate_core.Candidates.{entry}
+use Rattle.search_needs.specs.candidate_core.Options.{options_for}
+use Rattle.search_needs.specs.candidate_core.Rank.{SelectionProblem}
 use Rattle.search_choices.specs.Choices.{choices_of, pool_of}
-use Rattle.search_tables.specs.Queue.{RaisedDepValue}
+use Rattle.search_needs.specs.search_tables.Queue.{RaisedDepValue}
 use Rattle.search_choices.proofs.Consistency.{open_raised}
 use Rattle.search_choices.proofs.NextFrames.{all_met, frame_as, no_value}
 use Rattle.search_choices.proofs.choices.Choices.next_frame.Goals as goal

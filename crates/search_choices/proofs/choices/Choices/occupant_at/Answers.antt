@@ -1,5 +1,5 @@
 use Rattle.std.proofs.Common.{◌≡◌, ◌∙◌, true, false, sym}
-use Rattle.search_tables.proofs.Excluders.{match_both}
+use Rattle.search_needs.proofs.search_tables.Excluders.{match_both}
 use Rattle.search_choices.proofs.choices.Choices.occupant_at.Goals as goal
 
 pub returns-then-is_occupied : goal.returns-then-is_occupied

@@ -1,11 +1,11 @@
 use Rattle.std.proofs.Common.{◌≡◌, false}
 use Rattle.std.specs.Prelude.{is_some}
 use Rattle.dep_core.specs.Dependency.{Dependency}
-use Rattle.search_tables.specs.candidate_core.Options.{IsIn}
-use Rattle.search_tables.proofs.candidate_core.WantedVersions.{if_ok_map}
+use Rattle.search_needs.specs.candidate_core.Options.{IsIn}
+use Rattle.search_needs.proofs.candidate_core.WantedVersions.{if_ok_map}
 use Rattle.search_choices.specs.Choices.{choices_of, pool_of}
-use Rattle.search_tables.specs.Excluders.{IsNotExcludedAt}
-use Rattle.search_tables.proofs.Excluders.{match_none}
+use Rattle.search_needs.specs.search_tables.Excluders.{IsNotExcludedAt}
+use Rattle.search_needs.proofs.search_tables.Excluders.{match_none}
 use Rattle.search_choices.proofs.choices.Choices.other_excluder.Goals as goal
 
 pub returns-in-Some : goal.returns-in-Some

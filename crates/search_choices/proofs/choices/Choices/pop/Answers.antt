@@ -1,13 +1,13 @@
 use Rattle.std.proofs.Common.{◌≡◌, ◌∙◌, ℕ, List, [], ◌∷◌, take, subst, sym, ap, arith}
-use Rattle.search_tables.specs.Queue.{queue_of, raised_deps_at}
+use Rattle.search_needs.specs.search_tables.Queue.{queue_of, raised_deps_at}
 use Rattle.search_choices.specs.Choices.{AreCheckpointsOfLaterChoices, choices_of, install_ifs_of, pool_of}
 use Rattle.search_choices.specs.declared.choices.Choices.{Choices}
-use Rattle.search_tables.specs.declared.queue.Checkpoint.{Checkpoint}
-use Rattle.search_tables.proofs.Theory.{in_left}
-use Rattle.search_tables.proofs.Places.{empty_list}
-use Rattle.search_tables.proofs.Queued.{queue_more, take_front}
+use Rattle.search_needs.specs.search_tables.declared.queue.Checkpoint.{Checkpoint}
+use Rattle.search_needs.proofs.search_tables.Theory.{in_left}
+use Rattle.search_needs.proofs.search_tables.Places.{empty_list}
+use Rattle.search_needs.proofs.search_tables.Queued.{queue_more, take_front}
 use Rattle.search_choices.proofs.Consistency.{never_empty, checkpoints_less, checkpoints_none, consistent_by}
-use Rattle.search_tables.specs.candidate_core.Options.{IsIn}
+use Rattle.search_needs.specs.candidate_core.Options.{IsIn}
 use Rattle.search_choices.proofs.choices.Choices.pop.Goals as goal
 
 pub returns-in-Some-clause-consistent : goal.returns-in-Some-clause-consistent

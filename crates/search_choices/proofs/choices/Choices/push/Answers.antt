@@ -2,9 +2,9 @@ use Rattle.std.proofs.Common.{◌≡◌, ◌∙◌, List, ℕ, [], false, sym, s
 use Rattle.std.specs.Prelude.{Option}
 use Rattle.std.specs.Option.{option_map_or}
 use Rattle.dep_core.specs.Dependency.{Dependency}
-use Rattle.search_tables.specs.candidate_core.Candidates.{Candidate}
-use Rattle.search_tables.specs.InstallIf.{is_install_if_triggered_at_rank}
-use Rattle.search_tables.specs.Selection.{depends_at}
+use Rattle.search_needs.specs.candidate_core.Candidates.{Candidate}
+use Rattle.search_needs.specs.TriggeredInstallIf.{is_install_if_triggered_at_rank}
+use Rattle.search_needs.specs.search_tables.Selection.{depends_at}
 use Rattle.search_choices.specs.Choices.{choices_of, install_ifs_of, pool_of}
 use Rattle.search_choices.proofs.Asking.{unasked_more}
 use Rattle.search_choices.proofs.Consistency.{consistent_more}

@@ -1,10 +1,10 @@
 use Rattle.std.proofs.Common.{◌≡◌, ℕ, List, length, refl, sym, subst, ap, arith}
 use Rattle.std.specs.Prelude.{slice_get}
 use Rattle.std.specs.List.{find}
-use Rattle.search_tables.specs.candidate_core.PackageMatches.{AreMatchesAmong}
-use Rattle.search_tables.specs.candidate_core.Rank.{SelectionProblem}
+use Rattle.search_needs.specs.candidate_core.PackageMatches.{AreMatchesAmong}
+use Rattle.search_needs.specs.candidate_core.Rank.{SelectionProblem}
 use Rattle.search_choices.specs.Choices.{choices_of, pool_of}
-use Rattle.search_tables.specs.Queue.{is_unmet_dep, queue_of}
+use Rattle.search_needs.specs.search_tables.Queue.{is_unmet_dep, queue_of}
 use Rattle.search_choices.proofs.Consistency.{consistent_on}
 use Rattle.search_choices.proofs.choices.Choices.skip_met.Goals as goal
 

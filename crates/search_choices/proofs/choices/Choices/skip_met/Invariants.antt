@@ -1,5 +1,5 @@
 use Rattle.std.proofs.Common.{◌≡◌, ◌-◌, vec_len}
-use Rattle.search_tables.specs.candidate_core.PackageMatches.{AreMatchesAmong}
+use Rattle.search_needs.specs.candidate_core.PackageMatches.{AreMatchesAmong}
 use Rattle.search_choices.specs.Choices.{IsConsistent, choices_of, pool_of}
 use Rattle.search_choices.proofs.choices.Choices.skip_met.Given as goal
 

@@ -2,12 +2,12 @@ use Rattle.std.proofs.Common.{◌≡◌, ◌∙◌, ◌++◌, [], ℕ, List, sym
 use Rattle.std.specs.Prelude.{Option, Some}
 use Rattle.std.specs.Option.{option_map_or}
 use Rattle.dep_core.specs.Dependency.{Dependency}
-use Rattle.search_tables.specs.candidate_core.Candidates.{Candidate}
-use Rattle.search_tables.specs.candidate_core.Rank.{candidate_at}
+use Rattle.search_needs.specs.candidate_core.Candidates.{Candidate}
+use Rattle.search_needs.specs.candidate_core.Rank.{candidate_at}
 use Rattle.search_choices.specs.Choices.{pool_of}
-use Rattle.search_tables.specs.Conflicts.{conflicts_among, conflicts_of_name_in}
-use Rattle.search_tables.specs.Selection.{depends_at}
-use Rattle.search_tables.proofs.ConflictTables.{among_more}
+use Rattle.search_needs.specs.search_tables.Conflicts.{conflicts_among, conflicts_of_name_in}
+use Rattle.search_needs.specs.search_tables.Selection.{depends_at}
+use Rattle.search_needs.proofs.search_tables.ConflictTables.{among_more}
 use Rattle.search_choices.proofs.choices.Choices.take_conflicts_away.Goals as goal
 
 pub returns-in-Some-at-clause-listed : goal.returns-in-Some-at-clause-listed

@@ -1,6 +1,0 @@
-use Rattle.std.proofs.Common.{◌≡◌, true, take}
-use Rattle.search_tables.specs.InstallIf.{all_met}
-use Rattle.search_tables.proofs.needs.all_met.Given as goal
-
-abbrev pub invariant-loop-i : goal.invariant-loop-i
-invariant-loop-i l = all_met l.pool l.choices (take l.i l.deps) ≡ true

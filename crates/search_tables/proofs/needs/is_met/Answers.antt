@@ -1,7 +1,0 @@
-use Rattle.std.proofs.Common.{◌∙◌}
-use Rattle.pool_core.specs.candidate_core.Values.{need_of_ref}
-use Rattle.search_tables.proofs.RaiserLists.{is_met_by}
-use Rattle.search_tables.proofs.needs.is_met.Goals as goal
-
-pub returns : goal.returns
-returns c = c.is_some.ensures ∙ is_met_by c.args.pool.now c.args.choices.now (need_of_ref c.args.need.now) c.choice_meeting.result c.choice_meeting.ensures
