@@ -9,11 +9,13 @@
 mod process;
 
 use apk_front::{Answer, Refusal, RootAccess, access_for, status};
+use base_core::{Sink, Tree, Words};
 use headline::apk_as_promised;
 use hint_core::{explain, explain_contents, explain_package, warn};
 use host_files::{Lock, write_path};
 use host_tree::HostTree;
 use process::{ArgumentsFault, HostSink, take_stack, words_of};
+use std::alloc::Global;
 use std::io;
 use std::io::Write;
 use std::process::ExitCode;
@@ -58,43 +60,57 @@ fn main(rt: HostRuntime) -> ExitCode {
     let mut out = HostSink::new(rt.stdout());
     let mut err = HostSink::new(rt.stderr());
     let answer = apk_as_promised(rt.alloc(), &words, &mut tree, &mut out, &mut err);
-    match &answer {
+    if let Answer::TreeFault = answer {
         // An I/O error of the tree: which call failed, and why.
-        Answer::TreeFault => {
-            let _ = tell_why(&rt, &tree);
-        }
-        // A command line that is not valid: what is wrong with the word at this place.
-        Answer::Refused(Refusal::Usage { place }) => {
-            let _ = explain_usage(&words, *place, &mut err);
-        }
-        // No selection of packages satisfies world: why not.
-        Answer::Refused(Refusal::Unsatisfied) => {
-            let _ = explain_selection(rt.alloc(), &words, &mut tree, &mut err);
-        }
-        // Any other refusal: what is wrong with which package, file or name.
-        Answer::Refused(refusal) => {
-            // The path at which the file of a refused package is looked for.
-            let _ = explain_package(rt.alloc(), &words, refusal, &mut tree, &mut err);
-            // The hints that belong to this kind of refusal.
-            let _ = explain(rt.alloc(), &words, refusal, &mut tree, &mut err);
-            // The files of a package whose positions the refusal names.
-            let _ = explain_contents(rt.alloc(), &words, refusal, &mut tree, &mut err);
-        }
-        Answer::Ok => {
-            // Forget what lists of the run omitted. Then `warn` lists only the folder of `mkpkg
-            // -F`, so that the next call tells what this list omitted.
-            tree.take_omitted();
-            let _ = warn(rt.alloc(), &words, &mut tree, &mut err);
-            if tree.take_omitted() {
-                let _ = rt.stderr().write_all(OMITTED);
-            }
-        }
-        // A failed output stream, or out of memory: nothing more is printed.
-        _ => {}
+        let _ = tell_why(&rt, &tree);
+    }
+    // Forget what lists of the run omitted. After an answer `Ok`, only the folder of `mkpkg -F` is
+    // listed for the hints, so that the next call tells what this list omitted.
+    tree.take_omitted();
+    print_hints(rt.alloc(), &words, &answer, &mut tree, &mut err);
+    if tree.take_omitted()
+        && let Answer::Ok = answer
+    {
+        let _ = rt.stderr().write_all(OMITTED);
     }
     // Release the lock on the folder.
     tree.leave();
     ExitCode::from(status(&answer))
+}
+
+/// Prints hints for the user, if the answer has any. If the output fails, or memory runs out, the
+/// rest of the hints is left out.
+fn print_hints<T: Tree, E: Sink>(
+    alloc: Global,
+    words: &Words,
+    answer: &Answer,
+    tree: &mut T,
+    err: &mut E,
+) {
+    match answer {
+        // A command line that is not valid: what is wrong with the word at this place.
+        Answer::Refused(Refusal::Usage { place }) => {
+            let _ = explain_usage(words, *place, err);
+        }
+        // No selection of packages satisfies world: why not.
+        Answer::Refused(Refusal::Unsatisfied) => {
+            let _ = explain_selection(alloc, words, tree, err);
+        }
+        // Any other refusal: what is wrong with which package, file or name.
+        Answer::Refused(refusal) => {
+            // The path at which the file of a refused package is looked for.
+            let _ = explain_package(alloc, words, refusal, tree, err);
+            // The hints that belong to this kind of refusal.
+            let _ = explain(alloc, words, refusal, tree, err);
+            // The files of a package whose positions the refusal names.
+            let _ = explain_contents(alloc, words, refusal, tree, err);
+        }
+        Answer::Ok => {
+            let _ = warn(alloc, words, tree, err);
+        }
+        // A failed tree or output stream, or out of memory: there are no hints.
+        _ => {}
+    }
 }
 
 /// Prints that the program is out of memory, and returns the exit status for this: there is no
